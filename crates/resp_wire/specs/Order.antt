@@ -1,0 +1,9 @@
+-- The order of byte strings.
+use Rattle.std.specs.Cmp.Lexicographic.{slice_cmp}
+use Rattle.std.specs.Ordering.{nat_cmp}
+use Rattle.std.specs.Prelude.{List, ℕ}
+use Rattle.std.specs.declared.cmp.Ordering.{Ordering}
+
+-- byte by byte, a front before what goes on from it
+abbrev pub bytes_cmp : List ℕ → List ℕ → Ordering
+bytes_cmp = slice_cmp nat_cmp
