@@ -1,0 +1,139 @@
+//! Writing all of some bytes, and reading to the end.
+ghost use Rattle.std.specs.Io.KnownBytes.{Appends};
+ghost use Rattle.std.specs.Prelude.{◌<◌, ◌≡◌, ◌^◌, ◌≤◌, IfErr, IfOk, OnErr, OnOk, length, vec_len};
+ghost use Rattle.links.specs.Causes.{AppendsFront, HasCause};
+ghost use Rattle.links.specs.Ends.{HasReadEnd, IsWhole};
+
+use crate::{Failed, Sink, Source};
+use resp_wire::Bytes;
+use std::alloc::{AllocError, Global};
+
+/// How many bytes one read asks for at most.
+const PIECE: usize = 65_536;
+
+/// Writes all of some bytes, and takes no memory. `Failed` comes where the sink failed; a front was taken then.
+pub fn write_all<K: Sink>(out: &mut K, bytes: &[u8]) -> Result<(), Failed>
+    ensures ok { OnOk result (Appends (K.taken out.old) (K.taken out.new) bytes.now) }
+    ensures err { OnErr result (AppendsFront (K.taken out.old) (K.taken out.new) bytes.now) }
+    ensures cause { HasCause (K.write_faults out.old) (K.write_faults out.new) result }
+{
+    let mut rest = bytes;
+    while !rest.is_empty() {
+        let count = out.write(rest)?;
+        rest = &rest[count..];
+    }
+    Ok(())
+}
+
+/// Why a reading to the end gave no bytes.
+#[derive(Debug, Drop)]
+pub enum ReadEnd {
+    /// The source failed.
+    Fault,
+    /// There is more than the limit; these are the first bytes, one more than the limit.
+    Long(Bytes),
+    /// There was no memory.
+    Memory,
+}
+
+impl From<AllocError> for ReadEnd {
+    ghost use Rattle.std.specs.Prelude.{◌≡◌};
+    ghost use Rattle.links.specs.declared.whole.ReadEnd.TheVariants.{Memory};
+
+    ghost from_gives = { λ _ e. e ≡ Memory };
+
+    fn from(_: AllocError) -> Self {
+        ReadEnd::Memory
+    }
+}
+
+/// Reads all bytes up to the end, at most `limit` of them. It takes at most one byte past the limit.
+pub fn read_to_end<S: Source>(alloc: Global, src: &mut S, limit: u64) -> Result<Bytes, ReadEnd>
+    requires { limit < 2 ^ 63 }
+    ensures all { IfOk result (IsWhole limit
+        (record { left = S.left src.old; faults = S.read_faults src.old; ends = S.ends src.old })
+        (record { left = S.left src.new; faults = S.read_faults src.new; ends = S.ends src.new })) }
+    ensures end { IfErr result (HasReadEnd limit
+        (record { left = S.left src.old; faults = S.read_faults src.old; ends = S.ends src.old })
+        (record { left = S.left src.new; faults = S.read_faults src.new; ends = S.ends src.new })) }
+{
+    let mut buffer = buffer(alloc)?;
+    read_pieces(alloc, src, limit, buffer.as_mut_slice())
+}
+
+/// Room for one piece, on the heap.
+fn buffer(alloc: Global) -> Result<Vec<u8>, AllocError>
+    ensures { IfOk result (λ room. 1 ≤ vec_len room) }
+{
+    vec![in alloc; 0; PIECE]
+}
+
+/// Reads to the end by pieces of at most this buffer.
+fn read_pieces<S: Source>(
+    alloc: Global,
+    src: &mut S,
+    limit: u64,
+    buffer: &mut [u8],
+) -> Result<Bytes, ReadEnd>
+    requires limit { limit < 2 ^ 63 }
+    requires room { 1 ≤ length buffer.old }
+    ensures all { IfOk result (IsWhole limit
+        (record { left = S.left src.old; faults = S.read_faults src.old; ends = S.ends src.old })
+        (record { left = S.left src.new; faults = S.read_faults src.new; ends = S.ends src.new })) }
+    ensures end { IfErr result (HasReadEnd limit
+        (record { left = S.left src.old; faults = S.read_faults src.old; ends = S.ends src.old })
+        (record { left = S.left src.new; faults = S.read_faults src.new; ends = S.ends src.new })) }
+{
+    let mut all = Bytes::new();
+    'more: while all.len() as u64 <= limit {
+        let want = (limit as usize + 1 - all.len()).min(buffer.len());
+        let Ok(count) = src.read(&mut buffer[..want]) else {
+            return Err(ReadEnd::Fault);
+        };
+        if count == 0 {
+            return Ok(all);
+        }
+        all.extend(alloc, &buffer[..count])?;
+    }
+    Err(ReadEnd::Long(all))
+}
+
+#[cfg(test)]
+mod tests {
+    use super::*;
+    use crate::{MemorySink, MemorySource};
+    use std::test::Fail;
+
+    #[test]
+    fn reads_in_pieces_up_to_the_limit(rt: HostRuntime) -> Result<(), Fail> {
+        let alloc = rt.alloc();
+        for (limit, fails, want) in [(5, 9, "Ok"), (4, 9, "Long"), (5, 0, "Fault")] {
+            let bytes = Bytes::from_slice(alloc, b"a\nb\nc")?;
+            let mut src = MemorySource::new(bytes, 2, vec![in alloc; fails]?);
+            let found = match read_to_end(alloc, &mut src, limit) {
+                Ok(bytes) if bytes.as_slice() == b"a\nb\nc".as_slice() => "Ok",
+                Err(ReadEnd::Long(bytes)) if bytes.len() == 5 => "Long",
+                Err(ReadEnd::Fault) => "Fault",
+                _ => "another end",
+            };
+            assert_eq!(rt; found, want, "limit {limit}, failing call {fails}");
+        }
+        Ok(())
+    }
+
+    #[test]
+    fn writes_until_a_write_fails(rt: HostRuntime) -> Result<(), Fail> {
+        let alloc = rt.alloc();
+        for (room, fails, want) in [
+            (9, 9, b"abcde".as_slice()),
+            (9, 1, b"ab".as_slice()),
+            (3, 9, b"abc".as_slice()),
+        ] {
+            let mut out = MemorySink::new(alloc, room, 2, vec![in alloc; fails]?)?;
+            let whole = write_all(&mut out, b"abcde").is_ok();
+            assert_eq!(rt; whole, want.len() == 5, "room {room}, failing call {fails}");
+            assert_eq!(rt; out.taken(), want, "room {room}, failing call {fails}");
+        }
+        Ok(())
+    }
+}
