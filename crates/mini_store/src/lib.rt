@@ -7,9 +7,11 @@
 mod command;
 mod connection;
 mod held;
+mod laws;
 mod reply;
 
 pub use command::{Command, Fault};
 pub use connection::{Conn, Queue};
 pub use held::{Held, Stored};
+pub use laws::unaltered_keys;
 pub use reply::Reply;

@@ -1,0 +1,232 @@
+-- A command tells of each key that it alters, and alters only keys that it names.
+use Rattle.std.proofs.Common.{◌≡◌, ◌≢◌, ◌⊎◌, inl, inr, ℕ, zero, suc, List, [], ◌∷◌, Bool, true, false, cond, refl, sym, ap, subst, ◌∙◌, None, Some, Option, ℤ}
+use Rattle.std.specs.Prelude.{◌||◌, ◌&&◌, is_some, bytes_eq, int_le}
+use Rattle.std.specs.Cmp.Lexicographic.{texts_ties}
+use Rattle.std.specs.FinMap.{FinMap, get, insert, remove, empty}
+use Rattle.resp_wire.specs.Order.{bytes_cmp}
+use Rattle.resp_wire.specs.declared.value.Value.{Value}
+use Rattle.store_tables.proofs.Lookups.{tied_itself, decided, get-insert_other, get-remove_other, get-remove_same}
+use Rattle.store_tables.proofs.Maps.{bytes_total, bytes_anti}
+use Rattle.mini_store.specs.Words.{Bytes, front}
+use Rattle.mini_store.specs.Replies.{number, full}
+use Rattle.mini_store.specs.Keys.{Keys, value_at, Outcome, out, after_taking, dropped, expire, is_long}
+use Rattle.mini_store.specs.Texts.{set_text, until}
+use Rattle.mini_store.specs.Lists.{lpush, rpush, rpop, shortened, brpop, brpop_at}
+use Rattle.mini_store.specs.Sets.{sadd, srem, after_adding}
+use Rattle.mini_store.specs.Hashes.{hset, hset_to, hdel}
+use Rattle.mini_store.specs.SortedSets.{zadd, zadd_to, zadd_over, zrem}
+use Rattle.mini_store.specs.Commands.{Around, run, both}
+use Rattle.mini_store.specs.Connections.{watches}
+use Rattle.mini_store.specs.declared.command.Command.{Command}
+use Rattle.mini_store.specs.declared.command.Command.TheVariants.{Set, Del, Expire, Lpush, Rpush, Rpop, Brpop, Sadd, Srem, Hset, Hdel, Zadd, Zrem}
+use Rattle.mini_store.specs.declared.held.Stored.{Stored}
+use Rattle.mini_store.specs.declared.held.Stored.TheVariants.{Items, Members, Hash, Scores}
+use Rattle.mini_store.specs.declared.held.Held.{Held}
+
+or_true : (a b : Bool) → b ≡ true → (a || b) ≡ true
+or_true true b e = refl
+or_true false b e = e
+
+or_left : (a b : Bool) → a ≡ true → (a || b) ≡ true
+or_left true b e = refl
+or_left false b e = cc
+
+same_itself : (k : Bytes) → bytes_eq k k ≡ true
+same_itself k = texts_ties k k ∙ tied_itself bytes_total bytes_anti k
+
+same_or : (a b : Bytes) → (a ≡ b) ⊎ (a ≢ b)
+same_or a b = decided bytes_total bytes_anti a b
+
+-- the key is told of, or it holds what it held
+abbrev pub ToldBy : Keys → Bytes → List Bytes → Keys → Type 0
+ToldBy m k ks m' = (watches k ks ≡ true) ⊎ (get m' k ≡ get m k)
+
+-- the key differs from each of these
+abbrev pub Away : Bytes → List Bytes → Type 0
+Away k [] = Unit {0}
+Away k (x ∷ xs) = (k ≢ x) × Away k xs
+
+-- what a command that names these keys leaves
+pub record Frame (m : Keys) (ks : List Bytes) (r : Outcome) : Type 0 where
+  pub told : (k : Bytes) → ToldBy m k r.altered r.keys
+  pub away : (k : Bytes) → Away k ks → get r.keys k ≡ get m k
+
+told_here : (k a : Bytes) (ks : List Bytes) → k ≡ a → watches k (a ∷ ks) ≡ true
+told_here k a ks e = subst (λ x. watches k (x ∷ ks) ≡ true) e (or_left (bytes_eq k k) (watches k ks) (same_itself k))
+
+still : (m : Keys) (ks : List Bytes) (x : Value) → Frame m ks (out m [] x)
+still m ks x = record { told = λ k. inr refl; away = λ k n. refl }
+
+inserted : (m : Keys) (a : Bytes) (v : Held) (x : Value) → Frame m (a ∷ []) (out (insert m a v) (a ∷ []) x)
+inserted m a v x = record { told = λ k. go k (same_or k a); away = λ k n. get-insert_other bytes_total bytes_anti m a v k n.0 }
+  where
+    go : (k : Bytes) → (k ≡ a) ⊎ (k ≢ a) → ToldBy m k (a ∷ []) (insert m a v)
+    go k (inl e) = inl (told_here k a [] e)
+    go k (inr n) = inr (get-insert_other bytes_total bytes_anti m a v k n)
+
+removed : (m : Keys) (a : Bytes) (x : Value) → Frame m (a ∷ []) (out (remove m a) (a ∷ []) x)
+removed m a x = record { told = λ k. go k (same_or k a); away = λ k n. get-remove_other bytes_total bytes_anti m a k n.0 }
+  where
+    go : (k : Bytes) → (k ≡ a) ⊎ (k ≢ a) → ToldBy m k (a ∷ []) (remove m a)
+    go k (inl e) = inl (told_here k a [] e)
+    go k (inr n) = inr (get-remove_other bytes_total bytes_anti m a k n)
+
+frame-shortened : (m : Keys) (a : Bytes) (xs : List Bytes) (x : Value) → Frame m (a ∷ []) (out (shortened m a xs) (a ∷ []) x)
+frame-shortened m a [] x = removed m a x
+frame-shortened m a (y ∷ ys) x = inserted m a _ x
+
+frame-taking : (m : Keys) (a : Bytes) (v : Stored) (n p : ℕ) → Frame m (a ∷ []) (after_taking m a v n p)
+frame-taking m a v n zero = still m _ _
+frame-taking m a v zero (suc p) = removed m a _
+frame-taking m a v (suc n) (suc p) = inserted m a _ _
+
+frame-adding : (m : Keys) (a : Bytes) (h : FinMap bytes_cmp (Unit {0})) (n : ℕ) (b : Bool) → Frame m (a ∷ []) (after_adding m a h n b)
+frame-adding m a h n false = still m _ _
+frame-adding m a h zero true = still m _ _
+frame-adding m a h (suc n) true = inserted m a _ _
+
+more : (m : Keys) (a : Bytes) (ks : List Bytes) (r : Outcome) → Frame m ks r → Frame m (a ∷ ks) r
+more m a ks r f = record { told = f.told; away = λ k n. f.away k n.1 }
+
+first : (m : Keys) (a : Bytes) (ks : List Bytes) (r : Outcome) → Frame m (a ∷ []) r → Frame m (a ∷ ks) r
+first m a ks r f = record { told = f.told; away = λ k n. f.away k (n.0, tt) }
+
+frame-brpop : (m : Keys) (ks : List Bytes) → Frame m ks (brpop m ks)
+frame-brpop m [] = still m _ _
+frame-brpop m (a ∷ ks) = go (value_at m a) (frame-brpop m ks)
+  where
+    go : (o : Option Stored) → Frame m ks (brpop m ks) → Frame m (a ∷ ks) (brpop_at m a o (brpop m ks))
+    go None later = more m a ks _ later
+    go (Some (Items [])) later = more m a ks _ later
+    go (Some (Items (x ∷ xs))) later = first m a ks _ (frame-shortened m a (front x xs) _)
+    go (Some other) later = still m _ _
+
+frame-rpop : (m : Keys) (a : Bytes) (o : Option Stored) → Frame m (a ∷ []) (rpop m a o)
+frame-rpop m a None = still m _ _
+frame-rpop m a (Some (Items [])) = still m _ _
+frame-rpop m a (Some (Items (x ∷ xs))) = frame-shortened m a (front x xs) _
+frame-rpop m a (Some other) = still m _ _
+
+frame-lpush : (m : Keys) (a : Bytes) (vs : List Bytes) (o : Option Stored) → Frame m (a ∷ []) (lpush m a vs o)
+frame-lpush m a vs None = inserted m a _ _
+frame-lpush m a vs (Some (Items xs)) = inserted m a _ _
+frame-lpush m a vs (Some other) = still m _ _
+
+frame-rpush : (m : Keys) (a : Bytes) (vs : List Bytes) (o : Option Stored) → Frame m (a ∷ []) (rpush m a vs o)
+frame-rpush m a vs None = inserted m a _ _
+frame-rpush m a vs (Some (Items xs)) = inserted m a _ _
+frame-rpush m a vs (Some other) = still m _ _
+
+frame-score : (m : Keys) (a : Bytes) (b : Bool) (v : Held) → Frame m (a ∷ []) (cond b (out m [] (number 0)) (out (insert m a v) (a ∷ []) (number 0)))
+frame-score m a true v = still m _ _
+frame-score m a false v = inserted m a _ _
+
+frame-zadd_over : (m : Keys) (a : Bytes) (s : ℤ) (x : Bytes) (h : FinMap bytes_cmp ℤ) (o : Option ℤ) → Frame m (a ∷ []) (zadd_over m a s x h o)
+frame-zadd_over m a s x h None = inserted m a _ _
+frame-zadd_over m a s x h (Some t) = frame-score m a (int_le s t && int_le t s) _
+
+frame-limit : (m : Keys) (a : Bytes) (b : Bool) (r : Outcome) → Frame m (a ∷ []) r → Frame m (a ∷ []) (cond b (out m [] full) r)
+frame-limit m a true r f = still m _ _
+frame-limit m a false r f = f
+
+frame-zadd_to : (m : Keys) (a : Bytes) (s : ℤ) (x : Bytes) (h : FinMap bytes_cmp ℤ) → Frame m (a ∷ []) (zadd_to m a s x h)
+frame-zadd_to m a s x h = frame-limit m a (is_long x) _ (frame-zadd_over m a s x h (get h x))
+
+frame-zadd : (m : Keys) (a : Bytes) (s : ℤ) (x : Bytes) (o : Option Stored) → Frame m (a ∷ []) (zadd m a s x o)
+frame-zadd m a s x None = frame-zadd_to m a s x empty
+frame-zadd m a s x (Some (Scores h)) = frame-zadd_to m a s x h
+frame-zadd m a s x (Some other) = still m _ _
+
+frame-hset_to : (m : Keys) (a f v : Bytes) (h : FinMap bytes_cmp Bytes) → Frame m (a ∷ []) (hset_to m a f v h)
+frame-hset_to m a f v h = frame-limit m a (is_long f) _ (inserted m a _ _)
+
+frame-hset : (m : Keys) (a f v : Bytes) (o : Option Stored) → Frame m (a ∷ []) (hset m a f v o)
+frame-hset m a f v None = frame-hset_to m a f v empty
+frame-hset m a f v (Some (Hash h)) = frame-hset_to m a f v h
+frame-hset m a f v (Some other) = still m _ _
+
+frame-zrem : (m : Keys) (a : Bytes) (xs : List Bytes) (o : Option Stored) → Frame m (a ∷ []) (zrem m a xs o)
+frame-zrem m a xs None = still m _ _
+frame-zrem m a xs (Some (Scores h)) = frame-taking m a _ _ _
+frame-zrem m a xs (Some other) = still m _ _
+
+frame-hdel : (m : Keys) (a : Bytes) (xs : List Bytes) (o : Option Stored) → Frame m (a ∷ []) (hdel m a xs o)
+frame-hdel m a xs None = still m _ _
+frame-hdel m a xs (Some (Hash h)) = frame-taking m a _ _ _
+frame-hdel m a xs (Some other) = still m _ _
+
+frame-srem : (m : Keys) (a : Bytes) (xs : List Bytes) (o : Option Stored) → Frame m (a ∷ []) (srem m a xs o)
+frame-srem m a xs None = still m _ _
+frame-srem m a xs (Some (Members h)) = frame-taking m a _ _ _
+frame-srem m a xs (Some other) = still m _ _
+
+frame-sadd : (m : Keys) (a : Bytes) (xs : List Bytes) (o : Option Stored) → Frame m (a ∷ []) (sadd m a xs o)
+frame-sadd m a xs None = frame-adding m a _ _ _
+frame-sadd m a xs (Some (Members h)) = frame-adding m a _ _ _
+frame-sadd m a xs (Some other) = still m _ _
+
+frame-set : (m : Keys) (a v : Bytes) (e : Option ℕ) (b : Bool) → Frame m (a ∷ []) (set_text m a v e b)
+frame-set m a v e true = still m _ _
+frame-set m a v e false = inserted m a _ _
+
+frame-expire : (m : Keys) (a : Bytes) (e : ℕ) (o : Option Held) → Frame m (a ∷ []) (expire m a e o)
+frame-expire m a e None = still m _ _
+frame-expire m a e (Some h) = inserted m a _ _
+
+told-dropped : (m : Keys) (k : Bytes) (ks : List Bytes) → ToldBy m k (dropped m ks).1 (dropped m ks).0
+told-dropped m k [] = inr refl
+told-dropped m k (a ∷ ks) = go (get m a) refl (same_or k a) (told-dropped (remove m a) k ks)
+  where
+    go : (o : Option Held) → get m a ≡ o → (k ≡ a) ⊎ (k ≢ a) → ToldBy (remove m a) k (dropped (remove m a) ks).1 (dropped (remove m a) ks).0
+        → ToldBy m k (cond (is_some o) (a ∷ (dropped (remove m a) ks).1) (dropped (remove m a) ks).1) (dropped (remove m a) ks).0
+    go (Some h) was (inl e) later = inl (told_here k a _ e)
+    go (Some h) was (inr n) (inl t) = inl (or_true (bytes_eq k a) _ t)
+    go (Some h) was (inr n) (inr t) = inr (t ∙ get-remove_other bytes_total bytes_anti m a k n)
+    go None was e (inl t) = inl t
+    go None was (inl e) (inr t) = inr (t ∙ ap (get (remove m a)) e ∙ get-remove_same bytes_total bytes_anti m a ∙ sym (ap (get m) e ∙ was))
+    go None was (inr n) (inr t) = inr (t ∙ get-remove_other bytes_total bytes_anti m a k n)
+
+away-dropped : (m : Keys) (k : Bytes) (ks : List Bytes) → Away k ks → get (dropped m ks).0 k ≡ get m k
+away-dropped m k [] n = refl
+away-dropped m k (a ∷ ks) n = away-dropped (remove m a) k ks n.1 ∙ get-remove_other bytes_total bytes_anti m a k n.0
+
+-- the keys that a command may alter
+abbrev pub altering : Command → List Bytes
+altering (Set k v absent life) = k ∷ []
+altering (Del ks) = ks
+altering (Expire k s) = k ∷ []
+altering (Lpush k vs) = k ∷ []
+altering (Rpush k vs) = k ∷ []
+altering (Rpop k) = k ∷ []
+altering (Brpop ks) = ks
+altering (Sadd k xs) = k ∷ []
+altering (Srem k xs) = k ∷ []
+altering (Hset k f v) = k ∷ []
+altering (Hdel k fs) = k ∷ []
+altering (Zadd k s x) = k ∷ []
+altering (Zrem k xs) = k ∷ []
+altering other = []
+
+pub framed : (e : Around) (m : Keys) (c : Command) → Frame m (altering c) (run e m c)
+framed e m (Set a v absent life) = frame-set m a v (until e.moment life) (both absent (is_some (get m a)))
+framed e m (Del ks) = record { told = λ k. told-dropped m k ks; away = λ k n. away-dropped m k ks n }
+framed e m (Expire a s) = frame-expire m a _ (get m a)
+framed e m (Lpush a vs) = frame-lpush m a vs (value_at m a)
+framed e m (Rpush a vs) = frame-rpush m a vs (value_at m a)
+framed e m (Rpop a) = frame-rpop m a (value_at m a)
+framed e m (Brpop ks) = frame-brpop m ks
+framed e m (Sadd a xs) = frame-sadd m a xs (value_at m a)
+framed e m (Srem a xs) = frame-srem m a xs (value_at m a)
+framed e m (Hset a f v) = frame-hset m a f v (value_at m a)
+framed e m (Hdel a xs) = frame-hdel m a xs (value_at m a)
+framed e m (Zadd a s x) = frame-zadd m a s x (value_at m a)
+framed e m (Zrem a xs) = frame-zrem m a xs (value_at m a)
+framed e m other = still m [] _
+
+-- a key that isn't told of holds what it held
+pub unaltered : (e : Around) (m : Keys) (c : Command) (k : Bytes) → watches k (run e m c).altered ≡ false → get (run e m c).keys k ≡ get m k
+unaltered e m c k n = go ((framed e m c).told k)
+  where
+    go : ToldBy m k (run e m c).altered (run e m c).keys → get (run e m c).keys k ≡ get m k
+    go (inl t) = cc (t, n)
+    go (inr same) = same
