@@ -1,0 +1,17 @@
+//! Celery's envelopes: a message as a JSON text, with its delivery tag, and entries of the unacked table.
+#![tactic(auto)]
+
+mod envelope;
+mod fault;
+mod find;
+mod marks;
+mod reading;
+mod seed;
+mod tag;
+mod walk;
+
+pub use envelope::{Envelope, Tree, write};
+pub use fault::{EnvelopeFault, Field};
+pub use reading::read;
+pub use seed::Seed;
+pub use tag::Tag;
