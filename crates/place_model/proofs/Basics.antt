@@ -7,6 +7,7 @@ use Rattle.std.specs.Cmp.Lexicographic.{slice_cmp}
 use Rattle.std.specs.Cmp.{IsTotalOrder}
 use Rattle.std.proofs.lemmas.Cmp.{nat_list_cmp_total, tied_itself}
 use Rattle.std.proofs.lemmas.Bool.Decides.{Decides-eqb}
+use Rattle.std.proofs.lemmas.Slice.Eq.{bytes_eq-Decides}
 use Rattle.std.specs.FinMap.{IsAntisymmetric, nat_cmp-IsAntisymmetric, slice_cmp-IsAntisymmetric}
 use Rattle.place_model.specs.Names.{Bytes, same, has_front}
 
@@ -16,18 +17,13 @@ bytes_total = nat_list_cmp_total
 pub bytes_anti : IsAntisymmetric (slice_cmp nat_cmp)
 bytes_anti = slice_cmp-IsAntisymmetric nat_cmp-IsAntisymmetric
 
-equal : (r : Ordering) → is_eq r ≡ true → r ≡ Equal
-equal Less p = cc
-equal Equal p = refl
-equal Greater p = cc
-
 pub same-refl : (a : Bytes) → same a a ≡ true
 unfolding same
-same-refl a = ap is_eq (tied_itself bytes_total a)
+same-refl a = (bytes_eq-Decides a a).1 refl
 
 pub same_true : (a b : Bytes) → same a b ≡ true → a ≡ b
 unfolding same
-same_true a b e = bytes_anti a b (equal (slice_cmp nat_cmp a b) e)
+same_true a b e = (bytes_eq-Decides a b).0 e
 
 pub same_false : (a b : Bytes) → (a ≡ b → ⊥) → same a b ≡ false
 same_false a b n = go (same a b) refl

@@ -6,3 +6,5 @@ pub mod Patterns
 pub mod Lookup
 pub mod Texts
 pub mod KeyLaws
+pub mod Answers
+pub mod Setting

@@ -1,7 +1,5 @@
 -- The names of queues.
-use Rattle.std.specs.Prelude.{ℕ, Bool, true, false, ◌&&◌, ◌||◌, ◌==◌, not, nat_lt, if◌then◌else◌, List, [], ◌∷◌, length, reverse, codes}
-use Rattle.std.specs.Ordering.{eq_by_cmp}
-use Rattle.resp_wire.specs.Order.{bytes_cmp}
+use Rattle.std.specs.Prelude.{ℕ, Bool, true, false, ◌&&◌, ◌||◌, ◌==◌, not, nat_lt, if◌then◌else◌, List, [], ◌∷◌, length, reverse, codes, bytes_eq}
 
 -- a text, as its bytes
 abbrev pub Bytes : Type 0
@@ -9,7 +7,7 @@ Bytes = List ℕ
 
 -- whether two texts are the same
 unfoldable pub same : Bytes → Bytes → Bool
-same a b = eq_by_cmp bytes_cmp a b
+same a b = bytes_eq a b
 
 -- whether the second text begins with the first
 abbrev pub has_front : Bytes → Bytes → Bool
