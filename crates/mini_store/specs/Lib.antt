@@ -1,0 +1,12 @@
+pub mod Integers
+pub mod Words
+pub mod Replies
+pub mod Keys
+pub mod Texts
+pub mod Lists
+pub mod Sets
+pub mod Hashes
+pub mod SortedSets
+pub mod Commands
+pub mod Connections
+pub mod Store

@@ -1,0 +1,61 @@
+-- The commands on lists.
+use Rattle.std.specs.Prelude.{List, [], ◌∷◌, ◌++◌, length, Option, None, Some}
+use Rattle.std.specs.FinMap.{remove}
+use Rattle.resp_wire.specs.declared.value.Value.{Value}
+use Rattle.resp_wire.specs.declared.value.Value.TheVariants.{NullBulk, NullArray, Bulk}
+use Rattle.mini_store.specs.Words.{Bytes, front, final}
+use Rattle.mini_store.specs.Replies.{number, wrong_type, pair}
+use Rattle.mini_store.specs.Keys.{Keys, value_at, put, Outcome, out}
+use Rattle.mini_store.specs.declared.held.Stored.{Stored}
+use Rattle.mini_store.specs.declared.held.Stored.TheVariants.{Items}
+
+-- pushed at the head, one after the other
+abbrev pub pushed : List Bytes → List Bytes → List Bytes
+pushed [] xs = xs
+pushed (v ∷ vs) xs = pushed vs (v ∷ xs)
+
+-- the list is put under the key, and its length is answered
+abbrev pub put_list : Keys → Bytes → List Bytes → Outcome
+put_list m k xs = out (put m k (Items xs)) (k ∷ []) (number (length xs))
+
+-- LPUSH, by what the key holds
+abbrev pub lpush : Keys → Bytes → List Bytes → Option Stored → Outcome
+lpush m k vs None = put_list m k (pushed vs [])
+lpush m k vs (Some (Items xs)) = put_list m k (pushed vs xs)
+lpush m k vs (Some other) = out m [] wrong_type
+
+-- RPUSH, by what the key holds
+abbrev pub rpush : Keys → Bytes → List Bytes → Option Stored → Outcome
+rpush m k vs None = put_list m k vs
+rpush m k vs (Some (Items xs)) = put_list m k (xs ++ vs)
+rpush m k vs (Some other) = out m [] wrong_type
+
+-- the list is put back, or the key removed where it is empty
+abbrev pub shortened : Keys → Bytes → List Bytes → Keys
+shortened m k [] = remove m k
+shortened m k (x ∷ xs) = put m k (Items (x ∷ xs))
+
+-- RPOP, by what the key holds
+abbrev pub rpop : Keys → Bytes → Option Stored → Outcome
+rpop m k None = out m [] NullBulk
+rpop m k (Some (Items [])) = out m [] NullBulk
+rpop m k (Some (Items (x ∷ xs))) = out (shortened m k (front x xs)) (k ∷ []) (Bulk (final x xs))
+rpop m k (Some other) = out m [] wrong_type
+
+-- BRPOP at one key, by what it holds, else at the later ones
+abbrev pub brpop_at : Keys → Bytes → Option Stored → Outcome → Outcome
+brpop_at m k None later = later
+brpop_at m k (Some (Items [])) later = later
+brpop_at m k (Some (Items (x ∷ xs))) later = out (shortened m k (front x xs)) (k ∷ []) (pair k (final x xs))
+brpop_at m k (Some other) later = out m [] wrong_type
+
+-- BRPOP: the first key that is there decides
+abbrev pub brpop : Keys → List Bytes → Outcome
+brpop m [] = out m [] NullArray
+brpop m (k ∷ ks) = brpop_at m k (value_at m k) (brpop m ks)
+
+-- the answer to LLEN, by what the key holds
+abbrev pub size_answer : Option Stored → Value
+size_answer None = number 0
+size_answer (Some (Items xs)) = number (length xs)
+size_answer (Some other) = wrong_type

@@ -1,0 +1,15 @@
+//! A store of texts, lists, sets, hashes and sorted sets under keys, with Redis' commands and what it knows of each connection.
+//!
+//! What a command does is defined in `specs/` over the types of this crate: `command_of` reads its words, `run` says what
+//! it does to the keys, and `apply_of` is the whole step of a store.
+#![tactic(auto)]
+
+mod command;
+mod connection;
+mod held;
+mod reply;
+
+pub use command::{Command, Fault};
+pub use connection::{Conn, Queue};
+pub use held::{Held, Stored};
+pub use reply::Reply;

@@ -1,0 +1,95 @@
+//! A list that grows and shrinks at both ends.
+ghost use Rattle.std.specs.List.{list_any};
+ghost use Rattle.std.specs.Prelude.{◌≡◌, [], ◌∷◌, ◌++◌, IfSome, IfNone, OnOk, OnErr, length, IsTrue, ◌↔◌, bytes_eq};
+
+use resp_wire::Bytes;
+use std::alloc::{AllocError, Global};
+use std::collections::VecDeque;
+use std::marker::Model;
+
+/// A list of values that grows and shrinks at both ends, seen by contracts as that list.
+#[derive(Debug, Drop)]
+pub struct Deque<T> {
+    kept: VecDeque<T>,
+}
+
+impl<T> Model for Deque<T> {
+    ghost use Rattle.std.specs.Prelude.{List as Listed};
+    ghost use Rattle.std.specs.Coded.{coded_list};
+
+    ghost Value = { Listed T };
+
+    ghost coded = { coded_list T.code };
+
+    ghost view = { λ d. d.kept.items };
+}
+
+impl<T> Deque<T> {
+    /// No values; takes no memory.
+    pub fn new(alloc: Global) -> Self
+        ensures { result ≡ [] }
+    {
+        Deque {
+            kept: VecDeque::new(alloc),
+        }
+    }
+
+    /// Takes the first value.
+    pub fn pop_front(&mut self) -> Option<T>
+        ensures some { IfSome result (λ item. self.old ≡ item ∷ self.new) }
+        ensures none { IfNone result (self.old ≡ []) }
+        ensures same { IfNone result (self.new ≡ []) }
+    {
+        self.kept.pop_front()
+    }
+
+    /// Takes the last value.
+    pub fn pop_back(&mut self) -> Option<T>
+        ensures some { IfSome result (λ item. self.old ≡ self.new ++ item ∷ []) }
+        ensures none { IfNone result (self.old ≡ []) }
+        ensures same { IfNone result (self.new ≡ []) }
+    {
+        self.kept.pop_back()
+    }
+}
+
+impl<T: Drop> Deque<T> {
+    /// How many values there are.
+    pub fn len(&self) -> usize
+        ensures { result ≡ length self.now }
+    {
+        self.kept.len()
+    }
+
+    /// Whether there is no value.
+    pub fn is_empty(&self) -> bool
+        ensures { IsTrue result ↔ (length self.now ≡ 0) }
+    {
+        self.kept.len() == 0
+    }
+
+    /// Adds a value at the end; without memory nothing changes.
+    pub fn push(&mut self, item: T) -> Result<(), AllocError>
+        ensures ok { OnOk result (self.new ≡ self.old ++ item ∷ []) }
+        ensures err { OnErr result (self.new ≡ self.old) }
+    {
+        Ok(self.kept.push_back(item)?)
+    }
+
+    /// Adds a value at the front; without memory nothing changes.
+    pub fn push_front(&mut self, item: T) -> Result<(), AllocError>
+        ensures ok { OnOk result (self.new ≡ item ∷ self.old) }
+        ensures err { OnErr result (self.new ≡ self.old) }
+    {
+        Ok(self.kept.push_front(item)?)
+    }
+}
+
+impl Deque<Bytes> {
+    /// Whether this text is among the values.
+    pub fn has(&self, text: &Bytes) -> bool
+        ensures { result ≡ list_any (bytes_eq text.now) self.now }
+    {
+        self.kept.iter().any(|one| *text == *one)
+    }
+}
