@@ -5,4 +5,5 @@ pub mod Lists
 pub mod Steps
 pub mod Routes
 pub mod Texts
+pub mod Settings
 pub mod Examples

@@ -1,5 +1,5 @@
 -- The block that restores the messages that have stood in the table for long.
-use Rattle.std.specs.Prelude.{◌≡◌, ◌⊎◌, ℕ, ◌^◌, true, false, ◌<◌, List, [], ◌∷◌, ◌++◌, codes, if◌then◌else◌}
+use Rattle.std.specs.Prelude.{◌≡◌, ◌⊎◌, ℕ, true, List, [], ◌∷◌, ◌++◌, codes, if◌then◌else◌}
 use Rattle.resp_wire.specs.declared.value.Value.{Value}
 use Rattle.resp_wire.specs.declared.value.Value.TheVariants.{Bulk, NullBulk, Array, NullArray}
 use Rattle.mini_store.specs.Words.{Words}

@@ -1,5 +1,5 @@
 -- The keys of a layout.
-use Rattle.std.specs.Prelude.{◌≡◌, ℕ, ◌+◌, zero, suc, Bool, true, false, ◌==◌, if◌then◌else◌, List, [], ◌∷◌, ◌++◌, Option, Some, None, option_and_then, is_some}
+use Rattle.std.specs.Prelude.{◌≡◌, ◌⊎◌, ℕ, ◌+◌, zero, suc, Bool, true, false, ◌==◌, if◌then◌else◌, List, [], ◌∷◌, ◌++◌, Option, Some, None, option_and_then, is_some}
 use Rattle.place_model.specs.Names.{Bytes, same, has_end, is_name, unacked_name, index_name, mutex_name, binding_front, reply_end}
 use Rattle.place_model.specs.Layouts.{Layout}
 
@@ -106,3 +106,8 @@ IsAway k (a ∷ ks) = (k ≡ a → ⊥) × IsAway k ks
 abbrev pub Differ : {A : Type 0} → List A → Type 0
 Differ [] = Unit {0}
 Differ (k ∷ ks) = IsAway k ks × Differ ks
+
+-- it is one of them
+abbrev pub Among : {A : Type 0} → A → List A → Type 0
+Among k [] = ⊥
+Among k (a ∷ ks) = (k ≡ a) ⊎ Among k ks

@@ -1,5 +1,5 @@
 -- The names and texts that histories are read by: the keys of a layout, and what the bytes of envelopes and entries tell.
-use Rattle.std.specs.Prelude.{◌≡◌, ℕ, ◌^◌, Bool, true, false, ◌<◌, nat_le, List, [], ◌∷◌, codes, length, Option, None, Some, is_some, option_map, option_and_then}
+use Rattle.std.specs.Prelude.{◌≡◌, ℕ, ◌^◌, Bool, true, false, ◌<◌, nat_le, List, [], ◌∷◌, codes, length, Option, None, Some, is_some, option_and_then}
 use Rattle.place_model.specs.Names.{Bytes, same, is_name}
 use Rattle.place_model.specs.Layouts.{Layout, step_of}
 use Rattle.place_model.specs.QueueKeys.{Each, Differ, split_key, is_reply_key, unacked_key, index_key, mutex_key, binding_key, pop_keys}

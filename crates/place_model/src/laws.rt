@@ -1,5 +1,6 @@
 //! What the definitions of keys, lookups and tokens keep, for every key layout.
 ghost use Rattle.place_model.specs.KeyLaws.{KeyTells, SplitTells, OnlyKeysSplit, OthersApart, PopsTell, StepsTell, RoutesTell, MembersTell, TokenTells};
+ghost use Rattle.place_model.specs.SettingLaws.{LayoutsServe};
 
 // A queue's key tells the queue and its step, and the split of a key gives them for such a key alone.
 pub fn key_fact()
@@ -28,4 +29,9 @@ pub fn lookups()
 // A token tells its seed and its number.
 pub fn tokens()
     ensures { TokenTells }
+{}
+
+// With texts that keep their facts, each lawful layout gives a lawful setting.
+pub fn layouts_serve()
+    ensures { LayoutsServe }
 {}

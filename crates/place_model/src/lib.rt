@@ -2,8 +2,10 @@
 #![tactic(auto)]
 
 mod block;
+mod history;
 mod laws;
 mod place;
 
 pub use block::Side;
+pub use history::Entry;
 pub use place::Place;
