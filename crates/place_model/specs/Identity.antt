@@ -1,0 +1,45 @@
+-- Where the envelopes of a tag come from.
+use Rattle.std.specs.Prelude.{◌≡◌, ◌⊎◌, ℕ, ℤ, true, List, [], ◌∷◌, Some}
+use Rattle.std.specs.FinMap.{get}
+use Rattle.resp_wire.specs.declared.value.Value.{Value}
+use Rattle.mini_store.specs.Words.{command_of}
+use Rattle.mini_store.specs.Keys.{Keys}
+use Rattle.mini_store.specs.declared.command.Command.{Command}
+use Rattle.mini_store.specs.declared.command.Command.TheVariants.{Lpush}
+use Rattle.place_model.specs.Names.{Bytes}
+use Rattle.place_model.specs.QueueKeys.{Among}
+use Rattle.place_model.specs.Answers.{number_of}
+use Rattle.place_model.specs.Setting.{Setting, is_queue}
+use Rattle.place_model.specs.Calls.{Call}
+use Rattle.place_model.specs.Histories.{History, World, Client, after}
+use Rattle.place_model.specs.Counts.{entry_at}
+use Rattle.place_model.specs.Starts.{elements_at}
+
+-- an envelope with this tag, which is b but for its two marks, stands in the list of a queue or in the table
+pub data Stands (σ : Setting) (m : Keys) (t b : Bytes) : Type 0 where
+  In_a_list : (k v : Bytes) → is_queue σ k ≡ true → Among v (elements_at m k) → σ.tag_of v ≡ Some t → σ.body_of v ≡ b → Stands σ m t b
+  In_the_table : (u : Bytes) → entry_at σ m t ≡ Some u → σ.body_in u ≡ b → Stands σ m t b
+
+-- the call published it
+pub record IsPush (σ : Setting) (t b : Bytes) (command : Command) (answer : Value) : Type 0 where
+  pub key : Bytes
+  pub bytes : Bytes
+  pub size : ℤ
+  pub pushes : command ≡ Lpush key (bytes ∷ [])
+  pub answered : number_of answer ≡ Some size
+  pub queue : is_queue σ key ≡ true
+  pub tag : σ.tag_of bytes ≡ Some t
+  pub body : σ.body_of bytes ≡ b
+
+-- one of the calls published it
+abbrev pub PushedIn : Setting → Bytes → Bytes → List Call → Type 0
+PushedIn σ t b [] = ⊥
+PushedIn σ t b (x ∷ xs) = IsPush σ t b (command_of x.words) x.answer ⊎ PushedIn σ t b xs
+
+-- a client published it
+abbrev pub IsPublished : Setting → World → Bytes → Bytes → Type 0
+IsPublished σ w t b = (c : ℕ) × (cl : Client) × (get w.clients c ≡ Some cl) × PushedIn σ t b cl.calls
+
+-- it stood in the start, or a client published it
+abbrev pub HasOrigin : {N : Type 0} → Setting → History N → Bytes → Bytes → Type 0
+HasOrigin σ h t b = Stands σ h.start t b ⊎ IsPublished σ (after h) t b

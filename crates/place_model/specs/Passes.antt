@@ -1,0 +1,40 @@
+-- What a pass reads, and what becomes of it.
+use Rattle.std.specs.Prelude.{◌≡◌, ℕ, ◌+◌, ℤ, List, [], ◌∷◌, Option, Some}
+use Rattle.mini_store.specs.Keys.{value_at}
+use Rattle.mini_store.specs.Store.{settled}
+use Rattle.mini_store.specs.SortedSets.{ranks}
+use Rattle.mini_store.specs.declared.held.Stored.{Stored}
+use Rattle.mini_store.specs.declared.held.Stored.TheVariants.{Scores}
+use Rattle.place_model.specs.Names.{Bytes}
+use Rattle.place_model.specs.Setting.{Setting}
+use Rattle.place_model.specs.ReturnBlocks.{ReturnEnd, Moved, Gone, Stayed}
+use Rattle.place_model.specs.PassBlocks.{tags_among}
+use Rattle.place_model.specs.Histories.{World}
+
+-- the members with scores between these bounds of what stands at a key, the highest first
+abbrev pub ranks_of : ℤ → ℤ → ℕ → ℕ → Option Stored → List Bytes
+ranks_of high low skip most (Some (Scores h)) = ranks high low skip most h
+ranks_of high low skip most other = []
+
+-- what was read at this moment are the members of the index with these scores, the highest first, and each of them is a tag
+pub record ReadsTags (σ : Setting) (w : World) (at : ℕ) (high low : ℤ) (skip most : ℕ) (ms : List Bytes) : Type 0 where
+  pub members : ms ≡ ranks_of high low skip most (value_at (settled w.store at).keys σ.index)
+  pub tags : tags_among σ ms ≡ ms
+
+-- how many returns ended so
+abbrev pub moved_count : List ReturnEnd → ℕ
+moved_count [] = 0
+moved_count (Moved ∷ ends) = 1 + moved_count ends
+moved_count (other ∷ ends) = moved_count ends
+
+-- how many returns found nothing
+abbrev pub gone_count : List ReturnEnd → ℕ
+gone_count [] = 0
+gone_count (Gone ∷ ends) = 1 + gone_count ends
+gone_count (other ∷ ends) = gone_count ends
+
+-- how many returns left the message where it was
+abbrev pub stayed_count : List ReturnEnd → ℕ
+stayed_count [] = 0
+stayed_count (Stayed ∷ ends) = 1 + stayed_count ends
+stayed_count (other ∷ ends) = stayed_count ends

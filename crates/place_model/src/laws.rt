@@ -1,0 +1,37 @@
+//! What the definitions of keys, lookups and tokens keep, for every key layout.
+ghost use Rattle.place_model.specs.KeyLaws.{KeyTells, SplitTells, OnlyKeysSplit, OthersApart, PopsTell, StepsTell, RoutesTell, MembersTell, TokenTells};
+ghost use Rattle.place_model.specs.SettingLaws.{LayoutsServe};
+
+// A queue's key tells the queue and its step, and the split of a key gives them for such a key alone.
+pub fn key_fact()
+    ensures tells { KeyTells }
+    ensures split { SplitTells }
+    ensures only { OnlyKeysSplit }
+{}
+
+// No other key that is written is a queue's, and none is that of the table or its index.
+pub fn others_apart()
+    ensures { OthersApart }
+{}
+
+// The keys of a pop are queues', and each priority has a step.
+pub fn pops()
+    ensures keys { PopsTell }
+    ensures steps { StepsTell }
+{}
+
+// A lookup gives keys of queues, each once, and reads each member as it was made.
+pub fn lookups()
+    ensures keys { RoutesTell }
+    ensures members { MembersTell }
+{}
+
+// A token tells its seed and its number.
+pub fn tokens()
+    ensures { TokenTells }
+{}
+
+// With texts that keep their facts, each lawful layout gives a lawful setting.
+pub fn layouts_serve()
+    ensures { LayoutsServe }
+{}

@@ -1,0 +1,11 @@
+//! Where messages are: the keys of queues, histories of a store's clients, and the place of each message.
+#![tactic(auto)]
+
+mod block;
+mod history;
+mod laws;
+mod place;
+
+pub use block::Side;
+pub use history::Entry;
+pub use place::Place;
