@@ -2,10 +2,12 @@
 #![tactic(auto)]
 
 mod block;
+mod heard;
 mod history;
 mod laws;
 mod place;
 
 pub use block::Side;
+pub use heard::{Heard, Outcome};
 pub use history::Entry;
 pub use place::Place;
