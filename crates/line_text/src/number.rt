@@ -4,8 +4,8 @@ ghost use Rattle.std.specs.Char.{is_ascii_digit};
 ghost use Rattle.std.specs.List.{list_all};
 ghost use Rattle.line_text.specs.Numbers.{integer_in, is_below_zero, is_number, moment_in, number_in, tag_in};
 
-/// The first moment that is too late for the store, in seconds.
-const MOMENTS: u64 = 1 << 40;
+/// The first moment, in seconds, that is too late for a store.
+pub const MOMENT_LIMIT: u64 = 1 << 40;
 
 /// The number that a word spells, if it is within the bounds: decimal digits with no sign and no zero before others.
 pub fn number_in(low: u64, high: u64, word: &str) -> Option<u64>
@@ -30,8 +30,8 @@ pub fn moment_in(word: &str) -> Option<u64>
         return None;
     }
     match word.parse::<u64>() {
-        Ok(value) => Some(Ord::min(value, MOMENTS)),
-        Err(_) => Some(MOMENTS),
+        Ok(value) => Some(Ord::min(value, MOMENT_LIMIT)),
+        Err(_) => Some(MOMENT_LIMIT),
     }
 }
 
