@@ -1,6 +1,6 @@
 //! The quoted form of bytes, and the forms of words and values over any form of bytes.
-ghost use Rattle.std.specs.Prelude.{◌≡◌, ◌++◌, ◌<◌, List, OnOk, map, ℕ};
-ghost use Rattle.line_text.specs.Forms.{commas, escaped, hex_digit, quoted, value_form, value_text, words_text};
+ghost use Rattle.std.specs.Prelude.{◌≡◌, ◌∷◌, ◌++◌, ◌<◌, List, OnOk, ℕ};
+ghost use Rattle.line_text.specs.Forms.{escaped, hex_digit, quoted, value_form, value_text, words_text};
 
 use resp_wire::{Bytes, Value};
 use std::alloc::{AllocError, Global};
@@ -105,22 +105,13 @@ pub fn value_text<F: Form>(
     ensures { OnOk result (out.new.items ≡ out.old.items ++ value_text (F.form form.now) value.now) }
 {
     match value {
-        Value::Status(text) => {
-            out.push(b'+')?;
-            form.write(alloc, out, text.as_slice())?;
-        }
-        Value::Error(text) => {
-            out.push(b'-')?;
-            form.write(alloc, out, text.as_slice())?;
-        }
+        Value::Status(text) => text_after(alloc, form, out, b'+', text.as_slice())?,
+        Value::Error(text) => text_after(alloc, form, out, b'-', text.as_slice())?,
         Value::Integer(number) => {
             let text = format!(in alloc; ":{number}")?;
             out.extend_from_slice(text.as_bytes())?;
         }
-        Value::Bulk(bytes) => {
-            out.push(b'$')?;
-            form.write(alloc, out, bytes.as_slice())?;
-        }
+        Value::Bulk(bytes) => text_after(alloc, form, out, b'$', bytes.as_slice())?,
         Value::NullBulk => out.extend_from_slice(b"$-")?,
         Value::Array(items) => {
             out.extend_from_slice(b"*[")?;
@@ -135,4 +126,18 @@ pub fn value_text<F: Form>(
         Value::NullArray => out.extend_from_slice(b"*-")?,
     }
     Ok(())
+}
+
+/// Appends a sign and bytes in a form.
+fn text_after<F: Form>(
+    alloc: Global,
+    form: &F,
+    out: &mut Vec<u8>,
+    sign: u8,
+    bytes: &[u8],
+) -> Result<(), AllocError>
+    ensures { OnOk result (out.new.items ≡ out.old.items ++ sign ∷ F.form form.now bytes.now) }
+{
+    out.push(sign)?;
+    form.write(alloc, out, bytes)
 }

@@ -99,12 +99,15 @@ fn line_feeds(text: &[u8]) -> usize
 
 /// A line as text. It is `Long` where it has more bytes than the limit, and else `Text` where it isn't UTF-8.
 pub fn line_text(limit: usize, line: &[u8]) -> Result<&str, Reason>
-    ensures text { MatchResult result
-        (λ text. (text_fault limit line.now ≡ None))
+    ensures { MatchResult result
+        (λ text. (text_fault limit line.now ≡ None) × (text.now ≡ line.now))
         (λ reason. text_fault limit line.now ≡ Some reason) }
 {
     if line.len() > limit {
         return Err(Reason::Long);
     }
-    std::str::from_utf8(line).map_err(|_| Reason::Text)
+    match std::str::from_utf8(line) {
+        Ok(text) => Ok(text),
+        Err(_) => Err(Reason::Text),
+    }
 }

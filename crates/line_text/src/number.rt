@@ -1,11 +1,11 @@
 //! Numbers of a line.
-ghost use Rattle.std.specs.Prelude.{◌≡◌, map};
+ghost use Rattle.std.specs.Prelude.{◌≡◌, ◌||◌};
 ghost use Rattle.std.specs.Char.{is_ascii_digit};
 ghost use Rattle.std.specs.List.{list_all};
 ghost use Rattle.line_text.specs.Numbers.{integer_in, is_below_zero, is_number, moment_in, number_in, tag_in};
 
-/// The first moment that is too late for the store, in seconds.
-const MOMENTS: u64 = 1 << 40;
+/// The first moment, in seconds, that is too late for a store.
+pub const MOMENT_LIMIT: u64 = 1 << 40;
 
 /// The number that a word spells, if it is within the bounds: decimal digits with no sign and no zero before others.
 pub fn number_in(low: u64, high: u64, word: &str) -> Option<u64>
@@ -30,8 +30,8 @@ pub fn moment_in(word: &str) -> Option<u64>
         return None;
     }
     match word.parse::<u64>() {
-        Ok(value) => Some(Ord::min(value, MOMENTS)),
-        Err(_) => Some(MOMENTS),
+        Ok(value) => Some(Ord::min(value, MOMENT_LIMIT)),
+        Err(_) => Some(MOMENT_LIMIT),
     }
 }
 
@@ -39,11 +39,10 @@ pub fn moment_in(word: &str) -> Option<u64>
 pub fn integer_in(word: &str) -> Option<i64>
     ensures { result ≡ integer_in word.now }
 {
-    if is_number(word.as_bytes()) || is_below_zero(word.as_bytes()) {
-        word.parse::<i64>().ok()
-    } else {
-        None
+    if !is_integer(word.as_bytes()) {
+        return None;
     }
+    word.parse::<i64>().ok()
 }
 
 /// The seed and the counter that a tag's short spelling has, as `7:1`: two numbers of 64 bits with a colon between.
@@ -64,6 +63,13 @@ fn is_number(word: &[u8]) -> bool
         [] => false,
         [first, ..] => are_digits(word) && (word.len() == 1 || *first > b'0'),
     }
+}
+
+/// Whether it is a number, or a minus and a number above 0.
+fn is_integer(word: &[u8]) -> bool
+    ensures { result ≡ (is_number word.now || is_below_zero word.now) }
+{
+    is_number(word) || is_below_zero(word)
 }
 
 /// Whether these are a minus and digits of which the first isn't zero.

@@ -24,7 +24,10 @@ pub enum Shape {
         marked: bool,
     },
     /// A tag's text.
-    Tag { seed: u64, counter: u64 },
+    Tag {
+        seed: u64,
+        counter: u64,
+    },
     /// None of these.
     Other,
 }
@@ -92,12 +95,7 @@ impl<L: Legend> Form for ShortForm<'_, L> {
     }
 }
 
-fn shaped(
-    alloc: Global,
-    out: &mut Vec<u8>,
-    shape: Shape,
-    word: &[u8],
-) -> Result<(), AllocError>
+fn shaped(alloc: Global, out: &mut Vec<u8>, shape: Shape, word: &[u8]) -> Result<(), AllocError>
     ensures { OnOk result (out.new.items ≡ out.old.items ++ shaped shape word.now) }
 {
     match shape {
@@ -145,7 +143,12 @@ fn star(out: &mut Vec<u8>, marked: bool) -> Result<(), AllocError>
 }
 
 /// Appends a tag's short spelling, as `7:1`.
-pub fn tag_short(alloc: Global, out: &mut Vec<u8>, seed: u64, counter: u64) -> Result<(), AllocError>
+pub fn tag_short(
+    alloc: Global,
+    out: &mut Vec<u8>,
+    seed: u64,
+    counter: u64,
+) -> Result<(), AllocError>
     ensures { OnOk result (out.new.items ≡ out.old.items ++ tag_short seed counter) }
 {
     let text = format!(in alloc; "{seed}:{counter}")?;

@@ -20,7 +20,7 @@ pub fn rest_after(count: usize, line: &str) -> Option<&str>
     ensures { option_copied result ≡ rest_after count line.now }
 {
     let mut rest = line;
-    for _ in 0..count {
+    for step in 0..count {
         let (_, after) = rest.split_once(' ')?;
         rest = after;
     }

@@ -1,0 +1,4 @@
+pub mod Cuts
+pub mod Integers
+pub mod Listed
+pub mod Spelled
