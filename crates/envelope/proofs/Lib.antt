@@ -1,7 +1,12 @@
 pub mod Changes
 pub mod Kept
 pub mod Lengths
+pub mod MarkedTrees
 pub mod Said
 pub mod Sixteen
+pub mod MarkedSaid
+pub mod SortedTrees
 pub mod TagTexts
 pub mod Texts
+pub mod TextsBack
+pub mod Told

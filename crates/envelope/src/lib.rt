@@ -4,6 +4,7 @@
 mod envelope;
 mod fault;
 mod find;
+mod laws;
 mod marks;
 mod reading;
 mod seed;
@@ -12,6 +13,7 @@ mod walk;
 
 pub use envelope::{Envelope, Tree, write};
 pub use fault::{EnvelopeFault, Field};
+pub use laws::{marks_stay, texts_read_back};
 pub use reading::read;
 pub use seed::Seed;
 pub use tag::Tag;
