@@ -10,11 +10,15 @@ use Rattle.place_model.specs.Names.{Bytes}
 use Rattle.place_model.specs.Scripts.{Plan, Declare, Undeclare, Publish, Pop, End, Return, Pass}
 use Rattle.place_model.specs.declared.block.Side.TheVariants.{Left, Right}
 use Rattle.place_model.specs.declared.heard.Heard.{Heard}
-use Rattle.replay.specs.Built.{waits}
-use Rattle.replay.specs.Costs.{is_full, total_cost}
-use Rattle.replay.specs.Desk.{Desk, Book, Said, first_desk, with_book, with_client, begun, said_one, said_all, with_stop}
-use Rattle.replay.specs.Faults.{Craft, first_reason, tests, seed_of, counter_of}
-use Rattle.replay.specs.Lines.{Asked, Publishes, Declares, Undeclares, Pops, Acks, Restores, Requeues, Passes, Line, Client, At, Begin, Step, Run, Stop, line_in}
+use Rattle.schedule_model.specs.Built.{waits}
+use Rattle.schedule_model.specs.Costs.{is_full, total_cost}
+use Rattle.schedule_model.specs.Desk.{Desk, Book, Said, first_desk, with_book, with_client, begun, said_one, said_all, with_stop}
+use Rattle.schedule_model.specs.Faults.{Craft, first_reason, tests, seed_of, counter_of}
+use Rattle.schedule_model.specs.Lines.{line_in}
+use Rattle.schedule_model.specs.declared.line.Asked.{Asked}
+use Rattle.schedule_model.specs.declared.line.Asked.TheVariants as asked
+use Rattle.schedule_model.specs.declared.line.Line.{Line}
+use Rattle.schedule_model.specs.declared.line.Line.TheVariants.{Client, At, Begin, Step, Run, Stop}
 
 -- what a line leads to: a desk, a history that was full, or the reason that it is bad
 pub data Led : Type 0 where
@@ -31,14 +35,14 @@ publish_plan (Some v) = Some (Publish v)
 
 -- the plan of what a client of this seed begins, whose next tag has this counter
 abbrev pub plan_of : Craft → ℕ → ℕ → Asked → Option Plan
-plan_of κ s n (Publishes x k p t j) = publish_plan (κ.sealed s n x k p t j)
-plan_of κ s n (Declares x k p q) = Some (Declare x k p q)
-plan_of κ s n (Undeclares x k p q) = Some (Undeclare x k p q)
-plan_of κ s n (Pops qs) = Some (Pop qs)
-plan_of κ s n (Acks a b) = Some (End (κ.setting.tag a b))
-plan_of κ s n (Restores a b) = Some (Return Right (κ.setting.tag a b))
-plan_of κ s n (Requeues a b) = Some (Return Left (κ.setting.tag a b))
-plan_of κ s n (Passes v) = Some (Pass v)
+plan_of κ s n (asked.Publish x k p t j) = publish_plan (κ.sealed s n x k p t j)
+plan_of κ s n (asked.Declare x k p q) = Some (Declare x k p q)
+plan_of κ s n (asked.Undeclare x k p q) = Some (Undeclare x k p q)
+plan_of κ s n (asked.Pop qs) = Some (Pop qs)
+plan_of κ s n (asked.Ack a b) = Some (End (κ.setting.tag a b))
+plan_of κ s n (asked.Restore a b) = Some (Return Right (κ.setting.tag a b))
+plan_of κ s n (asked.Requeue a b) = Some (Return Left (κ.setting.tag a b))
+plan_of κ s n (asked.Pass v) = Some (Pass v)
 
 -- a plan begun; nothing is said yet
 abbrev pub with_plan : Craft → Desk → ℕ → Option Book → Option Plan → Led

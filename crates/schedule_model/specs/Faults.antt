@@ -8,9 +8,12 @@ use Rattle.place_model.specs.Bindings.{is_part}
 use Rattle.place_model.specs.Names.{Bytes, is_name, is_reserved}
 use Rattle.place_model.specs.Scripts.{Script, Over, Off, Say}
 use Rattle.place_model.specs.Setting.{Setting}
-use Rattle.replay.specs.Built.{Built}
-use Rattle.replay.specs.Desk.{Desk, Book}
-use Rattle.replay.specs.Lines.{Asked, Publishes, Declares, Undeclares, Pops, Acks, Restores, Requeues, Passes, Line, Client, At, Begin, Step, Run, Stop}
+use Rattle.schedule_model.specs.Built.{Built}
+use Rattle.schedule_model.specs.Desk.{Desk, Book}
+use Rattle.schedule_model.specs.declared.line.Asked.{Asked}
+use Rattle.schedule_model.specs.declared.line.Asked.TheVariants as asked
+use Rattle.schedule_model.specs.declared.line.Line.{Line}
+use Rattle.schedule_model.specs.declared.line.Line.TheVariants.{Client, At, Begin, Step, Run, Stop}
 
 -- how lines are read from here on: the names and texts, which lines are built, which texts are arguments, and the envelope of a publication
 pub record Craft : Type 0 where
@@ -68,16 +71,16 @@ declare_tests x k p q = (not (is_part x) || not (is_part k) || not (is_part p) |
 
 -- those of what a client of this seed begins, whose next tag has this counter
 abbrev pub asked_tests : Craft → ℕ → ℕ → Asked → List Test
-asked_tests κ s n (Publishes x k p t j) =
+asked_tests κ s n (asked.Publish x k p t j) =
     (is_empty x && is_no_name k, Name) ∷ (is_empty x && is_reserved k, Reserved)
     ∷ (not (κ.are_arguments j), Json) ∷ (is_none (κ.sealed s n x k p t j), Task) ∷ []
-asked_tests κ s n (Declares x k p q) = declare_tests x k p q
-asked_tests κ s n (Undeclares x k p q) = declare_tests x k p q
-asked_tests κ s n (Pops qs) = (list_any is_no_name qs, Name) ∷ (list_any is_reserved qs, Reserved) ∷ []
-asked_tests κ s n (Acks a b) = []
-asked_tests κ s n (Restores a b) = []
-asked_tests κ s n (Requeues a b) = []
-asked_tests κ s n (Passes v) = []
+asked_tests κ s n (asked.Declare x k p q) = declare_tests x k p q
+asked_tests κ s n (asked.Undeclare x k p q) = declare_tests x k p q
+asked_tests κ s n (asked.Pop qs) = (list_any is_no_name qs, Name) ∷ (list_any is_reserved qs, Reserved) ∷ []
+asked_tests κ s n (asked.Ack a b) = []
+asked_tests κ s n (asked.Restore a b) = []
+asked_tests κ s n (asked.Requeue a b) = []
+asked_tests κ s n (asked.Pass v) = []
 
 -- the seed of a client, and the counter of its next tag
 abbrev pub seed_of : Option Book → ℕ

@@ -10,7 +10,7 @@ use Rattle.place_model.specs.Setting.{Setting}
 use Rattle.place_model.specs.declared.heard.Heard.{Heard}
 use Rattle.place_model.specs.declared.history.Entry.{Entry}
 use Rattle.place_model.specs.declared.history.Entry.TheVariants.{Call, Stop}
-use Rattle.replay.specs.Costs.{is_full}
+use Rattle.schedule_model.specs.Costs.{is_full}
 
 -- of a client: its seed, the tags that it drew, the passes that it made, what is left of its block, and whether it is stopped
 pub record Book : Type 0 where

@@ -1,29 +1,13 @@
--- The lines of a schedule, and how each is spelled.
+-- How the lines of a schedule are spelled.
 use Rattle.std.specs.Prelude.{ℕ, ◌^◌, ◌-◌, Bool, ◌&&◌, nat_le, if◌then◌else◌, bytes_eq, List, [], ◌∷◌, length, codes, Option, Some, None, option_map}
 use Rattle.std.specs.List.{list_all, join_with_byte}
 use Rattle.line_text.specs.Numbers.{number_in, moment_in, tag_in}
 use Rattle.line_text.specs.Words.{is_word}
 use Rattle.place_model.specs.Names.{Bytes}
-
--- what a line begins
-pub data Asked : Type 0 where
-  Publishes : Bytes → Bytes → ℕ → Bytes → Bytes → Asked  -- exchange, routing key, priority, task and arguments
-  Declares : Bytes → Bytes → Bytes → Bytes → Asked  -- exchange, routing key, pattern and queue
-  Undeclares : Bytes → Bytes → Bytes → Bytes → Asked  -- the same
-  Pops : List Bytes → Asked  -- the queues
-  Acks : ℕ → ℕ → Asked  -- seed and counter of a tag
-  Restores : ℕ → ℕ → Asked  -- the same
-  Requeues : ℕ → ℕ → Asked  -- the same
-  Passes : ℕ → Asked  -- the visibility timeout in seconds
-
--- a line after the header
-pub data Line : Type 0 where
-  Client : ℕ → ℕ → Line  -- its number and seed
-  At : ℕ → Line  -- the moment in seconds
-  Begin : ℕ → Asked → Line  -- the client, and what it begins
-  Step : ℕ → Line  -- the client
-  Run : ℕ → Line  -- the client
-  Stop : ℕ → Line  -- the client
+use Rattle.schedule_model.specs.declared.line.Asked.{Asked}
+use Rattle.schedule_model.specs.declared.line.Asked.TheVariants.{Publish, Declare, Undeclare, Pop, Ack, Restore, Requeue, Pass}
+use Rattle.schedule_model.specs.declared.line.Line.{Line}
+use Rattle.schedule_model.specs.declared.line.Line.TheVariants.{Client, At, Begin, Step, Run, Stop}
 
 -- ---- words
 
@@ -66,7 +50,7 @@ with_four f (Some a) (Some b) c d = with_two (f a b) c d
 
 -- a publication, whose arguments are the rest of the line
 abbrev pub publish_in : List Bytes → Option Asked
-publish_in (x ∷ k ∷ p ∷ t ∷ j ∷ js) = with_four (λ x k p t. Publishes x k p t (join_with_byte 32 (j ∷ js))) (dashed_in x) (dashed_in k) (number_in 0 255 p) (name_in t)
+publish_in (x ∷ k ∷ p ∷ t ∷ j ∷ js) = with_four (λ x k p t. Publish x k p t (join_with_byte 32 (j ∷ js))) (dashed_in x) (dashed_in k) (number_in 0 255 p) (name_in t)
 publish_in ws = None
 
 -- the exchange of a declaration, which isn't empty
@@ -81,19 +65,19 @@ tagged_in f ws = None
 
 -- a pass over the messages of so many seconds
 abbrev pub pass_in : List Bytes → Option Asked
-pass_in (v ∷ []) = with_one Passes (number_in 0 (2 ^ 32 - 1) v)
+pass_in (v ∷ []) = with_one Pass (number_in 0 (2 ^ 32 - 1) v)
 pass_in ws = None
 
 -- what these words begin
 abbrev pub asked_in : Bytes → List Bytes → Option Asked
 asked_in w ws =
     if bytes_eq w (codes "publish") then publish_in ws
-    else if bytes_eq w (codes "declare") then declare_in Declares ws
-    else if bytes_eq w (codes "undeclare") then declare_in Undeclares ws
-    else if bytes_eq w (codes "pop") then with_one Pops (queues_in ws)
-    else if bytes_eq w (codes "ack") then tagged_in Acks ws
-    else if bytes_eq w (codes "restore") then tagged_in Restores ws
-    else if bytes_eq w (codes "requeue") then tagged_in Requeues ws
+    else if bytes_eq w (codes "declare") then declare_in Declare ws
+    else if bytes_eq w (codes "undeclare") then declare_in Undeclare ws
+    else if bytes_eq w (codes "pop") then with_one Pop (queues_in ws)
+    else if bytes_eq w (codes "ack") then tagged_in Ack ws
+    else if bytes_eq w (codes "restore") then tagged_in Restore ws
+    else if bytes_eq w (codes "requeue") then tagged_in Requeue ws
     else if bytes_eq w (codes "pass") then pass_in ws
     else None
 
