@@ -4,3 +4,4 @@ pub mod Law
 pub mod Names
 pub mod Changes
 pub mod Table
+pub mod Connections
