@@ -10,12 +10,12 @@ use Rattle.mini_store.specs.Replies.{message}
 use Rattle.mini_store.specs.Keys.{Keys}
 use Rattle.mini_store.specs.Commands.{run}
 use Rattle.mini_store.specs.Connections.{Conns, no_conn, or_no_conn, conn, hit, touch, touched, hears, around, told, delivered, posted}
-use Rattle.mini_store.specs.Store.{State, run_all, run_one, run_queue}
+use Rattle.mini_store.specs.Store.{State, run_all, run_one, run_queue, gone_of}
 use Rattle.mini_store.specs.declared.command.Command.{Command}
 use Rattle.mini_store.specs.declared.command.Command.TheVariants.{Publish}
 use Rattle.mini_store.specs.declared.connection.Queue.{Queue}
 use Rattle.mini_store.specs.declared.connection.Conn.{Conn}
-use Rattle.store_laws.specs.Laws.{IsTouched}
+use Rattle.store_laws.specs.Laws.{IsTouched, IsGone}
 use Rattle.store_laws.proofs.Maps.{get-insert_same, get-insert_other, get-remove_same, get-remove_other}
 use Rattle.store_laws.proofs.Law.{hit-append}
 
@@ -126,6 +126,9 @@ gone_same m c = ap or_no_conn (get-remove_same nat_cmp nat_cmp_total nat_cmp-IsA
 pub gone_other : (m : Conns) (c d : ℕ) → d ≢ c → conn (remove m c) d ≡ conn m d
 gone_other m c d n = ap or_no_conn (get-remove_other nat_cmp nat_cmp_total nat_cmp-IsAntisymmetric m c d n)
 
+pub is_gone : (s : State) (c : ℕ) → IsGone s (gone_of s c) c
+is_gone s c = record { keys = refl; unknown = gone_same s.conns c; others = λ d n. gone_other s.conns c d n }
+
 pub set_kept : (m : Conns) (c : ℕ) (cn : Conn) (d : ℕ) → d ≢ c → IsTouched [] (conn m d) (conn (insert m c cn) d)
 set_kept m c cn d n = subst (IsTouched [] (conn m d)) (sym (set_other m c cn d n)) (untouched (conn m d))
 
@@ -151,5 +154,5 @@ run_all_same_altered at m cs cs' [] = refl
 run_all_same_altered at m cs cs' (c ∷ later) =
     let here = run_same_altered at (around at cs).listeners (around at cs').listeners m c in
     let there = run_all_same_altered at (run (around at cs) m c).keys (posted c cs) (posted c cs') later
-        ∙ ap (λ n. (run_all at n (posted c cs') later).altered) (run_same at (around at cs).listeners (around at cs').listeners m c) in
+    ∙ ap (λ n. (run_all at n (posted c cs') later).altered) (run_same at (around at cs).listeners (around at cs').listeners m c) in
     λ i. here i ++ there i

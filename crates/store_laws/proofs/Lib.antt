@@ -5,3 +5,5 @@ pub mod Names
 pub mod Changes
 pub mod Table
 pub mod Connections
+pub mod Settled
+pub mod Elsewhere

@@ -6,7 +6,7 @@ use Rattle.resp_wire.specs.declared.value.Value.{Value}
 use Rattle.mini_store.specs.Words.{Bytes}
 use Rattle.mini_store.specs.Keys.{Keys, is_due, due_keys}
 use Rattle.mini_store.specs.Commands.{Around, run}
-use Rattle.mini_store.specs.Connections.{Conns, conn, hit, touch}
+use Rattle.mini_store.specs.Connections.{Conns, no_conn, conn, hit, touch}
 use Rattle.mini_store.specs.Store.{State, run_all, settled}
 use Rattle.mini_store.specs.declared.command.Command.{Command}
 use Rattle.mini_store.specs.declared.connection.Conn.{Conn}
@@ -45,3 +45,9 @@ DropsDue s at k = get (settled s at).keys k ≡ (if is_due at (get s.keys k) the
 pub record MarksDue (s : State) (at : ℕ) : Type 0 where
   pub due : (k : Bytes) → list_any (bytes_eq k) (due_keys at (entries s.keys)) ≡ is_due at (get s.keys k)
   pub conns : (c : ℕ) → conn (settled s at).conns c ≡ touch (due_keys at (entries s.keys)) (conn s.conns c)
+
+-- a connection that is gone is as one that was never known, and all else is as before
+pub record IsGone (before now : State) (c : ℕ) : Type 0 where
+  pub keys : now.keys ≡ before.keys
+  pub unknown : conn now.conns c ≡ no_conn
+  pub others : (d : ℕ) → (d ≡ c → ⊥) → conn now.conns d ≡ conn before.conns d
