@@ -143,3 +143,8 @@ pub executed_own : (at : ℕ) (s : State) (c : ℕ) (cn : Conn) (commands : List
 executed_own at s c cn commands =
     let t = run_queue_conns at (set_conn s c (cleared cn)) commands c in
     cleared_stays (run_all at s.keys (insert s.conns c (cleared cn)) commands).altered cn _ (subst (λ b. IsTouched (run_all at s.keys (insert s.conns c (cleared cn)) commands).altered b (conn (run_queue at (set_conn s c (cleared cn)) commands).0.conns c)) (set_same s.conns c (cleared cn)) t)
+
+-- and the other ones
+pub executed_others : (at : ℕ) (s : State) (c : ℕ) (cn : Conn) (commands : List Command) (d : ℕ) → d ≢ c
+    → IsTouched (run_all at s.keys (insert s.conns c (cleared cn)) commands).altered (conn s.conns d) (conn (run_queue at (set_conn s c (cleared cn)) commands).0.conns d)
+executed_others at s c cn commands d n = touched_then [] _ (conn s.conns d) (conn (insert s.conns c (cleared cn)) d) _ (set_kept s.conns c (cleared cn) d n) (run_queue_conns at (set_conn s c (cleared cn)) commands d)

@@ -7,3 +7,7 @@ pub mod Table
 pub mod Connections
 pub mod Settled
 pub mod Elsewhere
+pub mod Answers
+pub mod Elements
+pub mod Fields
+pub mod Ranks
