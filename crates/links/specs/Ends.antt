@@ -1,15 +1,10 @@
 -- How a reading to the end ends.
 use Rattle.std.specs.Io.KnownBytes.{Consumes, IsAtEnd}
-use Rattle.std.specs.Prelude.{List, Option, length, ℕ, ◌+◌, ◌≡◌, ◌≤◌}
+use Rattle.std.specs.Prelude.{List, length, ℕ, ◌+◌, ◌≡◌, ◌≤◌}
 use Rattle.links.specs.Causes.{Rose}
+use Rattle.links.specs.Views.{SourceView}
 use Rattle.links.specs.declared.whole.ReadEnd.TheVariants.{Fault, Long, Memory}
 use Rattle.links.specs.declared.whole.ReadEnd.{ReadEnd}
-
--- what is known of a source at one moment
-pub record SourceView : Type 0 where
-  pub left : Option (List ℕ)
-  pub faults : ℕ
-  pub ends : ℕ
 
 -- all bytes up to the end, which the source told, and no fault
 pub record IsWhole (limit : ℕ) (before now : SourceView) (bytes : List ℕ) : Type 0 where
@@ -25,8 +20,14 @@ pub record HasReadUpTo (most : ℕ) (before now : SourceView) (bytes : List ℕ)
   pub within : length bytes ≤ most
   pub unended : now.ends ≡ before.ends
 
+-- one byte more than the limit was read, and no fault
+pub record IsPast (limit : ℕ) (before now : SourceView) (bytes : List ℕ) : Type 0 where
+  pub read : HasReadUpTo (limit + 1) before now bytes
+  pub over : length bytes ≡ limit + 1
+  pub kept : now.faults ≡ before.faults
+
 -- a fault only where the count rose; too long exactly with one byte more than the limit; want of memory is free, and no fault
 abbrev pub HasReadEnd : ℕ → SourceView → SourceView → ReadEnd → Type 0
 HasReadEnd limit before now Fault = (bytes : List ℕ) × HasReadUpTo limit before now bytes × (before.faults ≤ now.faults) × Rose before.faults now.faults
-HasReadEnd limit before now (Long bytes) = HasReadUpTo (limit + 1) before now bytes × (length bytes ≡ limit + 1) × (now.faults ≡ before.faults)
+HasReadEnd limit before now (Long bytes) = IsPast limit before now bytes
 HasReadEnd limit before now Memory = (bytes : List ℕ) × HasReadUpTo (limit + 1) before now bytes × (now.faults ≡ before.faults)

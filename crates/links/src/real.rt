@@ -1,5 +1,5 @@
 //! A source and a sink over std's readers and writers. They tell their counts, and nothing of content.
-ghost use Rattle.std.specs.Prelude.{None};
+ghost use Rattle.std.specs.Prelude.{None, ◌≡◌};
 
 use crate::counts::raise;
 use crate::{Failed, Sink, Source};
@@ -15,7 +15,10 @@ pub struct StdSource<R> {
 
 impl<R: Read> StdSource<R> {
     /// A source that has not failed.
-    pub fn new(inner: R) -> Self {
+    pub fn new(inner: R) -> Self
+        ensures faults { ⟦<StdSource<R> as Source>⟧.read_faults result ≡ 0 }
+        ensures ends { ⟦<StdSource<R> as Source>⟧.ends result ≡ 0 }
+    {
         StdSource {
             inner,
             faults: 0,
@@ -56,7 +59,9 @@ pub struct StdSink<W> {
 
 impl<W: Write> StdSink<W> {
     /// A sink that has not failed.
-    pub fn new(inner: W) -> Self {
+    pub fn new(inner: W) -> Self
+        ensures { ⟦<StdSink<W> as Sink>⟧.write_faults result ≡ 0 }
+    {
         StdSink { inner, faults: 0 }
     }
 }

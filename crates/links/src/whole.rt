@@ -3,6 +3,7 @@ ghost use Rattle.std.specs.Io.KnownBytes.{Appends};
 ghost use Rattle.std.specs.Prelude.{◌<◌, ◌≡◌, ◌^◌, ◌≤◌, IfErr, IfOk, OnErr, OnOk, length, vec_len};
 ghost use Rattle.links.specs.Causes.{AppendsFront, HasCause};
 ghost use Rattle.links.specs.Ends.{HasReadEnd, IsWhole};
+ghost use Rattle.links.specs.Views.{source_view};
 
 use crate::{Failed, Sink, Source};
 use resp_wire::Bytes;
@@ -51,11 +52,11 @@ impl From<AllocError> for ReadEnd {
 pub fn read_to_end<S: Source>(alloc: Global, src: &mut S, limit: u64) -> Result<Bytes, ReadEnd>
     requires { limit < 2 ^ 63 }
     ensures all { IfOk result (IsWhole limit
-        (record { left = S.left src.old; faults = S.read_faults src.old; ends = S.ends src.old })
-        (record { left = S.left src.new; faults = S.read_faults src.new; ends = S.ends src.new })) }
+        (source_view S.left S.read_faults S.ends src.old)
+        (source_view S.left S.read_faults S.ends src.new)) }
     ensures end { IfErr result (HasReadEnd limit
-        (record { left = S.left src.old; faults = S.read_faults src.old; ends = S.ends src.old })
-        (record { left = S.left src.new; faults = S.read_faults src.new; ends = S.ends src.new })) }
+        (source_view S.left S.read_faults S.ends src.old)
+        (source_view S.left S.read_faults S.ends src.new)) }
 {
     let mut buffer = buffer(alloc)?;
     read_pieces(alloc, src, limit, buffer.as_mut_slice())
@@ -78,11 +79,11 @@ fn read_pieces<S: Source>(
     requires limit { limit < 2 ^ 63 }
     requires room { 1 ≤ length buffer.old }
     ensures all { IfOk result (IsWhole limit
-        (record { left = S.left src.old; faults = S.read_faults src.old; ends = S.ends src.old })
-        (record { left = S.left src.new; faults = S.read_faults src.new; ends = S.ends src.new })) }
+        (source_view S.left S.read_faults S.ends src.old)
+        (source_view S.left S.read_faults S.ends src.new)) }
     ensures end { IfErr result (HasReadEnd limit
-        (record { left = S.left src.old; faults = S.read_faults src.old; ends = S.ends src.old })
-        (record { left = S.left src.new; faults = S.read_faults src.new; ends = S.ends src.new })) }
+        (source_view S.left S.read_faults S.ends src.old)
+        (source_view S.left S.read_faults S.ends src.new)) }
 {
     let mut all = Bytes::new();
     'more: while all.len() as u64 <= limit {
@@ -110,7 +111,8 @@ mod tests {
         for (limit, fails, want) in [(5, 9, "Ok"), (4, 9, "Long"), (5, 0, "Fault")] {
             let bytes = Bytes::from_slice(alloc, b"a\nb\nc")?;
             let mut src = MemorySource::new(bytes, 2, vec![in alloc; fails]?);
-            let found = match read_to_end(alloc, &mut src, limit) {
+            let end = read_to_end(alloc, &mut src, limit);
+            let found = match &end {
                 Ok(bytes) if bytes.as_slice() == b"a\nb\nc".as_slice() => "Ok",
                 Err(ReadEnd::Long(bytes)) if bytes.len() == 5 => "Long",
                 Err(ReadEnd::Fault) => "Fault",
