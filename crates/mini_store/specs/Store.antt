@@ -27,9 +27,17 @@ pub record StoreView : Type 0 where
   pub state : State
   pub spent : Bool
 
+-- keys can stand in a model
+abbrev pub keys_code : Coded Keys
+keys_code = code (coded_list coded_ℕ) held_row.coded
+
+-- connections can stand in a model
+abbrev pub conns_code : Coded Conns
+conns_code = code coded_ℕ conn_row.coded
+
 -- a state can stand in a model
 abbrev pub state_code : Coded State
-state_code = code_by (Keys × Conns) (coded× (code (coded_list coded_ℕ) held_row.coded) (code coded_ℕ conn_row.coded)) (λ s. (s.keys, s.conns)) (λ p. record { keys = p.0; conns = p.1 }) (λ _. refl)
+state_code = code_by (Keys × Conns) (coded× keys_code conns_code) (λ s. (s.keys, s.conns)) (λ p. record { keys = p.0; conns = p.1 }) (λ _. refl)
 
 -- a store can stand in a model
 abbrev pub view_code : Coded StoreView

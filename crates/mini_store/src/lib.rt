@@ -7,6 +7,7 @@
 mod command;
 mod connection;
 mod held;
+mod integer;
 mod laws;
 mod reply;
 

@@ -1,6 +1,6 @@
 //! A list that grows and shrinks at both ends.
 ghost use Rattle.std.specs.List.{list_any};
-ghost use Rattle.std.specs.Prelude.{◌≡◌, [], ◌∷◌, ◌++◌, IfSome, IfNone, OnOk, OnErr, length, IsTrue, ◌↔◌, bytes_eq};
+ghost use Rattle.std.specs.Prelude.{◌≡◌, [], ◌∷◌, ◌++◌, IfOk, IfSome, IfNone, filter, not, OnOk, OnErr, length, IsTrue, ◌↔◌, bytes_eq};
 
 use resp_wire::Bytes;
 use std::alloc::{AllocError, Global};
@@ -85,7 +85,34 @@ impl<T: Drop> Deque<T> {
     }
 }
 
+impl<T: Drop> Deque<T> {
+    /// Adds the values of another list at the end.
+    pub fn append(&mut self, mut more: Deque<T>) -> Result<(), AllocError>
+        ensures { OnOk result (self.new ≡ self.old ++ more) }
+    {
+        self.kept.append(&mut more.kept)
+    }
+}
+
 impl Deque<Bytes> {
+    /// Copies of these texts.
+    pub fn copied(alloc: Global, texts: &[Bytes]) -> Result<Self, AllocError>
+        ensures { IfOk result (λ made. made ≡ texts.now) }
+    {
+        let mut made = Deque::new(alloc);
+        for text in texts {
+            made.push(text.copy(alloc)?)?;
+        }
+        Ok(made)
+    }
+
+    /// Takes out each value that is this text.
+    pub fn take_out(&mut self, text: &Bytes)
+        ensures { self.new ≡ filter (λ one. not (bytes_eq text.now one)) self.old }
+    {
+        self.kept.retain(|one| *text != *one);
+    }
+
     /// Whether this text is among the values.
     pub fn has(&self, text: &Bytes) -> bool
         ensures { result ≡ list_any (bytes_eq text.now) self.now }

@@ -1,14 +1,15 @@
 //! A table from byte strings to values.
-ghost use Rattle.std.specs.Prelude.{◌≡◌, IfOk, IfErr, IfSome, OnOk, OnErr, Some, None, IsTrue, ◌↔◌};
+ghost use Rattle.std.specs.Prelude.{◌≡◌, ◌<◌, ◌^◌, IfOk, OnOk, OnErr, IsTrue, ◌↔◌, is_some, map as mapped};
 ghost use Rattle.std.specs.Option.{option_copied};
+ghost use Rattle.std.specs.BTreeMap.{IsOrdered};
 ghost use Rattle.std.specs.FinMap as map;
 ghost use Rattle.resp_wire.specs.Order.{bytes_cmp};
 
+use crate::Deque;
 use resp_wire::Bytes;
 use std::alloc::{AllocError, Global};
 use std::collections::BTreeMap;
 use std::marker::Model;
-use std::mem;
 
 /// A table from byte strings to values, seen by contracts as a finite map in byte order.
 #[derive(Debug, Drop)]
@@ -45,18 +46,18 @@ impl<V> Table<V> {
         self.kept.get(key)
     }
 
-    /// Puts a value in the place of one that is there, which takes no memory.
-    pub fn replace(&mut self, key: &Bytes, value: V) -> Result<V, V>
-        ensures there { IfOk result (λ before. map.get self.old key.now ≡ Some before) }
-        ensures ok { OnOk result (self.new ≡ map.insert self.old key.now value) }
-        ensures absent { OnErr result (map.get self.old key.now ≡ None) }
-        ensures back { IfErr result (λ same. same ≡ value) }
-        ensures err { OnErr result (self.new ≡ self.old) }
+    /// Whether the key has a value.
+    pub fn has(&self, key: &Bytes) -> bool
+        ensures { result ≡ is_some (map.get self.now key.now) }
     {
-        let Some(place) = self.kept.get_mut(key) else {
-            return Err(value);
-        };
-        Ok(mem::replace(place, value))
+        self.get(key).is_some()
+    }
+
+    /// The keys in byte order, copied.
+    pub fn names(&self, alloc: Global) -> Result<Deque<Bytes>, AllocError>
+        ensures { IfOk result (λ names. names ≡ map.keys self.now) }
+    {
+        copied_names(alloc, &self.kept)
     }
 }
 
@@ -87,8 +88,43 @@ impl<V: Drop> Table<V> {
 
     /// How many entries there are.
     pub fn len(&self) -> usize
-        ensures { result ≡ map.len self.now }
+        ensures len { result ≡ map.len self.now }
+        ensures small { result < 2 ^ 63 }
     {
         self.kept.len()
     }
+}
+
+impl Table<i64> {
+    /// The entries in byte order of their keys, copied.
+    pub fn scores(&self, alloc: Global) -> Result<Deque<(Bytes, i64)>, AllocError>
+        ensures { IfOk result (λ pairs. pairs ≡ map.entries self.now) }
+    {
+        copied_scores(alloc, &self.kept)
+    }
+}
+
+fn copied_names<V>(alloc: Global, kept: &BTreeMap<Bytes, V>) -> Result<Deque<Bytes>, AllocError>
+    ensures names { IfOk result (λ names. names ≡ mapped (λ e. e.0) kept.now.entries) }
+    ensures ordered { IsOrdered bytes_cmp kept.now }
+{
+    let mut names = Deque::new(alloc);
+    for name in kept.keys() {
+        names.push(name.copy(alloc)?)?;
+    }
+    Ok(names)
+}
+
+fn copied_scores(
+    alloc: Global,
+    kept: &BTreeMap<Bytes, i64>,
+) -> Result<Deque<(Bytes, i64)>, AllocError>
+    ensures pairs { IfOk result (λ pairs. pairs ≡ kept.now.entries) }
+    ensures ordered { IsOrdered bytes_cmp kept.now }
+{
+    let mut pairs = Deque::new(alloc);
+    for (name, score) in kept.iter() {
+        pairs.push((name.copy(alloc)?, *score))?;
+    }
+    Ok(pairs)
 }
