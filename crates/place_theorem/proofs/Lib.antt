@@ -1,0 +1,4 @@
+pub mod Values
+pub mod Full
+pub mod Numerals
+pub mod Machine
