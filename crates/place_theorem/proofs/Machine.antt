@@ -25,11 +25,8 @@ use Rattle.place_model.specs.Blocks.{IsNeutral, Pings, Selects, Measures, Subscr
 use Rattle.place_model.specs.Returns.{push_command, push_commands, take_out}
 use Rattle.place_model.specs.declared.block.Side.{Side}
 use Rattle.place_model.specs.declared.block.Side.TheVariants.{Left, Right}
-use Rattle.place_theorem.proofs.Full.{Full}
+use Rattle.place_theorem.proofs.Full.{Full, QueueKeys}
 use Rattle.place_theorem.proofs.Numerals.{integer_of-decimal}
-
-abbrev pub QueueKeys : Full → List Bytes → Type 0
-QueueKeys σ ks = Each (is_queue σ.names) ks
 
 abbrev pub AllApart : Full → List Bytes → Type 0
 AllApart σ [] = Unit {0}

@@ -1,13 +1,13 @@
 -- Answers tell what they are.
-use Rattle.std.proofs.Common.{◌≡◌, ℕ, ℤ, List, [], ◌∷◌, Bool, true, false, refl, sym, ap, subst, ◌∙◌, None, Some, Option, unwrap_or}
-use Rattle.resp_wire.specs.Layer.{layer}
+use Rattle.std.proofs.Common.{List, None, Some, [], ap, false, refl, sym, true, unwrap_or, ℤ, ◌∙◌, ◌∷◌, ◌≡◌, ◌⊎◌}
 use Rattle.resp_wire.proofs.Layers.{layer-array}
+use Rattle.resp_wire.specs.Layer.{layer}
 use Rattle.resp_wire.specs.declared.value.Value.{Value}
-use Rattle.resp_wire.specs.declared.value.Value.TheOpen.{Value-F}
-use Rattle.resp_wire.specs.declared.value.Value.TheVariants.{Status, Error, Integer, Bulk, NullBulk, Array, NullArray}
-use Rattle.mini_store.specs.Replies.{done, queued, pair, bulks, wrong_type, number}
-use Rattle.place_model.specs.Names.{Bytes}
-use Rattle.place_model.specs.Answers.{bulk_in, bulk_of, number_in, number_of, items_in, items_of, pair_of, pair_among, error_in, is_error}
+use Rattle.resp_wire.specs.declared.value.Value.TheVariants.{Array, Bulk, Error, Integer, NullArray, Status}
+use Rattle.mini_store.specs.Replies.{pair}
+use Rattle.store_laws.proofs.Maps.{same-refl, same_false, same_or}
+use Rattle.place_model.specs.Answers.{bulk_of, items_in, items_of, number_of, pair_of}
+use Rattle.place_model.specs.Names.{Bytes, same}
 
 pub number_of-Integer : (z : ℤ) → number_of (Integer z) ≡ Some z
 unfolding layer
@@ -52,3 +52,28 @@ array_parts vs ws e = some_parts vs ws (sym (items_of-Array vs) ∙ ap items_of 
 
 pub bulk_parts : (v w : Bytes) → Bulk v ≡ Bulk w → v ≡ w
 bulk_parts v w e = cc
+
+pub pair_of-NullArray : pair_of NullArray ≡ None
+pair_of-NullArray = rw items_of-NullArray refl
+
+pub pair_of-Error : (b : Bytes) → pair_of (Error b) ≡ None
+pair_of-Error b = rw (items_of-Error b) refl
+
+pub pair_of-Status : (b : Bytes) → pair_of (Status b) ≡ None
+pair_of-Status b = rw (items_of-Status b) refl
+
+-- a text is the same as itself
+pub itself : (a : Bytes) → same a a ≡ true
+unfolding same
+itself a = same-refl a
+
+pub differ_false : (a b : Bytes) → (a ≡ b → ⊥) → same a b ≡ false
+unfolding same
+differ_false a b n = same_false a b n
+
+pub text_or : (a b : Bytes) → (a ≡ b) ⊎ (a ≡ b → ⊥)
+text_or a b = same_or a b
+
+pub number_of-NullArray : number_of NullArray ≡ None
+unfolding layer
+number_of-NullArray = refl
