@@ -1,5 +1,5 @@
 -- A word as a number, a moment, an integer or a tag. Each has one spelling.
-use Rattle.std.specs.Prelude.{ℕ, ℤ, pos, neg_ℤ, Bool, true, false, List, [], ◌∷◌, Option, Some, None, if◌then◌else◌, ◌==◌, ◌^◌, ◌-◌, ◌&&◌, ◌||◌, nat_eq, nat_le, nat_lt, length, drop, min}
+use Rattle.std.specs.Prelude.{ℕ, ℤ, pos, neg_ℤ, Bool, false, List, [], ◌∷◌, Option, Some, None, if◌then◌else◌, ◌==◌, ◌^◌, ◌-◌, ◌&&◌, ◌||◌, nat_eq, nat_le, nat_lt, length, drop, min}
 use Rattle.std.specs.Char.{is_ascii_digit}
 use Rattle.std.specs.List.{list_all, list_any, before_first, after_first}
 use Rattle.std.specs.Str.Parse.{digits_value}

@@ -1,8 +1,7 @@
-use Rattle.std.proofs.Common.{◌≡◌, ◌<◌, ℕ, ◌+◌, ◌-◌, List, [], ◌∷◌, length, take, drop, Option, Some, None, refl, ap, sym, ◌∙◌, subst, arith, Bool, true, false}
-use Rattle.std.proofs.lemmas.Grind.{common_steps}
+use Rattle.std.proofs.Common.{◌≡◌, ℕ, ◌+◌, ◌-◌, List, ◌∷◌, length, take, drop, Some, ap, sym, ◌∙◌, subst}
 use Rattle.std.proofs.lemmas.List.{take_rest}
-use Rattle.std.specs.Prelude.{◌==◌, if◌then◌else◌, nat_lt}
-use Rattle.std.specs.List.{position, position_or_len, before_first, after_first}
+use Rattle.std.specs.Prelude.{◌==◌}
+use Rattle.std.specs.List.{position, position_or_len, before_first}
 use Rattle.line_text.specs.Lines.{lines_of}
 use Rattle.line_text.proofs.Cuts.{lines_of-first, lines_of-last, place_some, place_none}
 use Rattle.line_text.proofs.line.first_line.Goals as goal

@@ -1,5 +1,5 @@
-use Rattle.std.proofs.Common.{arith, rules, ◌≡◌, ◌≤◌, true, false, List, ℕ, ◌<◌, ◌^◌, Bool, None, Some, refl, sym, ap, ◌∙◌, length, [], ◌∷◌}
-use Rattle.std.specs.Prelude.{Result, Ok, Err, ◌&&◌, if◌then◌else◌, min}
+use Rattle.std.proofs.Common.{arith, rules, ◌≡◌, ◌≤◌, true, List, ℕ, ◌<◌, ◌^◌, None, Some, sym, ap, ◌∙◌, length, [], ◌∷◌}
+use Rattle.std.specs.Prelude.{Err, if◌then◌else◌, min}
 use Rattle.std.proofs.lemmas.Grind.{common_steps}
 use Rattle.std.proofs.lemmas.Str.Parse.{parse_digits}
 use Rattle.std.specs.Str.Parse.{digits_value, ParsesUnsigned}

@@ -1,4 +1,4 @@
-use Rattle.std.proofs.Common.{◌≡◌, ℕ, suc, ◌+◌, ◌-◌, refl, ap, sym, ◌∙◌, arith, rules, lit<, Some, None}
+use Rattle.std.proofs.Common.{ℕ, suc, ◌-◌, ap, sym, ◌∙◌, arith, rules, lit<, Some, None}
 use Rattle.std.proofs.lemmas.Str.Pattern.{split_once_first}
 use Rattle.std.specs.Option.{option_copied}
 use Rattle.line_text.specs.Words.{rest_after}
