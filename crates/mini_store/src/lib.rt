@@ -6,10 +6,12 @@
 
 mod command;
 mod connection;
+mod effect;
 mod held;
 mod integer;
 mod laws;
 mod reply;
+mod words;
 
 pub use command::{Command, Fault};
 pub use connection::{Conn, Queue};
