@@ -9,8 +9,11 @@ mod connection;
 mod effect;
 mod held;
 mod integer;
+mod keyspace;
 mod laws;
+mod lists;
 mod reply;
+mod texts;
 mod words;
 
 pub use command::{Command, Fault};
