@@ -1,1 +1,4 @@
+pub mod Ends
+pub mod Pops
+pub mod Rooms
 pub mod Told

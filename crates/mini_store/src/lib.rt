@@ -6,10 +6,15 @@
 
 mod command;
 mod connection;
+mod effect;
 mod held;
 mod integer;
+mod keyspace;
 mod laws;
+mod lists;
 mod reply;
+mod texts;
+mod words;
 
 pub use command::{Command, Fault};
 pub use connection::{Conn, Queue};
