@@ -1,10 +1,12 @@
 pub mod Changes
+pub mod EntryTexts
 pub mod Kept
 pub mod Lengths
+pub mod MarkedSaid
 pub mod MarkedTrees
 pub mod Said
+pub mod SealedTrees
 pub mod Sixteen
-pub mod MarkedSaid
 pub mod SortedTrees
 pub mod TagTexts
 pub mod Texts
