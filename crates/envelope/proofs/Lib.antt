@@ -1,5 +1,7 @@
+pub mod BodyTexts
 pub mod Changes
 pub mod EntryTexts
+pub mod EnvelopeTags
 pub mod Kept
 pub mod Lengths
 pub mod MarkedSaid

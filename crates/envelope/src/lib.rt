@@ -16,7 +16,7 @@ mod walk;
 pub use entry::{UnackedEntry, read_entry, write_entry};
 pub use envelope::{Envelope, Tree, write};
 pub use fault::{EnvelopeFault, Field};
-pub use laws::{marks_stay, texts_read_back};
+pub use laws::{bodies_stay, envelopes_read, marks_stay, tags_tell, texts_read_back};
 pub use marks::redelivered;
 pub use reading::read;
 pub use sealing::{Draft, seal};
