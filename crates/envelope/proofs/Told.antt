@@ -1,5 +1,5 @@
 -- What a tree says as an envelope, member by member.
-use Rattle.std.proofs.Common.{◌≡◌, ◌≤◌, ℕ, List, length, true, codes, Option, Some, None, option_and_then, Result, Ok, Err, refl, sym, ap, ◌∙◌}
+use Rattle.std.proofs.Common.{◌≡◌, ℕ, List, true, codes, Option, Some, None, option_and_then, Result, Ok, refl, ap, ◌∙◌}
 use Rattle.serde_json.specs.Data.{Data}
 use Rattle.serde_json.specs.Find.{get}
 use Rattle.envelope.specs.declared.fault.Field.TheVariants as field

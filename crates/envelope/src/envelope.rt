@@ -4,6 +4,7 @@ ghost use Rattle.serde_json.specs.View.{view as data_of};
 ghost use Rattle.serde_json.specs.Written.{compact_text};
 ghost use Rattle.envelope.specs.Envelopes.{envelope_at, parts_in, priority_of, said_by};
 ghost use Rattle.envelope.specs.Marks.{is_marked};
+ghost use Rattle.envelope.specs.Shown.{parts_view};
 
 use crate::marks::has_marks;
 use crate::tag::Tag;
@@ -22,6 +23,20 @@ pub(crate) struct Found {
     pub(crate) tag: Tag,
     pub(crate) exchange: String,
     pub(crate) routing_key: String,
+}
+
+impl Found {
+    /// The same once more.
+    pub(crate) fn copy(&self, alloc: Global) -> Result<Found, AllocError>
+        ensures { IfOk result (λ made. parts_view made ≡ parts_view self.now) }
+    {
+        Ok(Found {
+            content: self.content.copy(alloc)?,
+            tag: self.tag,
+            exchange: self.exchange.clone()?,
+            routing_key: self.routing_key.clone()?,
+        })
+    }
 }
 
 /// A message in its envelope, which contracts see as its tree. Its parts and its size are kept beside the tree, so

@@ -2,7 +2,7 @@
 ghost use Rattle.std.specs.Prelude.{◌≡◌, IfOk, codes, false, length, nat_le, option_and_then, option_map};
 ghost use Rattle.serde_json.specs.View.{view as data_of};
 ghost use Rattle.serde_json.specs.Written.{compact_text, has_float};
-ghost use Rattle.envelope.specs.Envelopes.{content_of, envelope_at, envelope_of, json_at, max_text, parts_of, properties_said, tree_at};
+ghost use Rattle.envelope.specs.Envelopes.{are_short, content_of, envelope_at, envelope_of, json_at, max_text, parts_of, properties_said, tree_at};
 ghost use Rattle.envelope.specs.Marks.{marked};
 ghost use Rattle.envelope.specs.Members.{text_at};
 ghost use Rattle.envelope.specs.Reading.{Gives, needed};
@@ -90,7 +90,7 @@ pub(crate) fn envelope_in(alloc: Global, tree: Value) -> Result<Envelope, Envelo
 }
 
 /// The length of a tree's compact text.
-fn size_of(alloc: Global, tree: &Value) -> Result<usize, AllocError>
+pub(crate) fn size_of(alloc: Global, tree: &Value) -> Result<usize, AllocError>
     ensures { IfOk result (λ n. has_float (data_of tree.now) ≡ false
         → n ≡ length (compact_text (data_of tree.now))) }
 {
@@ -134,7 +134,7 @@ fn parts(alloc: Global, tree: &Value) -> Result<Found, EnvelopeFault>
     )?;
     let content = content(alloc, body)?;
     want(
-        said.exchange.len() <= MAX_NAME && said.routing_key.len() <= MAX_NAME,
+        fit_names(said.exchange, said.routing_key),
         EnvelopeFault::TooLong,
     )?;
     Ok(Found {
@@ -143,6 +143,13 @@ fn parts(alloc: Global, tree: &Value) -> Result<Found, EnvelopeFault>
         exchange: String::from_str(alloc, said.exchange)?,
         routing_key: String::from_str(alloc, said.routing_key)?,
     })
+}
+
+/// Whether an exchange and a routing key are short enough.
+pub(crate) fn fit_names(exchange: &str, routing_key: &str) -> bool
+    ensures { result ≡ are_short exchange.now routing_key.now }
+{
+    exchange.len() <= MAX_NAME && routing_key.len() <= MAX_NAME
 }
 
 /// What the properties say, as it stands in the tree.
