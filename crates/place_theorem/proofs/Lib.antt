@@ -5,3 +5,7 @@ pub mod Machine
 pub mod Safe
 pub mod Transactions
 pub mod Effects
+pub mod Kept
+pub mod Settle
+pub mod Whole
+pub mod Sound
