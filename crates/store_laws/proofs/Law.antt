@@ -275,3 +275,11 @@ run_one_told at s c k = (framed (around at s.conns) s.keys c).told k
 
 pub run_queue_told : (at : ℕ) (s : State) (commands : List Command) (k : Bytes) → ToldBy s.keys k (run_all at s.keys s.conns commands).altered (run_queue at s commands).0.keys
 run_queue_told at s commands k = run_all_told at s.keys s.conns k commands
+
+-- that k is kept unless it is one of the altered keys, as told
+pub told_from : (m m' : Keys) (k : Bytes) (ks : List Bytes) → (list_any (bytes_eq k) ks ≡ false → get m' k ≡ get m k) → ToldBy m k ks m'
+told_from m m' k ks kept = go (hit ks (k ∷ [])) refl
+  where
+    go : (b : Bool) → hit ks (k ∷ []) ≡ b → ToldBy m k ks m'
+    go true e = inl e
+    go false e = inr (kept (sym (hit_alone k ks) ∙ e))

@@ -4,3 +4,10 @@ pub mod Law
 pub mod Names
 pub mod Changes
 pub mod Table
+pub mod Connections
+pub mod Settled
+pub mod Elsewhere
+pub mod Answers
+pub mod Elements
+pub mod Fields
+pub mod Ranks

@@ -80,7 +80,7 @@ module _ {K X : Type 0} (R : K → K → Ordering) (o : IsTotalOrder R) (anti : 
   pub get-remove_other : (m : FinMap R X) (k q : K) → q ≢ k → get (remove m k) q ≡ get m q
   get-remove_other m k q n = get-remove o m k q ∙ ap (λ b. cond b None (get m q)) (untied R o anti q k n)
 
-  below_none : (k : K) (es : List (K × X)) → T (below_all R k es) → find R k es ≡ None
+  pub below_none : (k : K) (es : List (K × X)) → T (below_all R k es) → find R k es ≡ None
   below_none k [] h = refl
   below_none k (e ∷ es) h = ap (λ r. cond (is_eq r) (Some e.1) (find R k es)) (less _ (first _ _ h)) ∙ below_none k es (second _ _ h)
 

@@ -1,11 +1,15 @@
--- What a command keeps.
-use Rattle.std.specs.Prelude.{◌≡◌, false, List, bytes_eq}
+-- What commands keep of keys and of connections.
+use Rattle.std.specs.Prelude.{◌≡◌, ℕ, ◌||◌, ◌++◌, false, List, bytes_eq, None, if◌then◌else◌}
 use Rattle.std.specs.List.{list_any}
-use Rattle.std.specs.FinMap.{get}
+use Rattle.std.specs.FinMap.{get, entries}
+use Rattle.resp_wire.specs.declared.value.Value.{Value}
 use Rattle.mini_store.specs.Words.{Bytes}
-use Rattle.mini_store.specs.Keys.{Keys}
+use Rattle.mini_store.specs.Keys.{Keys, is_due, due_keys}
 use Rattle.mini_store.specs.Commands.{Around, run}
+use Rattle.mini_store.specs.Connections.{Conns, no_conn, conn, hit, touch}
+use Rattle.mini_store.specs.Store.{State, run_all, settled}
 use Rattle.mini_store.specs.declared.command.Command.{Command}
+use Rattle.mini_store.specs.declared.connection.Conn.{Conn}
 
 -- the key holds what it held, unless it is one of those that were altered
 abbrev pub IsKept : Keys → List Bytes → Keys → Bytes → Type 0
@@ -14,3 +18,36 @@ IsKept m altered m' k = list_any (bytes_eq k) altered ≡ false → get m' k ≡
 -- a key that isn't among those that a command altered holds what it held
 abbrev pub KeepsOthers : Around → Keys → Command → Bytes → Type 0
 KeepsOthers e m command k = IsKept m (run e m command).altered (run e m command).keys k
+
+-- the same of the commands of a queue, run in a row
+abbrev pub QueueKeepsOthers : ℕ → Keys → Conns → List Command → Bytes → Type 0
+QueueKeepsOthers at m cs commands k = IsKept m (run_all at m cs commands).altered (run_all at m cs commands).keys k
+
+-- a connection after these keys were altered: it is marked where it watches one of them, and at most messages came to be pending
+pub record IsTouched (altered : List Bytes) (before now : Conn) : Type 0 where
+  pub queue : now.queue ≡ before.queue
+  pub watched : now.watched ≡ before.watched
+  pub marked : now.marked ≡ (before.marked || hit altered before.watched)
+  pub channels : now.channels ≡ before.channels
+  pub pending : (more : List Value) × (now.pending ≡ before.pending ++ more)
+
+-- what a step of connection c leaves beside it: keys that aren't told of as altered, and connections that watch none of the altered ones, are as before
+pub record IsElsewhere (before now : State) (c : ℕ) : Type 0 where
+  pub altered : List Bytes
+  pub keys : (k : Bytes) → IsKept before.keys altered now.keys k
+  pub conns : (d : ℕ) → (d ≡ c → ⊥) → IsTouched altered (conn before.conns d) (conn now.conns d)
+
+-- settling drops just what is due at this moment
+abbrev pub DropsDue : State → ℕ → Bytes → Type 0
+DropsDue s at k = get (settled s at).keys k ≡ (if is_due at (get s.keys k) then None else get s.keys k)
+
+-- settling marks just the connections that watch a key that is due
+pub record MarksDue (s : State) (at : ℕ) : Type 0 where
+  pub due : (k : Bytes) → list_any (bytes_eq k) (due_keys at (entries s.keys)) ≡ is_due at (get s.keys k)
+  pub conns : (c : ℕ) → conn (settled s at).conns c ≡ touch (due_keys at (entries s.keys)) (conn s.conns c)
+
+-- a connection that is gone is as one that was never known, and all else is as before
+pub record IsGone (before now : State) (c : ℕ) : Type 0 where
+  pub keys : now.keys ≡ before.keys
+  pub unknown : conn now.conns c ≡ no_conn
+  pub others : (d : ℕ) → (d ≡ c → ⊥) → conn now.conns d ≡ conn before.conns d

@@ -1,15 +1,45 @@
 //! What the commands of the store keep: laws over its definitions, whose functions have empty bodies.
+//!
+//! A command tells which keys it altered. Marks on connections, and so transactions that watch keys, rest on one law: a
+//! key that it doesn't tell of holds what it held.
 #![tactic(auto)]
 
-ghost use Rattle.std.specs.Prelude.{◌≡◌, ℕ};
+ghost use Rattle.std.specs.Prelude.{List, ℕ};
 ghost use Rattle.mini_store.specs.Commands.{Around};
 ghost use Rattle.mini_store.specs.Connections.{Conns};
 ghost use Rattle.mini_store.specs.Keys.{Keys};
-ghost use Rattle.mini_store.specs.Words.{Bytes};
+ghost use Rattle.mini_store.specs.Store.{State, apply_of, gone_of};
+ghost use Rattle.mini_store.specs.Words.{Bytes, Words};
 ghost use Rattle.mini_store.specs.declared.command.Command.{Command};
-ghost use Rattle.store_laws.specs.Laws.{KeepsOthers};
+ghost use Rattle.store_laws.specs.Laws.{DropsDue, IsElsewhere, IsGone, KeepsOthers, MarksDue, QueueKeepsOthers};
 
 /// One law for every command: a key that isn't among those that it altered holds what it held.
 pub fn one_law()
     ensures { (e : Around) (m : Keys) (command : Command) (k : Bytes) → KeepsOthers e m command k }
+{}
+
+/// The same of the commands of a transaction: a key that none of them altered holds what it held.
+pub fn queue_law()
+    ensures { (at : ℕ) (m : Keys) (cs : Conns) (commands : List Command) (k : Bytes) → QueueKeepsOthers at m cs commands k }
+{}
+
+/// Settling at a moment drops the keys whose expiry is reached, and no others.
+pub fn settled_keys()
+    ensures { (s : State) (at : ℕ) (k : Bytes) → DropsDue s at k }
+{}
+
+/// Settling at a moment marks the connections that watch a key whose expiry is reached, and changes nothing else of any.
+pub fn settled_marks()
+    ensures { (s : State) (at : ℕ) → MarksDue s at }
+{}
+
+/// A connection's command, whatever its words: there are keys that were altered, each other key holds what it held, and
+/// each other connection is marked where it watches an altered key, may have further messages pending, and is else as before.
+pub fn step_law()
+    ensures { (s : State) (at c : ℕ) (words : Words) → IsElsewhere s (apply_of s at c words).0 c }
+{}
+
+/// A connection that goes is as one that was never known, and all else is as before.
+pub fn gone_law()
+    ensures { (s : State) (c : ℕ) → IsGone s (gone_of s c) c }
 {}
