@@ -9,3 +9,6 @@ pub mod Kept
 pub mod Settle
 pub mod Whole
 pub mod Sound
+pub mod First
+pub mod Stopped
+pub mod Nowhere
