@@ -12,3 +12,5 @@ pub mod Sound
 pub mod First
 pub mod Stopped
 pub mod Nowhere
+pub mod Pushed
+pub mod Returned

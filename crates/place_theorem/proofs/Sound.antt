@@ -4,22 +4,22 @@ use Rattle.std.proofs.lemmas.Cmp.{nat_cmp_total}
 use Rattle.std.specs.FinMap.{get, get-empty, insert, nat_cmp-IsAntisymmetric}
 use Rattle.mini_store.specs.Keys.{Keys}
 use Rattle.mini_store.specs.Store.{State, apply_of, gone_of}
-use Rattle.store_laws.proofs.Maps.{conn_or, first, get-insert_other, get-insert_same}
+use Rattle.store_laws.proofs.Maps.{conn_or, get-insert_other, get-insert_same}
 use Rattle.place_model.specs.Blocks.{IsMannered}
 use Rattle.place_model.specs.Calls.{Call}
 use Rattle.place_model.specs.Counts.{IsAccepted, IsPlaced, IsSingle, direct_pushes, list_count, start_count}
-use Rattle.place_model.specs.Histories.{Client, History, IsHistoryPrefix, World, after, after_entries, and_then, calls_among, calls_of, conn_of, new_client, next, next_of, onto_calls, own_entries, start_from, table, with_client}
+use Rattle.place_model.specs.Histories.{AllMayCome, Client, History, IsHistoryPrefix, MayCome, World, after, after_entries, and_then, calls_among, calls_of, conn_of, new_client, next, next_of, onto_calls, own_entries, start_from, table, with_client}
 use Rattle.place_model.specs.Names.{Bytes, same}
 use Rattle.place_model.specs.QueueKeys.{Among}
 use Rattle.place_model.specs.Starts.{IsSound, IsSoundStart}
 use Rattle.place_model.specs.declared.history.Entry.{Entry}
 use Rattle.place_model.specs.declared.history.Entry.TheVariants.{Call as Called, Heard, Stop}
 use Rattle.place_theorem.proofs.Full.{Alike, Full, Kinds}
-use Rattle.place_theorem.proofs.Kept.{Inv, new, stopped}
+use Rattle.place_theorem.proofs.Kept.{Inv, stopped}
 use Rattle.place_theorem.proofs.Numerals.{eqb_true, off}
 use Rattle.place_theorem.proofs.Safe.{lists_of, table_of}
 use Rattle.place_theorem.proofs.Transactions.{table_is}
-use Rattle.place_theorem.proofs.Whole.{AllMannered, call_in, inv_after, inv_start, table_get}
+use Rattle.place_theorem.proofs.Whole.{AllMannered, call_in, inv_after, inv_start, legal_part, table_get}
 
 -- ---- what the world keeps of a client are its calls
 
@@ -177,3 +177,18 @@ placed_one σ h p t sound pre accepted single =
     let inv = inv_of σ h p sound pre in
     let n : start_count σ.names p.start t + direct_pushes σ.names (after p) t ≡ 1 = omega (arith, accepted, single.0) in
     (inv.placed t single.0 single.1 ∙ n, inv.alike t)
+
+-- the world after further entries
+pub after-append : {N : Type 0} (w : World) (p rest : List (Entry N)) → after_entries w (p ++ rest) ≡ after_entries (after_entries w p) rest
+after-append w [] rest = refl
+after-append w (e ∷ p) rest = after-append (next w e) p rest
+
+-- an entry that follows a prefix: the invariant before it, that it may come, and the manner of all in the end
+pub entry_of : {N : Type 0} (σ : Full) (h p : History N) (e : Entry N) → IsSound σ.names h → (pre : IsHistoryPrefix (and_then p (e ∷ [])) h)
+    → Inv σ (start_count σ.names p.start) (after p) × MayCome (after p) e × AllMannered σ (after_entries (start_from p.start p.clients) (p.entries ++ e ∷ pre.0))
+entry_of {N = N} σ h p e sound pre =
+    let back = append_assoc p.entries (e ∷ []) pre.0 in
+    let s = parted σ h (and_then p (e ∷ [])) sound pre in
+    let legal : AllMayCome (start_from p.start p.clients) (p.entries ++ e ∷ pre.0) = subst (AllMayCome (start_from p.start p.clients)) back s.legal in
+    let all : AllMannered σ (after_entries (start_from p.start p.clients) (p.entries ++ e ∷ pre.0)) = subst (λ es. AllMannered σ (after_entries (start_from p.start p.clients) es)) back (all_mannered σ (and_then (and_then p (e ∷ [])) pre.0) s) in
+    (inv_after σ (start_count σ.names p.start) (start_from p.start p.clients) p.entries (e ∷ pre.0) (inv_begin σ p.clients p.start p.used s.start) legal all, (legal_part (start_from p.start p.clients) p.entries (e ∷ pre.0) legal).0, all)

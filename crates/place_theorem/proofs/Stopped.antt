@@ -1,27 +1,25 @@
 -- A stop moves one message at most, from its client's hand to what is lost with it.
-use Rattle.std.proofs.Common.{◌+◌, ◌++◌, List, None, Option, Some, [], ap, append_assoc, arith, cond, false, inl, inr, nat_cmp, refl, subst, suc, sym, true, zero, ℕ, ◌∙◌, ◌∷◌, ◌≡◌, ◌≢◌, ◌≤◌, ◌⊎◌}
+use Rattle.std.proofs.Common.{◌+◌, None, Option, Some, [], ap, arith, cond, false, inl, inr, nat_cmp, refl, subst, suc, sym, true, zero, ℕ, ◌∙◌, ◌∷◌, ◌≡◌, ◌≢◌, ◌≤◌, ◌⊎◌}
 use Rattle.std.proofs.lemmas.Cmp.{nat_cmp_total}
 use Rattle.std.specs.FinMap.{entries, get, insert, nat_cmp-IsAntisymmetric}
 use Rattle.mini_store.specs.Keys.{Keys}
 use Rattle.mini_store.specs.Store.{gone_of}
 use Rattle.store_laws.proofs.Maps.{get-insert_same}
 use Rattle.place_model.specs.Counts.{copy_count, copy_weight, direct_pushes, end_weight, hand_weight, in_held, loss_weight, over_clients, place_count, push_weight, start_count, table_count, total}
-use Rattle.place_model.specs.Histories.{AllMayCome, Client, History, IsHistoryPrefix, World, after, after_entries, and_then, next, start_from, with_client}
+use Rattle.place_model.specs.Histories.{Client, History, IsHistoryPrefix, World, after, and_then, start_from, with_client}
 use Rattle.place_model.specs.Names.{Bytes}
 use Rattle.place_model.specs.PlaceOf.{StopMoves, by_counts, first_place, first_with, if_any, list_place, or_else}
 use Rattle.place_model.specs.Seen.{seen, tag_weight}
 use Rattle.place_model.specs.Starts.{IsSound}
-use Rattle.place_model.specs.declared.history.Entry.{Entry}
 use Rattle.place_model.specs.declared.history.Entry.TheVariants.{Stop}
 use Rattle.place_model.specs.declared.place.Place.{Place}
 use Rattle.place_model.specs.declared.place.Place.TheVariants.{Ended, Hand, Lost, Never, Unacked}
 use Rattle.place_theorem.proofs.First.{first_none, first_only, first_same}
 use Rattle.place_theorem.proofs.Full.{Full}
-use Rattle.place_theorem.proofs.Kept.{Inv, part, stopped, stopped_is, sums, w'}
-use Rattle.place_theorem.proofs.Sound.{inv_of, parted}
+use Rattle.place_theorem.proofs.Kept.{Inv, part, stopped, stopped_is, sums}
+use Rattle.place_theorem.proofs.Sound.{after-append, entry_of}
 use Rattle.place_theorem.proofs.Transactions.{tag_other, tag_self}
 use Rattle.place_theorem.proofs.Values.{text_or}
-use Rattle.place_theorem.proofs.Whole.{legal_part}
 
 pick_any : (n : ℕ) (a b : Place) → n ≡ 0 → if_any n a b ≡ b
 pick_any zero a b e = refl
@@ -159,19 +157,11 @@ module _ (σ : Full) (m : Keys) (w : World) (inv : Inv σ (start_count σ.names 
   pub stop_moves : (after_stop.store.keys ≡ w.store.keys) × ((hand : Option Bytes) × ((t : Bytes) → (place_at σ m after_stop t ≡ place_at σ m w t) ⊎ ((hand ≡ Some t) × (place_at σ m w t ≡ Hand c) × (place_at σ m after_stop t ≡ Lost c))))
   stop_moves = (refl, ((seen σ.names cl.calls).hand, moves_one))
 
--- the world after further entries
-pub after-append : {N : Type 0} (w : World) (p rest : List (Entry N)) → after_entries w (p ++ rest) ≡ after_entries (after_entries w p) rest
-after-append w [] rest = refl
-after-append w (e ∷ p) rest = after-append (next w e) p rest
-
 pub a_stop : {N : Type 0} (σ : Full) (h p : History N) (c : ℕ) → IsSound σ.names h → IsHistoryPrefix (and_then p (Stop c ∷ [])) h → StopMoves σ.names p c
 a_stop {N = N} σ h p c sound pre =
     let q : History N = and_then p (Stop c ∷ []) in
-    let inv = inv_of σ h p sound ((Stop c ∷ []) ++ pre.0, (λ i. record p { entries = sym (append_assoc p.entries (Stop c ∷ []) pre.0) i }) ∙ pre.1) in
-    let s = parted σ h q sound pre in
-    let legal : AllMayCome (start_from p.start p.clients) (p.entries ++ Stop c ∷ pre.0) = subst (AllMayCome (start_from p.start p.clients)) (append_assoc p.entries (Stop c ∷ []) pre.0) s.legal in
-    let may = (legal_part (start_from p.start p.clients) p.entries (Stop c ∷ pre.0) legal).0 in
-    let w' = with_client (gone_of (after p).store c) (after p) c (record may.0 { stopped = true }) in
-    let is : after q ≡ w' = after-append (start_from p.start p.clients) p.entries (Stop c ∷ []) ∙ stopped_is σ (start_count σ.names p.start) (after p) inv c may.0 may.1 may.2 N in
+    let e = entry_of σ h p (Stop c) sound pre in
+    let w' = with_client (gone_of (after p).store c) (after p) c (record e.1.0 { stopped = true }) in
+    let is : after q ≡ w' = after-append (start_from p.start p.clients) p.entries (Stop c ∷ []) ∙ stopped_is σ (start_count σ.names p.start) (after p) e.0 c e.1.0 e.1.1 e.1.2 N in
     subst (λ v. (v.store.keys ≡ (after p).store.keys) × ((hand : Option Bytes) × ((t : Bytes) → (place_at σ p.start v t ≡ place_at σ p.start (after p) t) ⊎ ((hand ≡ Some t) × (place_at σ p.start (after p) t ≡ Hand c) × (place_at σ p.start v t ≡ Lost c)))))
-    (sym is) (stop_moves σ p.start (after p) inv c may.0 may.1 may.2)
+    (sym is) (stop_moves σ p.start (after p) e.0 c e.1.0 e.1.1 e.1.2)

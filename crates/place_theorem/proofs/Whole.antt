@@ -3,12 +3,12 @@ use Rattle.std.proofs.Common.{◌+◌, ◌++◌, List, None, Option, Ordering, S
 use Rattle.std.proofs.lemmas.Cmp.{nat_cmp_total}
 use Rattle.std.specs.Cmp.{IsTotalOrder}
 use Rattle.std.specs.FinMap.{IsAntisymmetric, empty, entries, entries-from_sorted, from_sorted, get, get-empty, get-from_sorted, insert, nat_cmp-IsAntisymmetric, same_map}
+use Rattle.resp_wire.specs.declared.value.Value.{Value}
 use Rattle.mini_store.specs.Connections.{conn, or_no_conn}
-use Rattle.mini_store.specs.Keys.{Keys}
-use Rattle.mini_store.specs.Store.{State, apply_of, gone_of, serve, settled}
+use Rattle.mini_store.specs.Keys.{Keys, live_at}
+use Rattle.mini_store.specs.Store.{State, apply_of, gone_of, quiet, serve, settled}
 use Rattle.mini_store.specs.Words.{Words, command_of}
 use Rattle.mini_store.specs.declared.reply.Reply.{Reply}
-use Rattle.store_laws.proofs.Changes.{held}
 use Rattle.store_laws.proofs.Live.{live}
 use Rattle.store_laws.proofs.Maps.{conn_or, get-insert_other, get-insert_same, total-insert}
 use Rattle.place_model.specs.Blocks.{IsMannered}
@@ -20,11 +20,10 @@ use Rattle.place_model.specs.Seen.{nothing_seen, seen, tag_weight}
 use Rattle.place_model.specs.declared.history.Entry.{Entry}
 use Rattle.place_model.specs.declared.history.Entry.TheVariants.{Call as Called, Heard, Stop}
 use Rattle.place_theorem.proofs.Full.{Alike, Full, Kinds}
-use Rattle.place_theorem.proofs.Kept.{Inv, called, new, stopped, stopped_is, w'}
+use Rattle.place_theorem.proofs.Kept.{Inv, called, stopped, stopped_is}
 use Rattle.place_theorem.proofs.Machine.{Cursor, Idle, Runs, manner_runs, runs_split}
 use Rattle.place_theorem.proofs.Safe.{Stands, lists_of, table_of}
 use Rattle.place_theorem.proofs.Settle.{answer_is, hush, inv_hushed, inv_settled, settle, state_is}
-use Rattle.place_theorem.proofs.Transactions.{last}
 
 -- ---- the start
 
@@ -193,3 +192,10 @@ inv_after σ base w (e ∷ p) rest inv legal all = inv_after σ base (next w e) 
 pub legal_part : {N : Type 0} (w : World) (p rest : List (Entry N)) → AllMayCome w (p ++ rest) → AllMayCome (after_entries w p) rest
 legal_part w [] rest h = h
 legal_part w (e ∷ p) rest h = legal_part (next w e) p rest h.1
+
+pub ready_keys : (w : World) (at c : ℕ) → (ready w at c).store.keys ≡ live_at at w.store.keys
+ready_keys w at c = go (conn (settled w.store at).conns c).pending
+  where
+    go : (ms : List Value) → (quiet (settled w.store at) c (conn (settled w.store at).conns c) ms).keys ≡ live_at at w.store.keys
+    go [] = refl
+    go (x ∷ xs) = refl
