@@ -14,3 +14,5 @@ pub mod Stopped
 pub mod Nowhere
 pub mod Pushed
 pub mod Returned
+pub mod Standing
+pub mod Origins

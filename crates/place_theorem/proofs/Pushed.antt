@@ -1,5 +1,5 @@
 -- The lists after the pushes of a return.
-use Rattle.std.proofs.Common.{List, [], ap, inl, inr, refl, subst, sym, ℕ, ◌∙◌, ◌∷◌, ◌≡◌, ◌≢◌}
+use Rattle.std.proofs.Common.{List, [], ap, inl, inr, refl, subst, sym, true, ℕ, ◌∙◌, ◌∷◌, ◌≡◌, ◌≢◌}
 use Rattle.std.specs.FinMap.{get}
 use Rattle.mini_store.specs.Commands.{Around, run}
 use Rattle.mini_store.specs.Connections.{Conns, around, posted}
@@ -10,6 +10,7 @@ use Rattle.store_laws.proofs.Law.{altering, framed}
 use Rattle.place_model.specs.Names.{Bytes, same}
 use Rattle.place_model.specs.QueueKeys.{Among, Differ, IsAway}
 use Rattle.place_model.specs.Returns.{gain, push_command, push_commands}
+use Rattle.place_model.specs.Setting.{is_queue}
 use Rattle.place_model.specs.Starts.{IsListOrNone, elements_at, elements_of}
 use Rattle.place_model.specs.declared.block.Side.{Side}
 use Rattle.place_model.specs.declared.block.Side.TheVariants.{Left, Right}
@@ -51,3 +52,8 @@ pushes_gain σ at cs m side v k (a ∷ ks) kinds qs far (inr is) =
     let cs' = posted (push_command side a v) cs in
     pushes_gain σ at cs' m' side v k ks (push_done σ e m side a v kinds qs.0).after.kinds qs.1 far.1 is
     ∙ ap (λ o. gain side v (elements_of (value_of o))) (push_away e m side v a k (among_not a k ks far.0 is))
+
+pub among_queue : (σ : Full) (k : Bytes) (qs : List Bytes) → QueueKeys σ qs → Among k qs → is_queue σ.names k ≡ true
+among_queue σ k [] h is = absurd is
+among_queue σ k (a ∷ qs) h (inl z) = ap (is_queue σ.names) z ∙ h.0
+among_queue σ k (a ∷ qs) h (inr is) = among_queue σ k qs h.1 is

@@ -33,10 +33,10 @@ use Rattle.place_model.specs.Starts.{IsSound, elements_at, elements_of}
 use Rattle.place_model.specs.declared.block.Side.{Side}
 use Rattle.place_model.specs.declared.history.Entry.TheVariants.{Call as Called}
 use Rattle.place_theorem.proofs.Effects.{ran}
-use Rattle.place_theorem.proofs.Full.{Alike, Full, Kinds, QueueKeys, keys_of}
+use Rattle.place_theorem.proofs.Full.{Alike, Full, Kinds, keys_of}
 use Rattle.place_theorem.proofs.Kept.{Inv}
 use Rattle.place_theorem.proofs.Machine.{Asks, At, Begins, Cursor, Ends, Fails, Finds, Finds_none, Finds_other, Idle, IsTalk, Leaves, Passes_by, Publishes, Queues, Reads, Refuses, Runs, Step, Talks, Watches, Whole, Whole_end, Whole_free, Whole_pop, Whole_return, is_aside, runs_split, step_live}
-use Rattle.place_theorem.proofs.Pushed.{pushes_away, pushes_gain}
+use Rattle.place_theorem.proofs.Pushed.{among_queue, pushes_away, pushes_gain}
 use Rattle.place_theorem.proofs.Safe.{AskedIs, Stands, conn_in, queue_in}
 use Rattle.place_theorem.proofs.Settle.{get-lasting, index_kept, state_is, unacked_kept}
 use Rattle.place_theorem.proofs.Sound.{after-append, entry_of}
@@ -104,17 +104,12 @@ module _ (σ : Full) (at : ℕ) (cs : Conns) (s : State) (c : ℕ) (sn : Seen) (
   not_queue : (k : Bytes) → is_queue σ.names k ≡ true → (k ≢ σ.names.unacked) × (k ≢ σ.names.index)
   not_queue k q = ((λ z. queue_not_unacked (keys_of σ) k q (sym z)), (λ z. queue_not_index (keys_of σ) k q (sym z)))
 
-  among_queue : (k : Bytes) (qs : List Bytes) → QueueKeys σ qs → Among k qs → is_queue σ.names k ≡ true
-  among_queue k [] h is = absurd is
-  among_queue k (a ∷ qs) h (inl z) = ap (is_queue σ.names) z ∙ h.0
-  among_queue k (a ∷ qs) h (inr is) = among_queue k qs h.1 is
-
   pub taken : Taken σ s.keys last side t v ks
   taken = record {
     no_field = field_now t ∙ out.this;
     no_member = sym (same_alike t) ∙ field_now t ∙ out.this;
     gained = λ k is.
-        let n = not_queue k (among_queue k ks (σ.laws.keys_in_are u ms) is) in
+        let n = not_queue k (among_queue σ k ks (σ.laws.keys_in_are u ms) is) in
         pushes_gain σ at cs mid side v k ks out.kinds (σ.laws.keys_in_are u ms) (σ.laws.keys_in_differ u ms) is ∙ ap (λ o. gain side v (elements_of (value_of o))) (between k n.0 n.1);
     others = λ x n.
         let f : is_field σ.names last x ≡ is_field σ.names s.keys x = field_now x ∙ out.others x n in
@@ -132,16 +127,11 @@ whole_from σ m m' at side t u v ms kinds carries was taken =
       carries = carries;
       no_field = taken.no_field;
       no_member = taken.no_member;
-      gained = λ k is. taken.gained k is ∙ ap (λ o. gain side v (elements_of (value_of o))) (get-lasting σ m at kinds k (kinds.lists_last k (queue k (σ.names.keys_in u ms) (σ.laws.keys_in_are u ms) is)));
+      gained = λ k is. taken.gained k is ∙ ap (λ o. gain side v (elements_of (value_of o))) (get-lasting σ m at kinds k (kinds.lists_last k (among_queue σ k (σ.names.keys_in u ms) (σ.laws.keys_in_are u ms) is)));
       others = λ x n. ((taken.others x n).0 ∙ ap (λ o. has_field (value_of o) x) ua, (taken.others x n).1 ∙ ap (λ o. has_member (value_of o) x) ia);
       elsewhere = λ k far. go k (is_due at (get m k)) refl (taken.elsewhere k far ∙ get-live_at at m k);
     }
   where
-    queue : (k : Bytes) (qs : List Bytes) → QueueKeys σ qs → Among k qs → is_queue σ.names k ≡ true
-    queue k [] h is = absurd is
-    queue k (a ∷ qs) h (inl z) = ap (is_queue σ.names) z ∙ h.0
-    queue k (a ∷ qs) h (inr is) = queue k qs h.1 is
-
     go : (k : Bytes) (b : Bool) → is_due at (get m k) ≡ b → get m' k ≡ (if is_due at (get m k) then None else get m k) → (get m' k ≡ get m k) ⊎ ((is_due at (get m k) ≡ true) × (get m' k ≡ None))
     go k true b is = inr (b, is ∙ ap (λ x. if x then None else get m k) b)
     go k false b is = inl (is ∙ ap (λ x. if x then None else get m k) b)
