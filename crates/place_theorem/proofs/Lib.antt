@@ -5,3 +5,14 @@ pub mod Machine
 pub mod Safe
 pub mod Transactions
 pub mod Effects
+pub mod Kept
+pub mod Settle
+pub mod Whole
+pub mod Sound
+pub mod First
+pub mod Stopped
+pub mod Nowhere
+pub mod Pushed
+pub mod Returned
+pub mod Standing
+pub mod Origins

@@ -1,7 +1,7 @@
 -- The decimal text of a number is read as that number.
-use Rattle.std.proofs.Common.{◌≡◌, ◌≢◌, ℕ, zero, suc, ◌+◌, ◌-◌, ◌*◌, ◌/◌, ◌%◌, ◌^◌, ◌<◌, ◌≤◌, List, [], ◌∷◌, ◌++◌, Bool, true, false, ◌&&◌, nat_le, nat_lt, nat_eq, if◌then◌else◌, refl, sym, ap, subst, ◌∙◌, arith, None, Some, Option, decimal}
+use Rattle.std.proofs.Common.{◌≡◌, ◌≢◌, ℕ, zero, suc, ◌+◌, ◌-◌, ◌*◌, ◌/◌, ◌%◌, ◌^◌, ◌<◌, ◌≤◌, List, [], ◌∷◌, ◌++◌, Bool, true, false, ◌&&◌, nat_le, nat_lt, nat_eq, ◌==◌, if◌then◌else◌, refl, sym, ap, subst, ◌∙◌, arith, None, Some, Option, decimal}
 use Rattle.std.specs.Prelude.{ℤ, pos}
-use Rattle.std.proofs.lemmas.Bool.Decides.{nat_tests}
+use Rattle.std.proofs.lemmas.Bool.Decides.{nat_tests, Decides-eqb}
 use Rattle.std.proofs.lemmas.Fmt.{decimal_by_steps, decimal_digit}
 use Rattle.mini_store.specs.Integers.{digits_onto, magnitude_of, plain_integer, integer_of}
 
@@ -80,3 +80,9 @@ integer_of-decimal (suc n) h =
     let p : 1 ≤ suc n = omega arith in
     let t : nat_lt (suc n) (2 ^ 63) ≡ true = grind (arith, nat_tests, h) in
     not_minus (suc n) (decimal (suc n)) r p ∙ ap plain_integer (magnitude (suc n) (decimal (suc n)) r p) ∙ rw t refl
+
+pub eqb_true : (m n : ℕ) → (m == n) ≡ true → m ≡ n
+eqb_true m n e = (Decides-eqb m n).0 e
+
+pub off : (m n : ℕ) → (m == n) ≡ false → m ≢ n
+off m n e i = let h : (m == n) ≡ true = (Decides-eqb m n).1 i in cc (e, h)

@@ -34,7 +34,7 @@ both_self : (b : Bool) → (b && b) ≡ b
 both_self true = refl
 both_self false = refl
 
-table_is : (σ : Full) (m : Keys) → Alike σ m → (t : Bytes) → table_of σ m t ≡ cond (is_field σ.names m t) 1 0
+pub table_is : (σ : Full) (m : Keys) → Alike σ m → (t : Bytes) → table_of σ m t ≡ cond (is_field σ.names m t) 1 0
 table_is σ m a t = ap (λ b. cond (is_field σ.names m t && b) 1 0) (sym (a t)) ∙ ap (λ b. cond b 1 0) (both_self (is_field σ.names m t))
 
 pub tag_self : (t : Bytes) → tag_weight t (Some t) ≡ 1

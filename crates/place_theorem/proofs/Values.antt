@@ -1,8 +1,9 @@
 -- Answers tell what they are.
 use Rattle.std.proofs.Common.{List, None, Some, [], ap, false, refl, sym, true, unwrap_or, ℤ, ◌∙◌, ◌∷◌, ◌≡◌, ◌⊎◌}
-use Rattle.resp_wire.proofs.Layers.{layer-array}
+use Rattle.resp_wire.proofs.Layers.{layer-array, layers_tell}
 use Rattle.resp_wire.specs.Layer.{layer}
 use Rattle.resp_wire.specs.declared.value.Value.{Value}
+use Rattle.resp_wire.specs.declared.value.Value.TheOpen.{Value-F}
 use Rattle.resp_wire.specs.declared.value.Value.TheVariants.{Array, Bulk, Error, Integer, NullArray, Status}
 use Rattle.mini_store.specs.Replies.{pair}
 use Rattle.store_laws.proofs.Maps.{same-refl, same_false, same_or}
@@ -77,3 +78,11 @@ text_or a b = same_or a b
 pub number_of-NullArray : number_of NullArray ≡ None
 unfolding layer
 number_of-NullArray = refl
+
+-- an answer with values is their array
+pub array_of : (v : Value) (xs : List Value) → items_of v ≡ Some xs → v ≡ Array xs
+array_of v xs e = go (layer v) refl e
+  where
+    go : (l : Value-F Value) → layer v ≡ l → items_in l ≡ Some xs → v ≡ Array xs
+    go (Value-F.Array ys) is f = layers_tell v (Array xs) (is ∙ ap (λ zs. Value-F.Array zs) (some_parts ys xs f) ∙ sym (layer-array xs))
+    go other is f = absurd (cc f)
