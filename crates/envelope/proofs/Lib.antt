@@ -1,10 +1,14 @@
+pub mod BodyTexts
 pub mod Changes
+pub mod EntryTexts
+pub mod EnvelopeTags
 pub mod Kept
 pub mod Lengths
+pub mod MarkedSaid
 pub mod MarkedTrees
 pub mod Said
+pub mod SealedTrees
 pub mod Sixteen
-pub mod MarkedSaid
 pub mod SortedTrees
 pub mod TagTexts
 pub mod Texts

@@ -1,5 +1,5 @@
 -- A marked tree says what the tree says, and is marked.
-use Rattle.std.proofs.Common.{◌≡◌, ℕ, ◌≤◌, List, length, Bool, true, false, ◌&&◌, codes, Less, Equal, Greater, nat_cmp, Option, Some, None, option_map, option_and_then, Result, Ok, refl, sym, ap, subst, ◌∙◌, arith, bytes_eq, true≢false}
+use Rattle.std.proofs.Common.{◌≡◌, ℕ, ◌≤◌, List, length, true, false, codes, Less, Equal, Greater, nat_cmp, Option, Some, None, option_map, option_and_then, Ok, refl, sym, ap, subst, ◌∙◌, arith, bytes_eq, true≢false}
 use Rattle.std.specs.Option.{option_map_or}
 use Rattle.std.specs.Ordering.{match_ordering}
 use Rattle.std.specs.Cmp.Lexicographic.{slice_cmp}
@@ -7,15 +7,15 @@ use Rattle.std.specs.FinMap.{IsAntisymmetric, nat_cmp-IsAntisymmetric, slice_cmp
 use Rattle.std.proofs.lemmas.Slice.Eq.{bytes_eq-Decides}
 use Rattle.serde_json.specs.Data.{Data, null, boolean, number, string, array, object, Members, no_members, member, put, depth}
 use Rattle.serde_json.specs.Find.{get, get_member, as_str, as_number, as_bool}
-use Rattle.serde_json.specs.Written.{compact_text, has_float}
+use Rattle.serde_json.specs.Written.{compact_text}
 use Rattle.serde_json.proofs.Views.{get_member-put, get_member-put_other}
 use Rattle.envelope.specs.Marks.{change, on_object, with_member, marked_object, marked, is_marked, is_marked_in_headers, is_marked_in_info}
 use Rattle.envelope.specs.Members.{text_at, object_at, if_object, is_word, is_word_any_case, is_nothing, is_true_at}
-use Rattle.envelope.specs.Envelopes.{Parts, said_by, parts_or_none, parts_in, priority_of, held_number, max_bytes, max_text}
+use Rattle.envelope.specs.Envelopes.{Parts, said_by, priority_of, held_number, max_bytes, max_text}
 use Rattle.envelope.specs.Tags.{tag_of_text}
 use Rattle.envelope.proofs.Kept.{depth-marked, float-marked}
 use Rattle.envelope.proofs.MarkedTrees.{marked_twice}
-use Rattle.envelope.proofs.Said.{IsPlain, IsSaid, said_is, said_from}
+use Rattle.envelope.proofs.Said.{said_is, said_from}
 use Rattle.envelope.proofs.Told.{IsTold, IsPropertiesTold, told_by, told_from}
 
 anti : IsAntisymmetric (slice_cmp nat_cmp)

@@ -1,10 +1,13 @@
 //! The two marks of a message that is delivered again.
-ghost use Rattle.std.specs.Prelude.{◌≡◌, IfOk, OnOk, codes, option_and_then, option_map};
+ghost use Rattle.std.specs.Prelude.{◌≡◌, IfOk, OnOk, codes, option_and_then, option_map, true};
 ghost use Rattle.serde_json.specs.Find.{get};
 ghost use Rattle.serde_json.specs.View.{view};
+ghost use Rattle.envelope.specs.Envelopes.{parts_in, priority_of};
 ghost use Rattle.envelope.specs.Marks.{is_marked, is_marked_in_headers, is_marked_in_info, marked, marked_object, with_member};
 
+use crate::envelope::Envelope;
 use crate::find::is_set_at;
+use crate::reading::size_of;
 use serde_json::Value;
 use std::alloc::{AllocError, Global};
 
@@ -86,4 +89,18 @@ fn delivery_info(tree: &Value) -> Option<&Value>
         ≡ option_and_then (get (codes "delivery_info")) (get (codes "properties") (view tree.now)) }
 {
     tree.get("properties")?.get("delivery_info")
+}
+
+/// The envelope of a message that is delivered again: both redelivered marks are set, and nothing else changes.
+pub fn redelivered(alloc: Global, e: &Envelope) -> Result<Envelope, AllocError>
+    ensures tree { IfOk result (λ made. view made ≡ marked (view e.now)) }
+    ensures is_marked { IfOk result (λ made. is_marked (view made) ≡ true) }
+    // The content, the tag, the exchange and the routing key are kept, and so is the priority.
+    ensures parts { IfOk result (λ made. parts_in (view made) ≡ parts_in (view e.now)) }
+    ensures priority { IfOk result (λ made. priority_of (view made) ≡ priority_of (view e.now)) }
+{
+    let found = e.found.copy(alloc)?;
+    let tree = marked_copy(alloc, &e.tree)?;
+    let size = size_of(alloc, &tree)?;
+    Ok(Envelope { tree, found, size })
 }

@@ -2,7 +2,7 @@
 ghost use Rattle.std.specs.Prelude.{◌≡◌, IfOk, codes, false, length, nat_le, option_and_then, option_map};
 ghost use Rattle.serde_json.specs.View.{view as data_of};
 ghost use Rattle.serde_json.specs.Written.{compact_text, has_float};
-ghost use Rattle.envelope.specs.Envelopes.{content_of, envelope_at, envelope_of, json_at, max_text, parts_of, properties_said, tree_at};
+ghost use Rattle.envelope.specs.Envelopes.{are_short, content_of, envelope_at, envelope_of, json_at, max_text, parts_of, properties_said, tree_at};
 ghost use Rattle.envelope.specs.Marks.{marked};
 ghost use Rattle.envelope.specs.Members.{text_at};
 ghost use Rattle.envelope.specs.Reading.{Gives, needed};
@@ -11,7 +11,7 @@ ghost use Rattle.envelope.specs.Tags.{tag_of_text};
 ghost use Rattle.envelope.specs.declared.fault.EnvelopeFault.TheVariants.{BadBody, Missing, NotJson};
 ghost use Rattle.envelope.specs.declared.fault.Field.TheVariants as field;
 
-use crate::envelope::{Envelope, Found};
+use crate::envelope::{Envelope, Found, Tree};
 use crate::fault::{EnvelopeFault, Field};
 use crate::find::{
     is_nothing_at, is_word_any_case_at, is_word_at, needed_object, needed_text, text, want,
@@ -49,7 +49,7 @@ pub fn read(alloc: Global, bytes: &[u8]) -> Result<Envelope, EnvelopeFault>
     ensures { Gives data_of result (envelope_at bytes.now) }
 {
     let tree = tree_of(alloc, bytes)?;
-    envelope_in(alloc, tree)
+    of_tree(alloc, tree)
 }
 
 /// The tree of the bytes.
@@ -75,9 +75,12 @@ pub(crate) fn json(alloc: Global, bytes: &[u8]) -> Result<Value, EnvelopeFault>
     }
 }
 
-/// The envelope of a tree.
+/// The envelope of a JSON tree, as where a tree was changed.
+///
+/// # Errors
+/// As `read`, from `TooDeep` on.
 #[tactic(auto, unfolding(crate::specs::Envelopes::envelope_of, crate::specs::Envelopes::said_by))]
-pub(crate) fn envelope_in(alloc: Global, tree: Value) -> Result<Envelope, EnvelopeFault>
+pub fn of_tree(alloc: Global, tree: Tree) -> Result<Envelope, EnvelopeFault>
     ensures { Gives data_of result (envelope_of (data_of tree)) }
 {
     want(nests_within(&tree, MAX_LEVELS), EnvelopeFault::TooDeep)?;
@@ -90,7 +93,7 @@ pub(crate) fn envelope_in(alloc: Global, tree: Value) -> Result<Envelope, Envelo
 }
 
 /// The length of a tree's compact text.
-fn size_of(alloc: Global, tree: &Value) -> Result<usize, AllocError>
+pub(crate) fn size_of(alloc: Global, tree: &Value) -> Result<usize, AllocError>
     ensures { IfOk result (λ n. has_float (data_of tree.now) ≡ false
         → n ≡ length (compact_text (data_of tree.now))) }
 {
@@ -134,7 +137,7 @@ fn parts(alloc: Global, tree: &Value) -> Result<Found, EnvelopeFault>
     )?;
     let content = content(alloc, body)?;
     want(
-        said.exchange.len() <= MAX_NAME && said.routing_key.len() <= MAX_NAME,
+        fit_names(said.exchange, said.routing_key),
         EnvelopeFault::TooLong,
     )?;
     Ok(Found {
@@ -143,6 +146,13 @@ fn parts(alloc: Global, tree: &Value) -> Result<Found, EnvelopeFault>
         exchange: String::from_str(alloc, said.exchange)?,
         routing_key: String::from_str(alloc, said.routing_key)?,
     })
+}
+
+/// Whether an exchange and a routing key are short enough.
+pub(crate) fn fit_names(exchange: &str, routing_key: &str) -> bool
+    ensures { result ≡ are_short exchange.now routing_key.now }
+{
+    exchange.len() <= MAX_NAME && routing_key.len() <= MAX_NAME
 }
 
 /// What the properties say, as it stands in the tree.

@@ -36,15 +36,11 @@ impl Tag {
 
     /// The text of the tag, 36 bytes of ASCII.
     pub fn text(self) -> [u8; 36]
-        ensures { result ≡ tag_text self.0 }
+        ensures value { result ≡ tag_text self.0 }
+        // The text is read as this tag.
+        ensures read { tag_of_text result ≡ Some self.0 }
     {
-        let mut buffer = [0u8; 36];
-        let text = Uuid::from_u128(self.0)
-            .hyphenated()
-            .encode_lower(&mut buffer);
-        let mut out = [0u8; 36];
-        out.copy_from_slice(text.as_bytes());
-        out
+        text_of_number(self.0)
     }
 
     /// The tag whose text the bytes are. None where they are no tag's text: upper case, braces, a `urn:uuid:` front
@@ -67,4 +63,18 @@ impl Tag {
             None
         }
     }
+}
+
+/// The text of a tag's number.
+fn text_of_number(number: u128) -> [u8; 36]
+    ensures value { result ≡ tag_text number }
+    ensures read { tag_of_text result ≡ Some number }
+{
+    let mut buffer = [0u8; 36];
+    let text = Uuid::from_u128(number)
+        .hyphenated()
+        .encode_lower(&mut buffer);
+    let mut out = [0u8; 36];
+    out.copy_from_slice(text.as_bytes());
+    out
 }

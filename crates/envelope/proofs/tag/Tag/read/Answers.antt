@@ -18,7 +18,7 @@ returns-in_default-parse_str-clause-exact c = λ t fits. (
 
 pub returns-then-eq-clause-exact : goal.returns-then-eq-clause-exact
 returns-then-eq-clause-exact c = λ t fits.
-    let same : c.args.bytes.now ≡ tag_text c.as_u128.result = (bytes_eq-Decides c.args.bytes.now c.as_slice.result.now).0 (sym c.eq.ensures ∙ c.if-eq.true) ∙ c.as_slice.ensures ∙ c.text.ensures in (
+    let same : c.args.bytes.now ≡ tag_text c.as_u128.result = (bytes_eq-Decides c.args.bytes.now c.as_slice.result.now).0 (sym c.eq.ensures ∙ c.if-eq.true) ∙ c.as_slice.ensures ∙ c.text.ensures.value in (
       λ e. same ∙ ap tag_text (tag_is c.as_u128.result t.0 e),
       λ e. same_tag _ t.0 (c.as_u128.ensures ∙ tag_again t.0 c.in-Ok-parse_str.id c.in-Ok.text.now fits (c.in-Ok.ensures.cases.0 ∙ e) c.in-Ok-parse_str.ensures.bytes),
     )
@@ -28,7 +28,7 @@ returns-else-eq-clause-exact c = λ t fits. (
   λ e. absurd (true≢false (sym (ap is_some e))),
   λ e.
       let again : c.as_u128.result ≡ t.0 = c.as_u128.ensures ∙ tag_again t.0 c.in-Ok-parse_str.id c.in-Ok.text.now fits (c.in-Ok.ensures.cases.0 ∙ e) c.in-Ok-parse_str.ensures.bytes in
-      let same : c.args.bytes.now ≡ c.as_slice.result.now = e ∙ sym (c.as_slice.ensures ∙ c.text.ensures ∙ ap tag_text again) in
+      let same : c.args.bytes.now ≡ c.as_slice.result.now = e ∙ sym (c.as_slice.ensures ∙ c.text.ensures.value ∙ ap tag_text again) in
       absurd (true≢false (sym ((bytes_eq-Decides c.args.bytes.now c.as_slice.result.now).1 same) ∙ sym c.eq.ensures ∙ c.if-eq.false)),
 )
 
@@ -40,10 +40,10 @@ returns-in_default-parse_str-clause-value c = sym (not_parsed c.args.bytes.now (
 
 pub returns-then-eq-clause-value : goal.returns-then-eq-clause-value
 returns-then-eq-clause-value c =
-    let same : c.args.bytes.now ≡ tag_text c.as_u128.result = (bytes_eq-Decides c.args.bytes.now c.as_slice.result.now).0 (sym c.eq.ensures ∙ c.if-eq.true) ∙ c.as_slice.ensures ∙ c.text.ensures in
+    let same : c.args.bytes.now ≡ tag_text c.as_u128.result = (bytes_eq-Decides c.args.bytes.now c.as_slice.result.now).0 (sym c.eq.ensures ∙ c.if-eq.true) ∙ c.as_slice.ensures ∙ c.text.ensures.value in
     sym (spelled c.args.bytes.now c.in-Ok-parse_str.id c.as_u128.result c.as_u128.ensures (c.in-Ok-parse_str.ensures.bytes ∙ ap parsed c.in-Ok.ensures.cases.0) same)
 
 pub returns-else-eq-clause-value : goal.returns-else-eq-clause-value
 returns-else-eq-clause-value c =
-    let differ : bytes_eq c.args.bytes.now (tag_text c.as_u128.result) ≡ false = ap (bytes_eq c.args.bytes.now) (sym (c.as_slice.ensures ∙ c.text.ensures)) ∙ sym c.eq.ensures ∙ c.if-eq.false in
+    let differ : bytes_eq c.args.bytes.now (tag_text c.as_u128.result) ≡ false = ap (bytes_eq c.args.bytes.now) (sym (c.as_slice.ensures ∙ c.text.ensures.value)) ∙ sym c.eq.ensures ∙ c.if-eq.false in
     sym (misspelled c.args.bytes.now c.in-Ok-parse_str.id c.as_u128.result c.as_u128.ensures (c.in-Ok-parse_str.ensures.bytes ∙ ap parsed c.in-Ok.ensures.cases.0) differ)
