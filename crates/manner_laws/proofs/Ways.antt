@@ -58,7 +58,7 @@ settled_may (Alone own t) side may = may
 settled_may (Of_pass t ts) side may = may
 
 -- OK is no error
-done_right : is_error done ≡ false
+pub done_right : is_error done ≡ false
 unfolding layer
 done_right = refl
 

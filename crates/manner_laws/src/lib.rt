@@ -1,12 +1,14 @@
 //! The manner of a client as an exact machine of one call at a time.
 #![tactic(auto)]
 
-ghost use Rattle.std.specs.Prelude.{◌≡◌, ◌⊎◌, ℕ, List};
+ghost use Rattle.std.specs.Prelude.{◌≡◌, ◌⊎◌, ℕ, List, Option};
+ghost use Rattle.place_model.specs.Names.{Bytes};
 ghost use Rattle.place_model.specs.Setting.{Setting, IsLawful};
 ghost use Rattle.place_model.specs.Calls.{Call};
-ghost use Rattle.place_model.specs.Blocks.{IsFrontOfBlocks, IsMannered};
+ghost use Rattle.place_model.specs.Blocks.{IsFrontOfBlocks, IsUnlisted, IsMannered};
 ghost use Rattle.manner_laws.specs.Spots.{Spot, Free};
 ghost use Rattle.manner_laws.specs.Machine.{Runs, RunsThrough, RunsOff, TellsExchanges};
+ghost use Rattle.manner_laws.specs.Cursor.{At, Unlisted, Unmannered, cursor_of, IsReadable, AreTimely};
 
 // The prefixes of blocks of a client are just the lists of calls that the exact machine runs through from its start.
 pub fn exact_machine()
@@ -16,4 +18,15 @@ pub fn exact_machine()
 // And the manner of a client is that: its calls run through the machine, or they leave it at the last answer.
 pub fn exact_manner()
     ensures { (σ : Setting) → IsLawful σ → TellsExchanges σ → (s : ℕ) (l : List Call) → (IsMannered σ s l → RunsThrough σ s l ⊎ RunsOff σ s l) × (RunsThrough σ s l ⊎ RunsOff σ s l → IsMannered σ s l) }
+{}
+
+// The cursor judges a client's calls one by one just as its manner does: it comes to a spot just where they are a prefix of
+// blocks, to `Unlisted` just where the answer to the last one isn't listed, and to neither just where they aren't mannered.
+pub fn cursor_exact()
+    ensures front { (σ : Setting) (exchange_at : Bytes → Option Bytes) → IsLawful σ → IsReadable σ exchange_at → (s : ℕ) (l : List Call) → AreTimely l
+        → (IsFrontOfBlocks σ s l → (c : Spot) × (cursor_of σ exchange_at s l ≡ At c)) × ((c : Spot) → cursor_of σ exchange_at s l ≡ At c → IsFrontOfBlocks σ s l) }
+    ensures unlisted { (σ : Setting) (exchange_at : Bytes → Option Bytes) → IsLawful σ → IsReadable σ exchange_at → (s : ℕ) (l : List Call) → AreTimely l
+        → (IsUnlisted σ s l → cursor_of σ exchange_at s l ≡ Unlisted) × (cursor_of σ exchange_at s l ≡ Unlisted → IsUnlisted σ s l) }
+    ensures mannered { (σ : Setting) (exchange_at : Bytes → Option Bytes) → IsLawful σ → IsReadable σ exchange_at → (s : ℕ) (l : List Call) → AreTimely l
+        → (IsMannered σ s l → cursor_of σ exchange_at s l ≡ Unmannered → ⊥) × ((cursor_of σ exchange_at s l ≡ Unmannered → ⊥) → IsMannered σ s l) }
 {}
