@@ -1,24 +1,19 @@
 -- What words ask is just what the machine lets them ask.
-use Rattle.std.proofs.Common.{arith, ◌≡◌, ◌⊎◌, inl, inr, ℕ, zero, suc, ◌+◌, ◌-◌, ◌^◌, ◌<◌, ◌≤◌, List, [], ◌∷◌, ◌++◌, Bool, true, false, not, ◌&&◌, ◌==◌, refl, sym, ap, subst, ◌∙◌, None, Some, Option, nat_lt, codes, decimal, length}
+use Rattle.std.proofs.Common.{◌≡◌, ◌⊎◌, inl, inr, ℕ, suc, ◌^◌, List, [], ◌∷◌, true, not, ◌&&◌, refl, sym, ap, subst, ◌∙◌, None, Some, Option, nat_lt, codes, decimal, length}
 use Rattle.std.specs.Prelude.{bytes_eq, is_some, nat_le, if◌then◌else◌}
 use Rattle.mini_store.specs.Words.{Words}
-use Rattle.place_model.specs.Names.{Bytes, is_name, all_free}
-use Rattle.place_model.specs.QueueKeys.{Each}
+use Rattle.place_model.specs.Names.{Bytes, is_name}
 use Rattle.place_model.specs.Bindings.{Binding, member, is_part, binding_of}
 use Rattle.place_model.specs.Texts.{token}
-use Rattle.place_model.specs.Setting.{Setting, IsLawful, is_queue, control_channel}
-use Rattle.place_model.specs.Calls.{push_word}
+use Rattle.place_model.specs.Setting.{Setting, control_channel}
 use Rattle.place_model.specs.RouteBlocks.{is_exchange}
-use Rattle.place_model.specs.TakeBlocks.{IsPop, brpop_words}
+use Rattle.place_model.specs.TakeBlocks.{brpop_words}
 use Rattle.place_model.specs.PassBlocks.{lock_words, due_words}
 use Rattle.place_model.specs.Blocks.{IsNeutral, Pings, Selects, Measures, Subscribes, Unsubscribes, Announces, Replies, Receives, Limits}
-use Rattle.place_model.specs.declared.block.Side.{Side}
-use Rattle.place_model.specs.declared.block.Side.TheVariants.{Left, Right}
-use Rattle.place_model.proofs.Routes.{binding_of-member}
-use Rattle.manner_laws.specs.Spots.{Job, Open, Alone, Of_pass, tag_in, MayPush, settled, Spot, Free, Listed, Pushing, Popped, Pop_begun, Pop_indexed, End_begun, End_removed, Filled, Looking, Waiting, Watched, Leaving, Asking, Ready, Begun, Removed, Putting, Locked, Turning, Release_watched, Release_own, Release_begun, Release_deleted, Release_foreign, pushing, finished, gave_up, routed, Ask, Count, Consent, Place, Counts, Anything, Bindings, Message, Entry, Routes, Move, Lock, Due, Holder, Release}
+use Rattle.manner_laws.specs.Spots.{Job, Open, Alone, Of_pass, MayPush, Spot, Free, Listed, Pushing, Popped, Pop_begun, Pop_indexed, End_begun, End_removed, Filled, Looking, Waiting, Watched, Leaving, Asking, Ready, Begun, Removed, Putting, Locked, Turning, Release_watched, Release_own, Release_begun, Release_deleted, Release_foreign, pushing, Ask, Count, Consent, Place, Anything, Bindings, Message, Entry, Lock, Due}
 use Rattle.manner_laws.specs.Machine.{Begins, Declares, Undeclares, Publishes, Lists, Pops, Ends, Returns, Passes, Concerns_none, Asks, Starts, Starts_next, Pushes_first, Pushes, Pop_begins, Pop_indexes, Pop_sets, End_removes, End_deletes, Executes, Names, Tries, Reads, Leaves, Looks_up, Takes, Removes, Deletes, Puts, Moves, Looks, Turns, Lets_go, Inspects, Release_begins, Release_deletes, Release_ends, Leaves_foreign}
-use Rattle.manner_laws.specs.Cursor.{same_words, is_command, second, third, further, middle, only_if, if_said, is_text, all_names, queues_among, seconds_before, declaration_ask, publication_ask, bindings_ask, pop_ask, neutral_ask, start_ask, first_push_ask, or_else, side_said, side_for, ask_at, IsReadable}
-use Rattle.manner_laws.proofs.Tests.{false_true, none_some, some_parts, bytes_itself, bytes_true, and_true, both_true, not_true, not_false, words_itself, words_true, only_if_is, only_if-true, said, moved, split, pick_true, pick_false, is_text_is, is_text-Some, not_some, names_are, all_names-names, le_true, true_le, lt_true, true_lt, middle-between}
+use Rattle.manner_laws.specs.Cursor.{same_words, is_command, second, third, further, middle, if_said, is_text, all_names, queues_among, seconds_before, declaration_ask, publication_ask, bindings_ask, pop_ask, neutral_ask, start_ask, first_push_ask, or_else, side_for, ask_at}
+use Rattle.manner_laws.proofs.Tests.{none_some, bytes_true, and_true, words_true, only_if_is, moved, split, is_text_is, not_some, names_are, le_true, lt_true}
 
 module _ (σ : Setting) (exchange_at : Bytes → Option Bytes) (s : ℕ) where
   -- ---- what is asked, the machine lets ask

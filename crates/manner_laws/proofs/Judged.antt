@@ -1,12 +1,10 @@
 -- The cursor says what the manner of a client says.
-use Rattle.std.proofs.Common.{arith, ◌≡◌, ◌⊎◌, inl, inr, ℕ, ℤ, suc, ◌<◌, ◌^◌, List, [], ◌∷◌, ◌++◌, Bool, true, false, refl, sym, ap, subst, ◌∙◌, None, Some, Option}
+use Rattle.std.proofs.Common.{◌≡◌, inl, inr, ℕ, ◌<◌, ◌^◌, List, [], ◌∷◌, ◌++◌, refl, sym, ap, subst, ◌∙◌, None, Some, Option}
 use Rattle.std.specs.Prelude.{pos}
 use Rattle.resp_wire.specs.declared.value.Value.{Value}
-use Rattle.resp_wire.specs.declared.value.Value.TheVariants.{Integer, NullBulk, NullArray}
-use Rattle.mini_store.specs.Replies.{done, queued, bulks}
+use Rattle.mini_store.specs.Replies.{done}
 use Rattle.mini_store.specs.Words.{Words}
 use Rattle.place_model.specs.Names.{Bytes}
-use Rattle.place_model.specs.Answers.{integers}
 use Rattle.place_model.specs.Setting.{Setting, IsLawful}
 use Rattle.place_model.specs.Calls.{Call, call}
 use Rattle.place_model.specs.Blocks.{IsFrontOfBlocks, IsUnlisted, IsMannered}
@@ -57,6 +55,9 @@ module _ (σ : Setting) (exchange_at : Bytes → Option Bytes) (s : ℕ) where
   after_join : (c : Cursor) (xs ys : List Call) → cursor_after σ exchange_at s c (xs ++ ys) ≡ cursor_after σ exchange_at s (cursor_after σ exchange_at s c xs) ys
   after_join c [] ys = refl
   after_join c (x ∷ xs) ys = after_join (judge σ exchange_at s c x) xs ys
+
+  pub one_more : (l : List Call) (x : Call) → cursor_of σ exchange_at s (l ++ x ∷ []) ≡ judge σ exchange_at s (cursor_of σ exchange_at s l) x
+  one_more l x = after_join (At (Free 0 0)) l (x ∷ [])
 
   judged_goes : (c c' : Spot) (x : Call) → judge σ exchange_at s (At c) x ≡ At c' → Goes σ s c x c'
   judged_goes c c' x h = go (ask_at σ exchange_at s c x.at x.words) refl h

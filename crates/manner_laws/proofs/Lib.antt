@@ -8,3 +8,5 @@ pub mod Allowed
 pub mod Values
 pub mod Told
 pub mod Judged
+pub mod LayoutReads
+pub mod Examples

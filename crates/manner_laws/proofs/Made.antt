@@ -16,8 +16,8 @@ use Rattle.place_model.specs.PassBlocks.{PassEnd, Held, Stuck, Done, IsReturns, 
 use Rattle.place_model.specs.Blocks.{Answered as Answered_block, Kind, Drawing, Passing, Other, drawn, passed, IsBlock, Declare, Undeclare, Publish, Publish_short, Pop, End, Return, Pass, Neutral, AreBlocks}
 use Rattle.place_model.specs.declared.block.Side.{Side}
 use Rattle.place_model.specs.declared.block.Side.TheVariants.{Left, Right}
-use Rattle.manner_laws.specs.Spots.{Job, Open, Alone, Of_pass, tag_in, MayPush, settled, Spot, Free, Listed, Pushing, Popped, Pop_begun, Pop_indexed, End_begun, End_removed, Filled, Looking, Waiting, Watched, Leaving, Asking, Ready, Begun, Removed, Putting, Locked, Turning, Release_watched, Release_own, Release_begun, Release_deleted, Release_foreign, pushing, finished, gave_up, routed, Ask, Count, Consent, Place, Counts, Anything, Bindings, Message, Entry, Routes, Move, Lock, Due, Holder, Release}
-use Rattle.manner_laws.specs.Machine.{Begins, Declares, Undeclares, Publishes, Lists, Pops, Ends, Returns, Passes, Concerns_none, Asks, Starts, Starts_next, Pushes_first, Pushes, Pop_begins, Pop_indexes, Pop_sets, End_removes, End_deletes, Executes, Names, Tries, Reads, Leaves, Looks_up, Takes, Removes, Deletes, Puts, Moves, Looks, Turns, Lets_go, Inspects, Release_begins, Release_deletes, Release_ends, Leaves_foreign, Tells, Goes, Runs}
+use Rattle.manner_laws.specs.Spots.{Job, Open, Alone, Of_pass, tag_in, MayPush, settled, Spot, Free, Listed, Pushing, Popped, Pop_begun, Pop_indexed, End_begun, End_removed, Filled, Looking, Waiting, Watched, Leaving, Asking, Ready, Begun, Removed, Putting, Locked, Turning, Release_watched, Release_own, Release_begun, Release_deleted, Release_foreign, pushing, finished, gave_up, routed, Ask, Entry}
+use Rattle.manner_laws.specs.Machine.{Begins, Declares, Undeclares, Publishes, Lists, Pops, Ends, Returns, Passes, Concerns_none, Asks, Starts, Starts_next, Pushes_first, Pushes, Pop_begins, Pop_indexes, Pop_sets, End_removes, End_deletes, Executes, Names, Tries, Reads, Leaves, Looks_up, Takes, Removes, Deletes, Puts, Moves, Looks, Turns, Lets_go, Inspects, Release_begins, Release_deletes, Release_ends, Leaves_foreign, Tells, Runs}
 use Rattle.manner_laws.proofs.Steps.{on_count, on_consent, on_place, on_counts, on_anything, on_bindings, on_message, on_entry, on_routes, on_move, on_lock, on_due, on_holder, on_release}
 
 pub runs_join : (σ : Setting) (s : ℕ) (a b c : Spot) (xs ys : List Call) → Runs σ s a xs b → Runs σ s b ys c → Runs σ s a (xs ++ ys) c

@@ -1,5 +1,5 @@
 -- What can follow each thing that is asked.
-use Rattle.std.proofs.Common.{◌≡◌, ℕ, ℤ, suc, ◌<◌, List, [], ◌∷◌, Bool, false, Some, None}
+use Rattle.std.proofs.Common.{◌≡◌, ℕ, ℤ, suc, ◌<◌, List, [], ◌∷◌, false, Some, None}
 use Rattle.resp_wire.specs.declared.value.Value.{Value}
 use Rattle.resp_wire.specs.declared.value.Value.TheVariants.{Integer, Bulk, NullBulk, Array, NullArray}
 use Rattle.mini_store.specs.Replies.{done, queued, pair, bulks}
@@ -8,7 +8,7 @@ use Rattle.place_model.specs.Names.{Bytes}
 use Rattle.place_model.specs.Texts.{token}
 use Rattle.place_model.specs.Answers.{integers, is_error}
 use Rattle.place_model.specs.Setting.{Setting}
-use Rattle.place_model.specs.Calls.{Call, call}
+use Rattle.place_model.specs.Calls.{call}
 use Rattle.place_model.specs.ReturnBlocks.{Carries}
 use Rattle.place_model.specs.PassBlocks.{tags_among}
 use Rattle.manner_laws.specs.Spots.{Job, tag_in, Spot, Free, Listed, Popped, Waiting, Leaving, Asking, Locked, Turning, Release_own, Release_foreign, finished, gave_up, routed, Ask, Count, Consent, Place, Counts, Anything, Bindings, Message, Entry, Routes, Move, Lock, Due, Holder, Release}

@@ -1,5 +1,5 @@
 -- Tests of words, and what an ask by a test says.
-use Rattle.std.proofs.Common.{arith, ◌≡◌, ◌⊎◌, inl, inr, ℕ, ◌<◌, ◌≤◌, List, [], ◌∷◌, ◌++◌, Bool, true, false, not, ◌&&◌, refl, sym, ap, subst, ◌∙◌, None, Some, Option, unwrap_or, nat_lt, codes}
+use Rattle.std.proofs.Common.{arith, ◌≡◌, ◌⊎◌, inl, inr, ℕ, ◌<◌, ◌≤◌, List, [], ◌∷◌, ◌++◌, Bool, true, false, not, ◌&&◌, refl, sym, ap, subst, None, Some, Option, unwrap_or, nat_lt}
 use Rattle.std.specs.Prelude.{bytes_eq, is_some, nat_le, option_map, if◌then◌else◌}
 use Rattle.std.proofs.lemmas.Slice.Eq.{bytes_eq-Decides}
 use Rattle.std.proofs.lemmas.Bool.Decides.{nat_tests}
@@ -7,7 +7,7 @@ use Rattle.mini_store.specs.Words.{Words, front}
 use Rattle.place_model.specs.Names.{Bytes, is_name}
 use Rattle.place_model.specs.QueueKeys.{Each}
 use Rattle.manner_laws.specs.Spots.{Spot, Ask}
-use Rattle.manner_laws.specs.Cursor.{same_words, only_if, if_said, is_text, all_names, spot_if, or_else, middle}
+use Rattle.manner_laws.specs.Cursor.{same_words, only_if, if_said, is_text, all_names, spot_if, middle}
 
 pub false_true : {P : Type 0} → false ≡ true → P
 false_true e = cc

@@ -1,5 +1,5 @@
 -- The machine as a cursor, which takes one call after another: what words ask at a spot, and where an answer leads, by tests alone. It is one spot, since the keys and the exchange of a push tell whose it is.
-use Rattle.std.specs.Prelude.{◌≡◌, ℕ, zero, suc, ◌+◌, ◌-◌, ◌^◌, ◌<◌, Bool, true, false, ◌&&◌, ◌==◌, not, nat_le, nat_lt, if◌then◌else◌, List, [], ◌∷◌, length, codes, decimal, bytes_eq, Option, Some, None, is_some, option_map, option_and_then}
+use Rattle.std.specs.Prelude.{◌≡◌, ℕ, suc, ◌+◌, ◌-◌, ◌^◌, ◌<◌, Bool, true, false, ◌&&◌, ◌==◌, not, nat_le, nat_lt, if◌then◌else◌, List, [], ◌∷◌, length, codes, decimal, bytes_eq, Option, Some, None, is_some, option_map, option_and_then}
 use Rattle.std.specs.Str.Parse.{digits_value}
 use Rattle.resp_wire.specs.Layer.{layer}
 use Rattle.resp_wire.specs.declared.value.Value.{Value}
@@ -89,7 +89,7 @@ abbrev pub queues_among : Setting → List Bytes → List Bytes
 queues_among σ [] = []
 queues_among σ (k ∷ ks) = onto_queues (σ.split k) (queues_among σ ks)
 
--- the number that, taken from this moment, leaves a text
+-- how many seconds before this moment lies the one that a signed decimal text tells
 abbrev pub seconds_before : ℕ → Bytes → ℕ
 seconds_before a [] = a
 seconds_before a (b ∷ bs) = if b == 45 then a + digits_value 10 bs else a - digits_value 10 (b ∷ bs)
@@ -129,17 +129,21 @@ neutral_ask σ c words =
     if is_command (codes "PUBLISH") words then if_said (codes "PUBLISH" ∷ control_channel ∷ third words ∷ []) words (Anything c) else
     if is_command (codes "EXPIRE") words then only_if (σ.is_reply (second words)) (if_said (codes "EXPIRE" ∷ second words ∷ third words ∷ []) words (Anything c)) else None
 
--- words at a block's start: the first word tells the block, and the key whether a push or a pop is one of replies
+-- LPUSH at a block's start: of a control reply, or a publication on the empty exchange; the key tells which
+abbrev pub push_ask : Setting → ℕ → ℕ → ℕ → Words → Option Ask
+push_ask σ s n p words =
+    if σ.is_reply (second words) then if_said (codes "LPUSH" ∷ second words ∷ third words ∷ further words) words (Anything (Free n p)) else publication_ask σ s n p words (second words) (third words)
+
+-- BRPOP at a block's start: of control replies, or of queues; the key tells which
+abbrev pub take_ask : Setting → ℕ → ℕ → Words → Option Ask
+take_ask σ n p words =
+    if σ.is_reply (second words) then if_said (codes "BRPOP" ∷ second words ∷ third words ∷ []) words (Anything (Free n p)) else pop_ask σ n p words (queues_among σ (middle words)) (middle words)
+
+-- words at a block's start: the first word tells the block
 unfoldable pub start_ask : Setting → (Bytes → Option Bytes) → ℕ → ℕ → ℕ → Words → Option Ask
 start_ask σ exchange_at s n p words =
-    if is_command (codes "LPUSH") words then (
-    if σ.is_reply (second words) then if_said (codes "LPUSH" ∷ second words ∷ third words ∷ further words) words (Anything (Free n p))
-    else publication_ask σ s n p words (second words) (third words)
-    ) else
-    if is_command (codes "BRPOP") words then (
-    if σ.is_reply (second words) then if_said (codes "BRPOP" ∷ second words ∷ third words ∷ []) words (Anything (Free n p))
-    else pop_ask σ n p words (queues_among σ (middle words)) (middle words)
-    ) else
+    if is_command (codes "LPUSH") words then push_ask σ s n p words else
+    if is_command (codes "BRPOP") words then take_ask σ n p words else
     if is_command (codes "SMEMBERS") words then bindings_ask σ s n p words (exchange_at (second words)) else
     if is_command (codes "MULTI") words then if_said (codes "MULTI" ∷ []) words (Consent (End_begun n p)) else
     if is_command (codes "WATCH") words then if_said (codes "WATCH" ∷ σ.unacked ∷ []) words (Consent (Looking n p)) else

@@ -1,5 +1,5 @@
 -- The blocks as an exact machine of one call at a time: what words ask at a spot, and where their answer leads.
-use Rattle.std.specs.Prelude.{◌≡◌, ℕ, ℤ, ◌^◌, suc, true, false, ◌<◌, List, [], ◌∷◌, ◌++◌, codes, decimal, Option, Some, None}
+use Rattle.std.specs.Prelude.{◌≡◌, ℕ, ℤ, ◌^◌, suc, true, false, ◌<◌, List, [], ◌∷◌, ◌++◌, codes, decimal, Some, None}
 use Rattle.resp_wire.specs.declared.value.Value.{Value}
 use Rattle.resp_wire.specs.declared.value.Value.TheVariants.{Integer, Bulk, NullBulk, Array, NullArray}
 use Rattle.mini_store.specs.Words.{Words}
