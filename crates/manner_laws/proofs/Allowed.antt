@@ -15,7 +15,7 @@ use Rattle.place_model.specs.Blocks.{IsNeutral, Pings, Selects, Measures, Subscr
 use Rattle.place_model.specs.declared.block.Side.{Side}
 use Rattle.place_model.specs.declared.block.Side.TheVariants.{Left, Right}
 use Rattle.place_model.proofs.Routes.{binding_of-member}
-use Rattle.manner_laws.specs.Spots.{Job, Open, Alone, Of_pass, MayPush, settled, Spot, Free, End_begun, Looking, Putting, pushing, Ask, Count, Consent, Place, Anything, Bindings, Message, Lock, Due}
+use Rattle.manner_laws.specs.Spots.{Job, Open, Alone, Of_pass, MayPush, settled, Spot, Free, End_begun, Looking, Putting, pushing, Ask, Count, Consent, Queueing, Anything, Bindings, Message, Lock, Due}
 use Rattle.manner_laws.specs.Machine.{Begins, Declares, Undeclares, Publishes, Lists, Pops, Ends, Returns, Passes, Concerns_none, Asks, Starts, Starts_next, Pushes_first, Pushes, Pop_begins, Pop_indexes, Pop_sets, End_removes, End_deletes, Executes, Names, Tries, Reads, Leaves, Looks_up, Takes, Removes, Deletes, Puts, Moves, Looks, Turns, Lets_go, Inspects, Release_begins, Release_deletes, Release_ends, Leaves_foreign}
 use Rattle.manner_laws.specs.Cursor.{same_words, is_command, second, third, middle, only_if, if_said, is_text, all_names, queues_among, declaration_ask, publication_ask, bindings_ask, pop_ask, neutral_ask, start_ask, first_push_ask, or_else, side_said, side_for, ask_at, IsReadable}
 use Rattle.manner_laws.proofs.Tests.{false_true, none_some, bytes_itself, bytes_true, and_true, both_true, words_itself, words_true, only_if_is, only_if-true, said, pick_true, pick_false, is_text_is, is_text-Some, all_names-names, true_le, true_lt, middle-between}
@@ -183,7 +183,7 @@ module _ (σ : Setting) (exchange_at : Bytes → Option Bytes) (s : ℕ) (laws :
   ask-allowed c a words q time (Removes n p b j k v x xs) = said words q
   ask-allowed c a words q time (Deletes n p b j k v x xs) = said words q
   ask-allowed c a words q time (Puts n p b j k v x xs side may) =
-      subst (λ z. if_said (push_word z ∷ x ∷ v ∷ []) words (Place (Putting n p (settled j z) k v xs)) ≡ Some q) (sym (side_is j side (x ∷ v ∷ []) may)) (said (push_word side ∷ x ∷ v ∷ []) (Place (Putting n p (settled j side) k v xs)))
+      subst (λ z. if_said (push_word z ∷ x ∷ v ∷ []) words (Queueing (Putting n p (settled j z) k v xs)) ≡ Some q) (sym (side_is j side (x ∷ v ∷ []) may)) (said (push_word side ∷ x ∷ v ∷ []) (Queueing (Putting n p (settled j side) k v xs)))
   ask-allowed c a words q time (Moves n p b j k v) = said words q
   ask-allowed c a words q time (Looks n p b v lt) =
       subst (λ z. only_if (nat_lt z (2 ^ 64)) (if_said (due_words σ a z) words (Due n p)) ≡ Some q) (sym (seconds_before-difference a v time lt))

@@ -10,7 +10,7 @@ use Rattle.place_model.specs.RouteBlocks.{is_exchange}
 use Rattle.place_model.specs.TakeBlocks.{brpop_words}
 use Rattle.place_model.specs.PassBlocks.{lock_words, due_words}
 use Rattle.place_model.specs.Blocks.{IsNeutral, Pings, Selects, Measures, Subscribes, Unsubscribes, Announces, Replies, Receives, Limits}
-use Rattle.manner_laws.specs.Spots.{Job, Open, Alone, Of_pass, MayPush, Spot, Free, Listed, Pushing, Popped, Pop_begun, Pop_indexed, End_begun, End_removed, Filled, Looking, Waiting, Watched, Leaving, Asking, Ready, Begun, Removed, Putting, Locked, Turning, Release_watched, Release_own, Release_begun, Release_deleted, Release_foreign, pushing, Ask, Count, Consent, Place, Anything, Bindings, Message, Entry, Lock, Due}
+use Rattle.manner_laws.specs.Spots.{Job, Open, Alone, Of_pass, MayPush, Spot, Free, Listed, Pushing, Popped, Pop_begun, Pop_indexed, End_begun, End_removed, Filled, Looking, Waiting, Watched, Leaving, Asking, Ready, Begun, Removed, Putting, Locked, Turning, Release_watched, Release_own, Release_begun, Release_deleted, Release_foreign, pushing, Ask, Count, Consent, Queueing, Anything, Bindings, Message, Entry, Lock, Due}
 use Rattle.manner_laws.specs.Machine.{Begins, Declares, Undeclares, Publishes, Lists, Pops, Ends, Returns, Passes, Concerns_none, Asks, Starts, Starts_next, Pushes_first, Pushes, Pop_begins, Pop_indexes, Pop_sets, End_removes, End_deletes, Executes, Names, Tries, Reads, Leaves, Looks_up, Takes, Removes, Deletes, Puts, Moves, Looks, Turns, Lets_go, Inspects, Release_begins, Release_deletes, Release_ends, Leaves_foreign}
 use Rattle.manner_laws.specs.Cursor.{same_words, is_command, second, third, further, middle, if_said, is_text, all_names, queues_among, seconds_before, declaration_ask, publication_ask, bindings_ask, pop_ask, neutral_ask, start_ask, first_push_ask, or_else, side_for, ask_at}
 use Rattle.manner_laws.proofs.Tests.{none_some, bytes_true, and_true, words_true, only_if_is, moved, split, is_text_is, not_some, names_are, le_true, lt_true}
@@ -157,11 +157,11 @@ module _ (σ : Setting) (exchange_at : Bytes → Option Bytes) (s : ℕ) where
   ask_is (Pushing n p v k ks) a words q h = moved (Asks σ s (Pushing n p v k ks) a) _ words _ q (Pushes n p a v k ks) h
   ask_is (Popped n p v t) a words q h = moved (Asks σ s (Popped n p v t) a) _ words _ q (Pop_begins n p a v t) h
   ask_is (Pop_begun n p v t) a words q h =
-      let x = only_if_is (nat_lt a (2 ^ 40)) (if_said (codes "ZADD" ∷ σ.index ∷ decimal a ∷ t ∷ []) words (Place (Pop_indexed n p v t))) q h in
+      let x = only_if_is (nat_lt a (2 ^ 40)) (if_said (codes "ZADD" ∷ σ.index ∷ decimal a ∷ t ∷ []) words (Queueing (Pop_indexed n p v t))) q h in
       moved (Asks σ s (Pop_begun n p v t) a) _ words _ q (Pop_indexes n p a v t (lt_true a (2 ^ 40) x.0)) x.1
   ask_is (Pop_indexed n p v t) a words q h = moved (Asks σ s (Pop_indexed n p v t) a) _ words _ q (Pop_sets n p a v t) h
   ask_is (End_begun n p) a words q h =
-      let x = only_if_is (σ.is_tag (third words)) (if_said (codes "ZREM" ∷ σ.index ∷ third words ∷ []) words (Place (End_removed n p (third words)))) q h in
+      let x = only_if_is (σ.is_tag (third words)) (if_said (codes "ZREM" ∷ σ.index ∷ third words ∷ []) words (Queueing (End_removed n p (third words)))) q h in
       moved (Asks σ s (End_begun n p) a) _ words _ q (End_removes n p a (third words) x.0) x.1
   ask_is (End_removed n p t) a words q h = moved (Asks σ s (End_removed n p t) a) _ words _ q (End_deletes n p a t) h
   ask_is (Filled n p) a words q h = moved (Asks σ s (Filled n p) a) _ words _ q (Executes n p a) h

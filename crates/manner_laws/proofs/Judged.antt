@@ -8,8 +8,8 @@ use Rattle.place_model.specs.Names.{Bytes}
 use Rattle.place_model.specs.Setting.{Setting, IsLawful}
 use Rattle.place_model.specs.Calls.{Call, call}
 use Rattle.place_model.specs.Blocks.{IsFrontOfBlocks, IsUnlisted, IsMannered}
-use Rattle.manner_laws.specs.Spots.{Spot, Free, Ask, Count, Consent, Place, Counts, Anything, Bindings, Message, Entry, Routes, Move, Lock, Due, Holder, Release}
-use Rattle.manner_laws.specs.Machine.{Asks, Tells, Counted, Consented, Placed, Counted_both, Answered, Bound, Nothing_there, Missing, Looked_up, Moved, Taken, Members, Nobody, Altered, Goes, Runs}
+use Rattle.manner_laws.specs.Spots.{Spot, Free, Ask, Count, Consent, Queueing, Counts, Anything, Bindings, Message, Entry, Routes, Move, Lock, Due, Holder, Release}
+use Rattle.manner_laws.specs.Machine.{Asks, Tells, Counted, Consented, Was_queued, Counted_both, Answered, Bound, Nothing_there, Missing, Looked_up, Moved, Taken, Members, Nobody, Altered, Goes, Runs}
 use Rattle.manner_laws.specs.Cursor.{ask_at, spot_after, Cursor, At, Unlisted, Unmannered, cursor_at, heard, judge, cursor_after, cursor_of, IsReadable, AreTimely}
 use Rattle.manner_laws.proofs.Made.{runs_join, runs_split}
 use Rattle.manner_laws.proofs.Ways.{done_right, front_runs, runs_front}
@@ -109,7 +109,7 @@ module _ (σ : Setting) (exchange_at : Bytes → Option Bytes) (s : ℕ) where
   an_answer : (q : Ask) → (r : Value) × (c : Spot) × Tells σ s q r c
   an_answer (Count c) = (_, _, Counted c (pos 0))
   an_answer (Consent c) = (_, _, Consented c)
-  an_answer (Place c) = (_, _, Placed c)
+  an_answer (Queueing c) = (_, _, Was_queued c)
   an_answer (Counts c) = (_, _, Counted_both c (pos 0) (pos 0))
   an_answer (Anything c) = (_, _, Answered c done done_right)
   an_answer (Bindings n p e) = (_, _, Bound n p e [])

@@ -12,8 +12,8 @@ use Rattle.place_model.specs.Answers.{integers, number_of, bulk_of, items_of, pa
 use Rattle.place_model.specs.Setting.{Setting}
 use Rattle.place_model.specs.ReturnBlocks.{Carries}
 use Rattle.place_model.specs.PassBlocks.{tags_among}
-use Rattle.manner_laws.specs.Spots.{Job, tag_in, Spot, Free, Listed, Waiting, Leaving, Asking, Locked, Turning, Release_own, Release_foreign, finished, gave_up, routed, Ask, Count, Consent, Place, Counts, Anything, Bindings, Message, Entry, Routes, Move, Lock, Due, Holder, Release}
-use Rattle.manner_laws.specs.Machine.{Tells, Counted, Consented, Placed, Counted_both, Answered, Bound, Nothing_there, Unreadable, Readable, Missing, Useless, Unnamed, Named, Looked_up, Moved, Failed, Contended, Taken, Given, Members, Own, Foreign, Nobody, Released, Altered}
+use Rattle.manner_laws.specs.Spots.{Job, tag_in, Spot, Free, Listed, Waiting, Leaving, Asking, Locked, Turning, Release_own, Release_foreign, finished, gave_up, routed, Ask, Count, Consent, Queueing, Counts, Anything, Bindings, Message, Entry, Routes, Move, Lock, Due, Holder, Release}
+use Rattle.manner_laws.specs.Machine.{Tells, Counted, Consented, Was_queued, Counted_both, Answered, Bound, Nothing_there, Unreadable, Readable, Missing, Useless, Unnamed, Named, Looked_up, Moved, Failed, Contended, Taken, Given, Members, Own, Foreign, Nobody, Released, Altered}
 use Rattle.manner_laws.specs.Cursor.{is_text, is_status, is_null_bulk, is_null_array, are_integers, are_two_integers, texts_of, spot_if, popped_spot, if_tagged, read_spot, entry_spot, failed_spot, holder_spot, spot_after}
 use Rattle.manner_laws.proofs.Tests.{false_true, none_some, some_parts, bytes_itself, bytes_true, bytes_false, not_true, not_false, split, pick_true, pick_false, is_text_is, is_text-Some, lt_true, true_lt, spot_if_is, spot_if-true, mapped}
 use Rattle.manner_laws.proofs.Values.{status_is, null_bulk_is, null_array_is, bulk_is, number_of-Integer, bulk_of-Bulk, items_of-Array, is_status-Status, null_bulk_itself, null_array_itself, is_null_bulk-Bulk, is_null_bulk-Status, is_null_array-Array, some_number, some_items, are_integers_are, are_integers-integers, are_two_are, are_two_integers-integers, texts_are, texts_of-bulks, pair_is, pair_of-pair}
@@ -77,9 +77,9 @@ module _ (σ : Setting) (s : ℕ) where
   told_is (Consent d) r c h =
       let x = spot_if_is (is_status (codes "OK") (layer r)) d c h in
       subst (λ z. Tells σ s (Consent d) z c) (sym (status_is (codes "OK") r x.0)) (subst (Tells σ s (Consent d) done) x.1 (Consented d))
-  told_is (Place d) r c h =
+  told_is (Queueing d) r c h =
       let x = spot_if_is (is_status (codes "QUEUED") (layer r)) d c h in
-      subst (λ z. Tells σ s (Place d) z c) (sym (status_is (codes "QUEUED") r x.0)) (subst (Tells σ s (Place d) queued) x.1 (Placed d))
+      subst (λ z. Tells σ s (Queueing d) z c) (sym (status_is (codes "QUEUED") r x.0)) (subst (Tells σ s (Queueing d) queued) x.1 (Was_queued d))
   told_is (Counts d) r c h =
       let x = spot_if_is (are_two_integers (items_of r)) d c h in
       let y = are_two_are r x.0 in
@@ -164,7 +164,7 @@ module _ (σ : Setting) (s : ℕ) where
   pub told-allowed : (q : Ask) (r : Value) (c : Spot) → Tells σ s q r c → spot_after σ s q r ≡ Some c
   told-allowed q r c (Counted d z) = spot_if-true (is_some (number_of (Integer z))) d (ap is_some (number_of-Integer z))
   told-allowed q r c (Consented d) = spot_if-true (is_status (codes "OK") (layer done)) d (is_status-Status (codes "OK") refl)
-  told-allowed q r c (Placed d) = spot_if-true (is_status (codes "QUEUED") (layer queued)) d (is_status-Status (codes "QUEUED") refl)
+  told-allowed q r c (Was_queued d) = spot_if-true (is_status (codes "QUEUED") (layer queued)) d (is_status-Status (codes "QUEUED") refl)
   told-allowed q r c (Counted_both d x y) = spot_if-true (are_two_integers (items_of (integers (x ∷ y ∷ [])))) d (are_two_integers-integers x y)
   told-allowed q r c (Answered d x right) = spot_if-true (not (is_error x)) d (not_false (is_error x) right)
   told-allowed q r c (Bound n p e ms) = ap (option_map (λ ms. Listed n p e ms)) (texts_of-bulks ms)

@@ -17,7 +17,7 @@ use Rattle.place_model.specs.TakeBlocks.{brpop_words}
 use Rattle.place_model.specs.PassBlocks.{tags_among, lock_words, due_words}
 use Rattle.place_model.specs.declared.block.Side.{Side}
 use Rattle.place_model.specs.declared.block.Side.TheVariants.{Left, Right}
-use Rattle.manner_laws.specs.Spots.{Job, Open, Alone, Of_pass, tag_in, settled, Spot, Free, Listed, Pushing, Popped, Pop_begun, Pop_indexed, End_begun, End_removed, Filled, Looking, Waiting, Watched, Leaving, Asking, Ready, Begun, Removed, Putting, Locked, Turning, Release_watched, Release_own, Release_begun, Release_deleted, Release_foreign, pushing, finished, gave_up, routed, Ask, Count, Consent, Place, Counts, Anything, Bindings, Message, Entry, Routes, Move, Lock, Due, Holder, Release}
+use Rattle.manner_laws.specs.Spots.{Job, Open, Alone, Of_pass, tag_in, settled, Spot, Free, Listed, Pushing, Popped, Pop_begun, Pop_indexed, End_begun, End_removed, Filled, Looking, Waiting, Watched, Leaving, Asking, Ready, Begun, Removed, Putting, Locked, Turning, Release_watched, Release_own, Release_begun, Release_deleted, Release_foreign, pushing, finished, gave_up, routed, Ask, Count, Consent, Queueing, Counts, Anything, Bindings, Message, Entry, Routes, Move, Lock, Due, Holder, Release}
 use Rattle.manner_laws.specs.Machine.{TellsExchanges}
 
 -- ---- words
@@ -178,10 +178,10 @@ ask_at σ exchange_at s (Free n p) a words = start_ask σ exchange_at s n p word
 ask_at σ exchange_at s (Listed n p e ms) a words = or_else (first_push_ask σ s n p e words (second words) (third words) (σ.keys_for (third words) ms)) (start_ask σ exchange_at s (suc n) p words)
 ask_at σ exchange_at s (Pushing n p v k ks) a words = if_said (codes "LPUSH" ∷ k ∷ v ∷ []) words (Count (pushing n p v ks))
 ask_at σ exchange_at s (Popped n p v t) a words = if_said (codes "MULTI" ∷ []) words (Consent (Pop_begun n p v t))
-ask_at σ exchange_at s (Pop_begun n p v t) a words = only_if (nat_lt a (2 ^ 40)) (if_said (codes "ZADD" ∷ σ.index ∷ decimal a ∷ t ∷ []) words (Place (Pop_indexed n p v t)))
-ask_at σ exchange_at s (Pop_indexed n p v t) a words = if_said (codes "HSET" ∷ σ.unacked ∷ t ∷ σ.entry_of v ∷ []) words (Place (Filled n p))
-ask_at σ exchange_at s (End_begun n p) a words = only_if (σ.is_tag (third words)) (if_said (codes "ZREM" ∷ σ.index ∷ third words ∷ []) words (Place (End_removed n p (third words))))
-ask_at σ exchange_at s (End_removed n p t) a words = if_said (codes "HDEL" ∷ σ.unacked ∷ t ∷ []) words (Place (Filled n p))
+ask_at σ exchange_at s (Pop_begun n p v t) a words = only_if (nat_lt a (2 ^ 40)) (if_said (codes "ZADD" ∷ σ.index ∷ decimal a ∷ t ∷ []) words (Queueing (Pop_indexed n p v t)))
+ask_at σ exchange_at s (Pop_indexed n p v t) a words = if_said (codes "HSET" ∷ σ.unacked ∷ t ∷ σ.entry_of v ∷ []) words (Queueing (Filled n p))
+ask_at σ exchange_at s (End_begun n p) a words = only_if (σ.is_tag (third words)) (if_said (codes "ZREM" ∷ σ.index ∷ third words ∷ []) words (Queueing (End_removed n p (third words))))
+ask_at σ exchange_at s (End_removed n p t) a words = if_said (codes "HDEL" ∷ σ.unacked ∷ t ∷ []) words (Queueing (Filled n p))
 ask_at σ exchange_at s (Filled n p) a words = if_said (codes "EXEC" ∷ []) words (Counts (Free n p))
 ask_at σ exchange_at s (Looking n p) a words = only_if (σ.is_tag (third words)) (if_said (codes "HGET" ∷ σ.unacked ∷ third words ∷ []) words (Entry n p (Open (third words)) 0))
 ask_at σ exchange_at s (Waiting n p j k) a words = if_said (codes "WATCH" ∷ σ.unacked ∷ []) words (Consent (Watched n p j k))
@@ -189,16 +189,16 @@ ask_at σ exchange_at s (Watched n p j k) a words = if_said (codes "HGET" ∷ σ
 ask_at σ exchange_at s (Leaving n p j) a words = if_said (codes "UNWATCH" ∷ []) words (Consent (finished n p j))
 ask_at σ exchange_at s (Asking n p j k u v e) a words = if_said (codes "SMEMBERS" ∷ σ.binding e ∷ []) words (Routes n p j k u v)
 ask_at σ exchange_at s (Ready n p j k v q qs) a words = if_said (codes "MULTI" ∷ []) words (Consent (Begun n p j k v q qs))
-ask_at σ exchange_at s (Begun n p j k v q qs) a words = if_said (codes "ZREM" ∷ σ.index ∷ tag_in j ∷ []) words (Place (Removed n p j k v q qs))
-ask_at σ exchange_at s (Removed n p j k v q qs) a words = if_said (codes "HDEL" ∷ σ.unacked ∷ tag_in j ∷ []) words (Place (Putting n p j k v (q ∷ qs)))
+ask_at σ exchange_at s (Begun n p j k v q qs) a words = if_said (codes "ZREM" ∷ σ.index ∷ tag_in j ∷ []) words (Queueing (Removed n p j k v q qs))
+ask_at σ exchange_at s (Removed n p j k v q qs) a words = if_said (codes "HDEL" ∷ σ.unacked ∷ tag_in j ∷ []) words (Queueing (Putting n p j k v (q ∷ qs)))
 ask_at σ exchange_at s (Putting n p j k v []) a words = if_said (codes "EXEC" ∷ []) words (Move n p j k)
-ask_at σ exchange_at s (Putting n p j k v (q ∷ qs)) a words = if_said (push_word (side_for j words) ∷ q ∷ v ∷ []) words (Place (Putting n p (settled j (side_for j words)) k v qs))
+ask_at σ exchange_at s (Putting n p j k v (q ∷ qs)) a words = if_said (push_word (side_for j words) ∷ q ∷ v ∷ []) words (Queueing (Putting n p (settled j (side_for j words)) k v qs))
 ask_at σ exchange_at s (Locked n p) a words = only_if (nat_lt (seconds_before a (third words)) (2 ^ 64)) (if_said (due_words σ a (seconds_before a (third words))) words (Due n p))
 ask_at σ exchange_at s (Turning n p []) a words = if_said (codes "WATCH" ∷ σ.mutex ∷ []) words (Consent (Release_watched n p))
 ask_at σ exchange_at s (Turning n p (t ∷ ts)) a words = if_said (codes "WATCH" ∷ σ.unacked ∷ []) words (Consent (Watched n p (Of_pass t ts) 0))
 ask_at σ exchange_at s (Release_watched n p) a words = if_said (codes "GET" ∷ σ.mutex ∷ []) words (Holder n p)
 ask_at σ exchange_at s (Release_own n p) a words = if_said (codes "MULTI" ∷ []) words (Consent (Release_begun n p))
-ask_at σ exchange_at s (Release_begun n p) a words = if_said (codes "DEL" ∷ σ.mutex ∷ []) words (Place (Release_deleted n p))
+ask_at σ exchange_at s (Release_begun n p) a words = if_said (codes "DEL" ∷ σ.mutex ∷ []) words (Queueing (Release_deleted n p))
 ask_at σ exchange_at s (Release_deleted n p) a words = if_said (codes "EXEC" ∷ []) words (Release n p)
 ask_at σ exchange_at s (Release_foreign n p) a words = if_said (codes "UNWATCH" ∷ []) words (Consent (Free n (suc p)))
 
@@ -285,7 +285,7 @@ holder_spot s n p u = if bytes_eq (token s (suc p)) u then Release_own n p else 
 abbrev pub spot_after : Setting → ℕ → Ask → Value → Option Spot
 spot_after σ s (Count c) r = spot_if (is_some (number_of r)) c
 spot_after σ s (Consent c) r = spot_if (is_status (codes "OK") (layer r)) c
-spot_after σ s (Place c) r = spot_if (is_status (codes "QUEUED") (layer r)) c
+spot_after σ s (Queueing c) r = spot_if (is_status (codes "QUEUED") (layer r)) c
 spot_after σ s (Counts c) r = spot_if (are_two_integers (items_of r)) c
 spot_after σ s (Anything c) r = spot_if (not (is_error r)) c
 spot_after σ s (Bindings n p e) r = option_map (λ ms. Listed n p e ms) (texts_of r)

@@ -1,4 +1,8 @@
-//! The manner of a client as an exact machine of one call at a time.
+//! The manner of a client, one call at a time.
+//!
+//! `specs/Machine.antt` has the blocks as an exact machine: what words may come at a spot and ask, and where their answer
+//! leads. `specs/Cursor.antt` has the same machine as a function of cursor and call, decided by tests alone, which a program
+//! can run. The laws here say that both are the manner, no more and no less.
 #![tactic(auto)]
 
 ghost use Rattle.std.specs.Prelude.{◌≡◌, ◌⊎◌, ℕ, ◌^◌, ◌<◌, List, [], ◌∷◌, ◌++◌, Option, Some};
