@@ -16,3 +16,4 @@ pub mod Pushed
 pub mod Returned
 pub mod Standing
 pub mod Origins
+pub mod Draws
