@@ -17,3 +17,5 @@ pub mod Returned
 pub mod Standing
 pub mod Origins
 pub mod Draws
+pub mod Once
+pub mod Fresh
