@@ -19,3 +19,4 @@ pub mod Origins
 pub mod Draws
 pub mod Once
 pub mod Fresh
+pub mod Passing
