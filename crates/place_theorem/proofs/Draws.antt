@@ -14,7 +14,7 @@ use Rattle.place_model.specs.Blocks.{Announces, Answered, AreBlocks, Declare, En
 use Rattle.place_model.specs.Calls.{Call, call, concat}
 use Rattle.place_model.specs.Histories.{next}
 use Rattle.place_model.specs.Identity.{IsPush, PushedIn}
-use Rattle.place_model.specs.Names.{Bytes, same}
+use Rattle.place_model.specs.Names.{Bytes}
 use Rattle.place_model.specs.PassBlocks.{All_returned, Ended_early, Foreign, IsPassBlock, IsRelease, IsReturns, Is_held, Own, PassEnd, Ran as Ran_pass, Returned, Returned_until, tags_among}
 use Rattle.place_model.specs.ReturnBlocks.{Again, Eighth, IsTries, Missing, Nowhere, ReturnEnd, Try, Useless, Whole as Whole_try, asking, leaving, queued_calls, whole_try}
 use Rattle.place_model.specs.RouteBlocks.{Asked, IsDeclareBlock, IsPublishBlock, IsShortPublish, Named, Plain, Told, direct_calls}

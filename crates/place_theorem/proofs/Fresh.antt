@@ -5,7 +5,7 @@ use Rattle.std.specs.FinMap.{get, insert, nat_cmp-IsAntisymmetric}
 use Rattle.resp_wire.specs.declared.value.Value.{Value}
 use Rattle.mini_store.specs.Connections.{conn}
 use Rattle.mini_store.specs.Keys.{Keys}
-use Rattle.mini_store.specs.Store.{State, answered, apply_of, gone_of, serve, to_queue}
+use Rattle.mini_store.specs.Store.{State, apply_of, gone_of, serve, to_queue}
 use Rattle.mini_store.specs.Words.{Words, command_of}
 use Rattle.mini_store.specs.declared.command.Command.{Command}
 use Rattle.mini_store.specs.declared.command.Command.TheVariants.{Lpush}
@@ -16,21 +16,19 @@ use Rattle.store_laws.proofs.Law.{altering}
 use Rattle.store_laws.proofs.Live.{live}
 use Rattle.store_laws.proofs.Maps.{conn_or, get-insert_other, get-insert_same}
 use Rattle.place_model.specs.Answers.{number_of}
-use Rattle.place_model.specs.Bindings.{parts}
 use Rattle.place_model.specs.Blocks.{AreBlocks, IsFrontOfBlocks, IsMannered, drawn_by}
 use Rattle.place_model.specs.Calls.{Call, call, concat}
 use Rattle.place_model.specs.Counts.{start_count}
 use Rattle.place_model.specs.Histories.{AllMayCome, Client, History, IsHistoryPrefix, MayCome, World, after, after_entries, and_then, conn_of, next, next_of, start_from, table, with_client}
 use Rattle.place_model.specs.Identity.{HasEnvelope, HasOrigin, IsPublished, IsPush, PushedIn}
 use Rattle.place_model.specs.Names.{Bytes, same}
-use Rattle.place_model.specs.QueueKeys.{key}
 use Rattle.place_model.specs.Setting.{is_queue}
 use Rattle.place_model.specs.Starts.{IsSound}
 use Rattle.place_model.specs.declared.history.Entry.{Entry}
 use Rattle.place_model.specs.declared.history.Entry.TheVariants.{Call as Called, Heard, Stop}
 use Rattle.place_theorem.proofs.Draws.{DrawRuns, HasDrawn, blocks_draw, drawn_runs, draws_split, none_drawn, pushed_split, pushed_tag}
 use Rattle.place_theorem.proofs.Full.{Full}
-use Rattle.place_theorem.proofs.Kept.{Inv, part, stopped, stopped_is}
+use Rattle.place_theorem.proofs.Kept.{Inv, stopped_is}
 use Rattle.place_theorem.proofs.Machine.{AllApart, Asks, At, Begins, Cursor, Ends, Fails, Finds, Finds_none, Finds_other, Halted, Idle, IsTalk, Leaves, Live, Passes_by, Publishes, Queues, Reads, Refuses, Runs, Step, Talks, Watches, front_runs, runs_split}
 use Rattle.place_theorem.proofs.Once.{SeedsDiffer, seeds_differ, start_body, start_seed}
 use Rattle.place_theorem.proofs.Origins.{identity, pushed_last, pushed_more}

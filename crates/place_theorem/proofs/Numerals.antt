@@ -1,6 +1,6 @@
 -- The decimal text of a number is read as that number.
-use Rattle.std.proofs.Common.{◌≡◌, ◌≢◌, ℕ, zero, suc, ◌+◌, ◌-◌, ◌*◌, ◌/◌, ◌%◌, ◌^◌, ◌<◌, ◌≤◌, List, [], ◌∷◌, ◌++◌, Bool, true, false, ◌&&◌, nat_le, nat_lt, nat_eq, ◌==◌, if◌then◌else◌, refl, sym, ap, subst, ◌∙◌, arith, None, Some, Option, decimal}
-use Rattle.std.specs.Prelude.{ℤ, pos, negsuc}
+use Rattle.std.proofs.Common.{◌≡◌, ◌≢◌, ℕ, zero, suc, ◌+◌, ◌-◌, ◌*◌, ◌/◌, ◌%◌, ◌^◌, ◌<◌, ◌≤◌, List, [], ◌∷◌, ◌++◌, true, false, ◌&&◌, nat_le, nat_lt, nat_eq, ◌==◌, if◌then◌else◌, refl, sym, ap, subst, ◌∙◌, arith, None, Some, decimal}
+use Rattle.std.specs.Prelude.{pos, negsuc}
 use Rattle.std.proofs.lemmas.Bool.Decides.{nat_tests, Decides-eqb}
 use Rattle.std.proofs.lemmas.Fmt.{decimal_by_steps, decimal_digit}
 use Rattle.mini_store.specs.Integers.{digits_onto, magnitude_of, plain_integer, negative_integer, integer_of}
@@ -19,7 +19,7 @@ digits-append : (n : ℕ) (ds : List ℕ) (m d : ℕ) → digits_onto n ds ≡ S
 digits-append n [] m d e h b = let i : n ≡ m = cc in subst (λ x. digits_onto x ((48 + d) ∷ []) ≡ Some (m * 10 + d)) (sym i) (digits-one m d h b)
 digits-append n (c ∷ cs) m d e h b =
     elim (nat_le 48 c && nat_le c 57) as (λ t. (if t then (if nat_lt (n * 10 + (c - 48)) (2 ^ 64) then digits_onto (n * 10 + (c - 48)) cs else None) else None) ≡ Some m
-        → (if t then (if nat_lt (n * 10 + (c - 48)) (2 ^ 64) then digits_onto (n * 10 + (c - 48)) (cs ++ (48 + d) ∷ []) else None) else None) ≡ Some (m * 10 + d)) [
+    → (if t then (if nat_lt (n * 10 + (c - 48)) (2 ^ 64) then digits_onto (n * 10 + (c - 48)) (cs ++ (48 + d) ∷ []) else None) else None) ≡ Some (m * 10 + d)) [
       | true ↦ λ f. elim (nat_lt (n * 10 + (c - 48)) (2 ^ 64)) as (λ t. (if t then digits_onto (n * 10 + (c - 48)) cs else None) ≡ Some m → (if t then digits_onto (n * 10 + (c - 48)) (cs ++ (48 + d) ∷ []) else None) ≡ Some (m * 10 + d)) [
         | true ↦ λ g. digits-append (n * 10 + (c - 48)) cs m d g h b
         | false ↦ λ g. cc

@@ -15,7 +15,7 @@ use Rattle.place_model.specs.Starts.{IsSound, IsSoundStart}
 use Rattle.place_model.specs.declared.history.Entry.{Entry}
 use Rattle.place_model.specs.declared.history.Entry.TheVariants.{Call as Called, Heard, Stop}
 use Rattle.place_theorem.proofs.Full.{Alike, Full, Kinds}
-use Rattle.place_theorem.proofs.Kept.{Inv, stopped}
+use Rattle.place_theorem.proofs.Kept.{Inv}
 use Rattle.place_theorem.proofs.Numerals.{eqb_true, off}
 use Rattle.place_theorem.proofs.Safe.{lists_of, table_of}
 use Rattle.place_theorem.proofs.Transactions.{table_is}
