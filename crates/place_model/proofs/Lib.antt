@@ -11,3 +11,5 @@ pub mod NameFaults
 pub mod Cuts
 pub mod Gathers
 pub mod Weighs
+pub mod Walks
+pub mod Placed

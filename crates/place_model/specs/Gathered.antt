@@ -1,7 +1,7 @@
 -- What a walk over a history's entries gathers, by the numbers of tags: of each client what is in its hand and what its commands since MULTI do to messages, and which messages were pushed, ended and copied.
 use Rattle.std.specs.Prelude.{ℕ, zero, suc, ℤ, ◌+◌, Bool, true, false, not, ◌&&◌, ◌||◌, ◌==◌, nat_le, if◌then◌else◌, List, [], ◌∷◌, ◌++◌, filter, map, Option, None, Some, option_and_then}
 use Rattle.std.specs.Ordering.{nat_cmp}
-use Rattle.std.specs.FinMap.{FinMap, get, insert}
+use Rattle.std.specs.FinMap.{FinMap, empty, entries, get, insert}
 use Rattle.resp_wire.specs.declared.value.Value.{Value}
 use Rattle.mini_store.specs.Words.{command_of}
 use Rattle.mini_store.specs.declared.command.Command.{Command}
@@ -11,13 +11,16 @@ use Rattle.mini_store.specs.declared.held.Stored.{Stored}
 use Rattle.mini_store.specs.declared.held.Stored.TheVariants.{Items}
 use Rattle.envelope.specs.Tags.{tag_of_text}
 use Rattle.place_model.specs.Answers.{items_of, number_of, pair_of}
-use Rattle.place_model.specs.Histories.{Client}
+use Rattle.place_model.specs.Histories.{Client, History}
 use Rattle.place_model.specs.Names.{Bytes, same}
+use Rattle.place_model.specs.PlaceOf.{by_counts, or_else}
 use Rattle.place_model.specs.Seen.{is_one, seen}
 use Rattle.place_model.specs.Setting.{Setting, is_queue}
 use Rattle.place_model.specs.declared.heard.Heard.{Heard}
 use Rattle.place_model.specs.declared.history.Entry.{Entry}
 use Rattle.place_model.specs.declared.history.Entry.TheVariants.{Call, Heard as Noted, Stop}
+use Rattle.place_model.specs.declared.place.Place.{Place}
+use Rattle.place_model.specs.declared.place.Place.TheVariants.{List as InList, Unacked, Hand, Ended, Lost, Never}
 use Rattle.place_model.specs.declared.seat.Act.{Act}
 use Rattle.place_model.specs.declared.seat.Act.TheVariants.{Push, Take, Nothing}
 use Rattle.place_model.specs.declared.seat.Seat.{Seat}
@@ -216,3 +219,39 @@ told_by σ (e ∷ es) = told_under σ (σ.split e.0) e.1 ++ told_by σ es
 abbrev pub hands : Bool → List (ℕ × Seat) → List (ℕ × ℕ)
 hands gone [] = []
 hands gone (e ∷ es) = (if e.1.stopped then (if gone then map (λ n. (n, e.0)) (listed e.1.hand) else []) else (if gone then [] else map (λ n. (n, e.0)) (listed e.1.hand))) ++ hands gone es
+
+-- ---- places
+
+-- a client that has called nothing
+abbrev pub new_seat : Seat
+new_seat = record { hand = None; acts = []; stopped = false }
+
+-- with these clients
+abbrev pub seated : FinMap nat_cmp Seat → List (ℕ × ℕ) → FinMap nat_cmp Seat
+seated m [] = m
+seated m (c ∷ cs) = seated (insert m c.0 new_seat) cs
+
+-- before any entry
+abbrev pub walk_start : List (ℕ × ℕ) → Walk
+walk_start cs = record { seats = seated empty cs; accepted = []; pushes = []; ended = []; copied = [] }
+
+-- after a history
+abbrev pub gathered : Setting → History Heard → Walk
+gathered σ h = walked_all σ (walk_start h.clients) h.entries
+
+-- the place of a list
+abbrev pub listed_place : Bytes × ℕ → Place
+listed_place p = InList p.0 p.1
+
+-- the place of a message of which nothing is pushed twice, by what was gathered, the lists of queues, and whether it is in the table
+abbrev pub single_place : ℕ → Walk → List (ℕ × (Bytes × ℕ)) → Bool → Place
+single_place t w told kept =
+    or_else listed_place (first_of t told)
+    (if kept then Unacked else
+    or_else Hand (first_of t (hands false (entries w.seats)))
+    (if has t w.ended then Ended else
+    or_else Lost (first_of t (hands true (entries w.seats))) Never))
+
+-- the place of a message
+abbrev pub place_by : ℕ → Walk → List (ℕ × (Bytes × ℕ)) → Bool → Place
+place_by t w told kept = by_counts (times t w.pushes) (if has t w.copied then 1 else 0) (single_place t w told kept)
