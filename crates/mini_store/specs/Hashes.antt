@@ -10,6 +10,12 @@ use Rattle.mini_store.specs.Keys.{Keys, put, Outcome, out, is_long, taken_out, a
 use Rattle.mini_store.specs.declared.held.Stored.{Stored}
 use Rattle.mini_store.specs.declared.held.Stored.TheVariants.{Hash}
 
+-- the hash of a key: empty where there is none, and none where the key holds another kind
+abbrev pub hash_at : Option Stored → Option (FinMap bytes_cmp Bytes)
+hash_at None = Some empty
+hash_at (Some (Hash h)) = Some h
+hash_at (Some other) = None
+
 -- HSET in this hash; a field has at most 1,024 bytes
 abbrev pub hset_to : Keys → Bytes → Bytes → Bytes → FinMap bytes_cmp Bytes → Outcome
 hset_to m k f v h =

@@ -9,6 +9,12 @@ use Rattle.mini_store.specs.Keys.{Keys, value_at, put, Outcome, out}
 use Rattle.mini_store.specs.declared.held.Stored.{Stored}
 use Rattle.mini_store.specs.declared.held.Stored.TheVariants.{Items}
 
+-- the list of a key: empty where there is none, and none where the key holds another kind
+abbrev pub items_at : Option Stored → Option (List Bytes)
+items_at None = Some []
+items_at (Some (Items xs)) = Some xs
+items_at (Some other) = None
+
 -- pushed at the head, one after the other
 abbrev pub pushed : List Bytes → List Bytes → List Bytes
 pushed [] xs = xs

@@ -10,6 +10,12 @@ use Rattle.mini_store.specs.Keys.{Keys, put, Outcome, out, is_long, taken_out, a
 use Rattle.mini_store.specs.declared.held.Stored.{Stored}
 use Rattle.mini_store.specs.declared.held.Stored.TheVariants.{Members}
 
+-- the set of a key: empty where there is none, and none where the key holds another kind
+abbrev pub members_at : Option Stored → Option (FinMap bytes_cmp (Unit {0}))
+members_at None = Some empty
+members_at (Some (Members h)) = Some h
+members_at (Some other) = None
+
 -- with these members, and how many of them are new
 abbrev pub put_in : FinMap bytes_cmp (Unit {0}) → List Bytes → FinMap bytes_cmp (Unit {0}) × ℕ
 put_in h [] = (h, 0)

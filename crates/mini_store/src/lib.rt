@@ -6,10 +6,19 @@
 
 mod command;
 mod connection;
+mod effect;
 mod held;
+mod hashes;
 mod integer;
+mod keyspace;
 mod laws;
+mod lists;
+mod members;
 mod reply;
+mod sets;
+mod sorted_sets;
+mod texts;
+mod words;
 
 pub use command::{Command, Fault};
 pub use connection::{Conn, Queue};

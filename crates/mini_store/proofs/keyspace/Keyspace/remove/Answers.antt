@@ -1,0 +1,10 @@
+use Rattle.std.proofs.Common.{◌≡◌, ap, sym, ◌∙◌}
+use Rattle.std.specs.FinMap as map
+use Rattle.store_tables.proofs.Maps.{get_made, removed_made, bytes_total, bytes_anti}
+use Rattle.mini_store.proofs.keyspace.Keyspace.remove.Goals as goal
+
+pub returns-clause-held : goal.returns-clause-held
+returns-clause-held c = c.remove.ensures.value ∙ sym (get_made bytes_total bytes_anti c.self.inside.kept.entries c.args.key.now) ∙ ap (λ m. map.get m c.args.key.now) c.self.view_is
+
+pub returns-clause-removed : goal.returns-clause-removed
+returns-clause-removed c = removed_made bytes_total bytes_anti c.self.inside.kept.entries c.remove.new.self.entries c.args.key.now c.remove.ensures.updates.0 ∙ ap (λ m. map.remove m c.args.key.now) c.self.view_is

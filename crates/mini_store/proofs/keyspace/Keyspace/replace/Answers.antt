@@ -1,0 +1,16 @@
+use Rattle.std.proofs.Common.{rules, ◌≡◌, IfOk, IfErr, IfSome, OnOk, OnErr, Some, None, ap, sym, ◌∙◌, refl}
+use Rattle.std.specs.FinMap as map
+use Rattle.store_tables.proofs.Maps.{get_made, put_made, bytes_total, bytes_anti, is_some_from}
+use Rattle.mini_store.proofs.keyspace.Keyspace.replace.Goals as goal
+
+pub returns-in_default-clause-absent : goal.returns-in_default-clause-absent
+returns-in_default-clause-absent c = sym (c.in_default.ensures.value ∙ sym (get_made bytes_total bytes_anti c.self.inside.kept.entries c.args.key.now) ∙ ap (λ m. map.get m c.args.key.now) c.self.view_is)
+
+pub returns-clause-there : goal.returns-clause-there
+returns-clause-there c = sym (c.in-Some.ensures.value ∙ sym (get_made bytes_total bytes_anti c.self.inside.kept.entries c.args.key.now) ∙ ap (λ m. map.get m c.args.key.now) c.self.view_is) ∙ ap Some (sym c.replace.ensures.value)
+
+pub returns-clause-ok : goal.returns-clause-ok
+returns-clause-ok c =
+    let there = is_some_from c.in-Some.ensures.value in
+    let updates = (c.get_mut.follows.holds c.replace.new.dest).3 there in
+    put_made bytes_total bytes_anti c.self.inside.kept.entries (c.get_mut.follows.lender c.replace.new.dest).entries c.args.key.now c.args.held (rw (sym c.replace.ensures.after) updates.0) ∙ ap (λ m. map.insert m c.args.key.now c.args.held) c.self.view_is

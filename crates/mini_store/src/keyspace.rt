@@ -1,0 +1,106 @@
+//! The keys with what they hold.
+ghost use Rattle.mini_store.specs.Keys.{put};
+ghost use Rattle.std.specs.FinMap as map;
+ghost use Rattle.std.specs.Option.{option_copied};
+ghost use Rattle.std.specs.Prelude.{◌≡◌, IfErr, IfOk, None, OnErr, OnOk, Some, if◌then◌else◌, is_some, nat_eq};
+
+use crate::{Held, Stored};
+use resp_wire::Bytes;
+use std::alloc::{AllocError, Global};
+use std::collections::BTreeMap;
+use std::marker::Model;
+use std::mem;
+
+/// The keys in byte order with what they hold, seen by contracts as a finite map.
+#[derive(Debug, Drop)]
+pub struct Keyspace {
+    kept: BTreeMap<Bytes, Held>,
+}
+
+impl Model for Keyspace {
+    ghost use Rattle.mini_store.specs.Keys.{Keys};
+    ghost use Rattle.mini_store.specs.Store.{keys_code};
+    ghost use Rattle.std.specs.FinMap as map;
+
+    ghost Value = { Keys };
+
+    ghost coded = { keys_code };
+
+    ghost view = { λ k. map.from_entries k.kept.entries };
+}
+
+impl Keyspace {
+    /// No keys; takes no memory.
+    pub fn new(alloc: Global) -> Self
+        ensures { result ≡ map.empty }
+    {
+        Keyspace {
+            kept: BTreeMap::new(alloc),
+        }
+    }
+
+    /// What a key holds.
+    pub fn get(&self, key: &Bytes) -> Option<&Held>
+        ensures { option_copied result ≡ map.get self.now key.now }
+    {
+        self.kept.get(key)
+    }
+
+    /// Whether the key is present.
+    pub fn has(&self, key: &Bytes) -> bool
+        ensures { result ≡ is_some (map.get self.now key.now) }
+    {
+        self.get(key).is_some()
+    }
+
+    /// Puts what a present key holds in the place of what it held, which takes no memory.
+    pub fn replace(&mut self, key: &Bytes, held: Held) -> Result<Held, Held>
+        ensures there { IfOk result (λ before. map.get self.old key.now ≡ Some before) }
+        ensures ok { OnOk result (self.new ≡ map.insert self.old key.now held) }
+        ensures absent { OnErr result (map.get self.old key.now ≡ None) }
+        ensures back { IfErr result (λ same. same ≡ held) }
+        ensures err { OnErr result (self.new ≡ self.old) }
+    {
+        let Some(place) = self.kept.get_mut(key) else {
+            return Err(held);
+        };
+        Ok(mem::replace(place, held))
+    }
+
+    /// Puts what a key holds.
+    pub fn insert(&mut self, key: Bytes, held: Held) -> Result<(), AllocError>
+        ensures { OnOk result (self.new ≡ map.insert self.old key held) }
+    {
+        self.kept.insert(key, held)?;
+        Ok(())
+    }
+
+    /// Takes a key out with what it holds.
+    pub fn remove(&mut self, key: &Bytes) -> Option<Held>
+        ensures held { result ≡ map.get self.old key.now }
+        ensures removed { self.new ≡ map.remove self.old key.now }
+    {
+        self.kept.remove(key)
+    }
+
+    /// Puts a value under a key, and keeps the key's expiry.
+    pub fn put(&mut self, key: Bytes, value: Stored) -> Result<(), AllocError>
+        ensures { OnOk result (self.new ≡ put self.old key value) }
+    {
+        let expiry = match self.get(&key) {
+            Some(held) => held.expiry,
+            None => None,
+        };
+        self.insert(key, Held { value, expiry })
+    }
+
+    /// Puts a value back under its key, where anything is left of it.
+    pub fn restore(&mut self, key: Bytes, value: Stored, left: usize) -> Result<(), AllocError>
+        ensures { OnOk result (self.new ≡ (if nat_eq left 0 then self.old else put self.old key value)) }
+    {
+        if left == 0 {
+            return Ok(());
+        }
+        self.put(key, value)
+    }
+}
