@@ -9,3 +9,7 @@ pub mod Settings
 pub mod Examples
 pub mod NameFaults
 pub mod Cuts
+pub mod Gathers
+pub mod Weighs
+pub mod Walks
+pub mod Placed

@@ -26,3 +26,6 @@ pub mod SettingLaws
 pub mod Scripts
 pub mod NameFaults
 pub mod Shown
+pub mod EnvelopeTexts
+pub mod Accepted
+pub mod Gathered

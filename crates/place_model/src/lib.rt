@@ -8,6 +8,7 @@ mod keys;
 mod laws;
 mod place;
 mod queue_name;
+mod seat;
 
 pub use block::Side;
 pub use heard::{Heard, Outcome};
