@@ -1,0 +1,5 @@
+pub mod Members
+pub mod Names
+pub mod Tags
+pub mod Written
+pub mod Carried

@@ -1,0 +1,19 @@
+-- What comes out of an entry of the table of messages that are not acknowledged.
+use Rattle.std.specs.Prelude.{◌≡◌, ℕ, true, List, Some, Ok}
+use Rattle.envelope.specs.Bodies.{carried, tag_of_bytes}
+use Rattle.envelope.specs.Entries.{Entry, entry_at}
+use Rattle.envelope.specs.Envelopes.{envelope_at, parts_in, priority_of}
+use Rattle.envelope.specs.Marks.{is_marked, marked}
+use Rattle.envelope.specs.Tags.{tag_text}
+
+-- the bytes are an envelope again: the entry's tree with both marks set, which says what that tree says
+pub record IsCarried (e : Entry) (v : List ℕ) : Type 0 where
+  pub envelope : envelope_at v ≡ Ok (marked e.tree)  -- the bytes are an envelope of the marked tree
+  pub marks : is_marked (marked e.tree) ≡ true  -- both its marks are true
+  pub parts : parts_in (marked e.tree) ≡ parts_in e.tree  -- its content, its tag, its exchange and its routing key are the entry's
+  pub priority : priority_of (marked e.tree) ≡ priority_of e.tree  -- and so is its priority
+  pub tag : tag_of_bytes v ≡ Some (tag_text (parts_in e.tree).tag)  -- the bytes tell that tag
+
+-- what an entry carries is its envelope, marked
+abbrev pub EntriesCarryEnvelopes : Type 0
+EntriesCarryEnvelopes = (u v : List ℕ) → carried u ≡ Some v → (e : Entry) × (entry_at u ≡ Ok e) × IsCarried e v
