@@ -1,0 +1,38 @@
+//! All envelopes of a message are the one that was published, but for the marks of redelivery.
+ghost use Rattle.place_model.specs.Blocks.{AreBlocks, drawn_by};
+ghost use Rattle.place_model.specs.Calls.{Call, concat};
+ghost use Rattle.place_model.specs.EnvelopeTexts.{texts};
+ghost use Rattle.place_model.specs.Histories.{Client, History, IsHistoryPrefix, after};
+ghost use Rattle.place_model.specs.Identity.{HasEnvelope, HasOrigin, IsPublished};
+ghost use Rattle.place_model.specs.Layouts.{Layout, is_layout};
+ghost use Rattle.place_model.specs.Names.{Bytes};
+ghost use Rattle.place_model.specs.Setting.{setting_of};
+ghost use Rattle.place_model.specs.Starts.{IsSound};
+ghost use Rattle.std.specs.FinMap.{get};
+ghost use Rattle.std.specs.Prelude.{◌≡◌, true, ℕ, List, Some, suc};
+
+/// Each envelope that stands in a list or in the table has the body of one that was published under its tag, or that stood in the start.
+pub fn origin<N>()
+    ensures { (κ : Layout) → is_layout κ ≡ true → let σ = setting_of κ texts in (h p : History N) (t b : Bytes) → IsSound σ h → IsHistoryPrefix p h
+        → HasEnvelope σ (after p).store.keys t b → HasOrigin σ p t b }
+{}
+
+/// What is published under one tag has one body.
+pub fn one_publication<N>()
+    ensures { (κ : Layout) → is_layout κ ≡ true → let σ = setting_of κ texts in (h p : History N) (t b b' : Bytes) → IsSound σ h → IsHistoryPrefix p h
+        → IsPublished σ (after p) t b → IsPublished σ (after p) t b' → b ≡ b' }
+{}
+
+/// So all envelopes of a tag in lists and table have one body.
+pub fn one_tree<N>()
+    ensures { (κ : Layout) → is_layout κ ≡ true → let σ = setting_of κ texts in (h p : History N) (t b b' : Bytes) → IsSound σ h → IsHistoryPrefix p h
+        → HasEnvelope σ (after p).store.keys t b → HasEnvelope σ (after p).store.keys t b' → b ≡ b' }
+{}
+
+/// Where a client's calls so far are whole blocks, its next tag was published by nobody.
+pub fn fresh_tag<N>()
+    ensures { (κ : Layout) → is_layout κ ≡ true → let σ = setting_of κ texts in (h p : History N) → IsSound σ h → IsHistoryPrefix p h
+        → (c : ℕ) (cl : Client) (bs : List (List Call)) (blocks : AreBlocks σ cl.seed 0 0 bs) (b : Bytes)
+        → get (after p).clients c ≡ Some cl → cl.calls ≡ concat bs
+        → IsPublished σ (after p) (σ.tag cl.seed (suc (drawn_by σ cl.seed 0 0 bs blocks))) b → ⊥ }
+{}
