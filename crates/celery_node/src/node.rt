@@ -107,3 +107,6 @@ fn write_end<K: Sink>(out: &mut K, end: End, text: &[u8]) -> Ended
         },
     }
 }
+
+#[cfg(test)]
+mod tests;
