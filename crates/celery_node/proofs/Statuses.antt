@@ -1,11 +1,11 @@
 -- What each status of a run says.
-use Rattle.std.proofs.Common.{Contains, List, None, Option, Some, [], ap, append-nil, arith, inl, inr, length, lit<, refl, subst, sym, unwrap_or, ℕ, ◌+◌, ◌++◌, ◌<◌, ◌≡◌, ◌∙◌, ◌∷◌, ◌⊎◌}
+use Rattle.std.proofs.Common.{Contains, List, None, Option, Some, [], ap, append-nil, arith, inl, inr, lit<, refl, subst, sym, unwrap_or, ℕ, ◌++◌, ◌≡◌, ◌∙◌, ◌∷◌, ◌⊎◌}
 use Rattle.std.proofs.lemmas.Option.{none-some}
 use Rattle.std.specs.Io.KnownBytes.{Appends, Consumes, IsAtEnd}
 use Rattle.links.specs.Causes.{Rose}
 use Rattle.links.specs.Views.{SinkView, SourceView}
-use Rattle.celery_node.proofs.Endings.{run_within-front, run_within-past}
-use Rattle.celery_node.specs.Endings.{HasEnded, HasInput, IsAnswerTo, IsBadLine, IsBadWord, IsReadFault, IsReported, IsWriteFault, Shown, Written, ended_of, text_of}
+use Rattle.celery_node.proofs.Endings.{run_within-front}
+use Rattle.celery_node.specs.Endings.{HasEnded, HasInput, IsAnswerTo, IsBadLine, IsBadWord, IsReadFault, IsReported, IsWriteFault, Shown, ended_of, text_of}
 use Rattle.celery_node.specs.Schedule.{schedule_run}
 use Rattle.celery_node.specs.Words.{bad_place}
 use Rattle.celery_node.specs.declared.ending.End.TheVariants.{BadLine, BadWord, Memory, ReadFault, Reported}
