@@ -25,7 +25,6 @@ use Rattle.place_model.specs.declared.history.Entry.{Entry}
 use Rattle.place_model.specs.declared.history.Entry.TheVariants.{Call as Called, Heard, Stop}
 use Rattle.place_theorem.proofs.Draws.{pushed_tag}
 use Rattle.place_theorem.proofs.Full.{Full}
-use Rattle.place_theorem.proofs.Kept.{part}
 use Rattle.place_theorem.proofs.Numerals.{eqb_true, integer_of-difference}
 use Rattle.place_theorem.proofs.Once.{start_tag}
 use Rattle.place_theorem.proofs.Origins.{identity}
