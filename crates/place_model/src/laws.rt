@@ -1,5 +1,5 @@
 //! What the definitions of keys, lookups and tokens keep, for every key layout.
-ghost use Rattle.place_model.specs.KeyLaws.{KeyTells, SplitTells, OnlyKeysSplit, OthersApart, PopsTell, StepsTell, RoutesTell, MembersTell, TokenTells};
+ghost use Rattle.place_model.specs.KeyLaws.{KeyTells, SplitTells, OnlyKeysSplit, OthersApart, PopsCount, PopsTell, StepsTell, RoutesTell, MembersTell, TokenTells};
 ghost use Rattle.place_model.specs.SettingLaws.{LayoutsServe};
 
 // A queue's key tells the queue and its step, and the split of a key gives them for such a key alone.
@@ -14,9 +14,10 @@ pub fn others_apart()
     ensures { OthersApart }
 {}
 
-// The keys of a pop are queues', and each priority has a step.
+// The keys of a pop are queues', one for each queue at each step, and each priority has a step.
 pub fn pops()
     ensures keys { PopsTell }
+    ensures count { PopsCount }
     ensures steps { StepsTell }
 {}
 
