@@ -96,9 +96,6 @@ module _ (σ : Full) (base : Bytes → ℕ) (w : World) (inv : Inv σ base w) (t
   unfolding AllTidy
   tidy_called N at words reply right d dl dis = go (conn_or d c)
     where
-      x : Call
-      x = call_in at words reply
-
       mine : Tidy σ (cl.calls ++ call_in at words reply ∷ [])
       mine before y t b from e p runs =
           let same = same_last cl.calls before (call_in at words reply) y e in
