@@ -58,6 +58,7 @@ toy_texts = record {
   carried_body = carried_is;
 }
 
+-- so each lawful layout has a lawful setting
 pub some_setting : (l : Layout) → is_layout l ≡ true → (τ : Texts) × IsLawful (setting_of l τ)
 some_setting l lawful = (toy, lawful_setting l toy lawful toy_texts)
 
@@ -70,6 +71,7 @@ none k = get-empty bytes_cmp k
 abbrev one_if : Bytes → Option Held → ℕ
 one_if t o = if has_field (value_of o) t then 1 else 0
 
+-- with no key all that a sound start has holds
 pub empty_start : (σ : Setting) → IsSoundStart σ empty []
 empty_start σ = record {
   lists = λ k q. subst IsListOrNone (sym (ap value_of (none k))) tt;

@@ -62,6 +62,7 @@ read_at σ at s c cn high low skip most ms (Some q) [] is = absurd (cc is)
 read_at σ at s c cn high low skip most ms None (x ∷ xs) is = absurd (cc is)
 read_at σ at s c cn high low skip most ms (Some q) (x ∷ xs) is = absurd (cc is)
 
+-- what a range of the index gives are tags
 pub pass_reads : {N : Type 0} (σ : Full) (h p : History N) (c at : ℕ) (words : Words) (reply : Reply) (high low : ℤ) (skip most : ℕ) (ms : List Bytes) → IsSound σ.names h → IsHistoryPrefix (and_then p (Called c at words reply ∷ [])) h
     → command_of words ≡ Zrevrangebyscore σ.names.index high low skip most → reply.answer ≡ bulks ms → ReadsTags σ.names (after p) at high low skip most ms
 pass_reads {N = N} σ h p c at words reply high low skip most ms sound pre spelled answer =
@@ -117,6 +118,7 @@ spelled_due : (σ : Full) (at v : ℕ) → at < 2 ^ 63 → v < 2 ^ 63 → comman
 unfolding command_of
 spelled_due σ at v a b = ap (λ o. range_of σ.names.index o (Some (pos 0)) (Some 0) (Some 10)) (integer_of-difference at v a b)
 
+-- a pass that read these accounts for them
 pub pass_accounts : {N : Type 0} (σ : Full) (h p : History N) (c at v : ℕ) (reply : Reply) (ms : List Bytes) (ends : List ReturnEnd) (l : List Call) → IsSound σ.names h → IsHistoryPrefix (and_then p (Called c at (due_words σ.names at v) reply ∷ [])) h
     → at < 2 ^ 63 → v < 2 ^ 63 → reply.answer ≡ bulks ms → IsReturns σ.names (tags_among σ.names ms) (Done ends) l
     → (ms ≡ due_members σ.names (after p) at v) × (moved_count ends + gone_count ends + stayed_count ends ≡ length ms)
@@ -154,6 +156,7 @@ call_entry {N = N} c (e ∷ es) earlier x rest is = go e (λ l i. call_entry c e
     go (Heard d note) next_one true i is' = later (Heard d note) (next_one earlier (sym (ap (λ b. calls_among (if b then Heard d note ∷ own_entries c es else own_entries c es)) i) ∙ is'))
     go (Stop d) next_one true i is' = later (Stop d) (next_one earlier (sym (ap (λ b. calls_among (if b then Stop d ∷ own_entries c es else own_entries c es)) i) ∙ is'))
 
+-- so each whole pass does
 pub whole_pass : {N : Type 0} (σ : Full) (h : History N) (c v : ℕ) (token : Bytes) (ends : List ReturnEnd) (earlier l rest : List Call) → IsSound σ.names h → calls_of c h.entries ≡ earlier ++ (l ++ rest)
     → IsPassBlock σ.names token v (Done ends) l → AreEarly l → v < 2 ^ 63 → AccountsForAll σ.names h v ends
 whole_pass {N = N} σ h c v token ends earlier l rest sound is block early small = go (Done ends) l refl block early is

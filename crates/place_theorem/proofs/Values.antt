@@ -25,6 +25,7 @@ pub number_of-Status : (b : Bytes) → number_of (Status b) ≡ None
 unfolding layer
 number_of-Status b = refl
 
+-- nor does an error
 pub number_of-Error : (b : Bytes) → number_of (Error b) ≡ None
 unfolding layer
 number_of-Error b = refl
@@ -38,10 +39,12 @@ pub items_of-NullArray : items_of NullArray ≡ None
 unfolding layer
 items_of-NullArray = refl
 
+-- nor does a status
 pub items_of-Status : (b : Bytes) → items_of (Status b) ≡ None
 unfolding layer
 items_of-Status b = refl
 
+-- nor an error
 pub items_of-Error : (b : Bytes) → items_of (Error b) ≡ None
 unfolding layer
 items_of-Error b = refl
@@ -65,9 +68,11 @@ bulk_parts v w e = cc
 pub pair_of-NullArray : pair_of NullArray ≡ None
 pair_of-NullArray = rw items_of-NullArray refl
 
+-- nor does an error
 pub pair_of-Error : (b : Bytes) → pair_of (Error b) ≡ None
 pair_of-Error b = rw (items_of-Error b) refl
 
+-- nor a status
 pub pair_of-Status : (b : Bytes) → pair_of (Status b) ≡ None
 pair_of-Status b = rw (items_of-Status b) refl
 
@@ -85,6 +90,7 @@ differ_false a b n = same_false a b n
 pub text_or : (a b : Bytes) → (a ≡ b) ⊎ (a ≡ b → ⊥)
 text_or a b = same_or a b
 
+-- nor the null array
 pub number_of-NullArray : number_of NullArray ≡ None
 unfolding layer
 number_of-NullArray = refl
