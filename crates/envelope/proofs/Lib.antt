@@ -1,0 +1,16 @@
+pub mod BodyTexts
+pub mod Changes
+pub mod EntryTexts
+pub mod EnvelopeTags
+pub mod Kept
+pub mod Lengths
+pub mod MarkedSaid
+pub mod MarkedTrees
+pub mod Said
+pub mod SealedTrees
+pub mod Sixteen
+pub mod SortedTrees
+pub mod TagTexts
+pub mod Texts
+pub mod TextsBack
+pub mod Told

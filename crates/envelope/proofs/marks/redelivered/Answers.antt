@@ -1,0 +1,34 @@
+use Rattle.std.proofs.Common.{◌≡◌, false, Ok, ap, sym, ◌∙◌}
+use Rattle.serde_json.specs.Data.{Data}
+use Rattle.serde_json.specs.View.{view}
+use Rattle.serde_json.specs.Written.{has_float}
+use Rattle.envelope.specs.Envelopes.{said_by, parts_or_none, priority_of}
+use Rattle.envelope.specs.Marks.{is_marked}
+use Rattle.envelope.specs.Shown.{parts_view}
+use Rattle.envelope.proofs.Kept.{float-marked}
+use Rattle.envelope.proofs.MarkedSaid.{said_marked, is_marked-marked, priority-marked}
+use Rattle.envelope.proofs.Said.{said_is}
+use Rattle.envelope.proofs.marks.redelivered.Goals as goal
+
+pub invariant_of-result : goal.invariant_of-result
+invariant_of-result c =
+    let d = view c.e.inside.tree in
+    let p = parts_view c.e.inside.found in
+    let none : has_float (view c.in_ok-tree.tree) ≡ false = ap has_float c.in_ok-tree.ensures ∙ float-marked d (said_is d p c.e.invariant.said).plain.whole in
+    record {
+      said = ap said_by c.in_ok-tree.ensures ∙ said_marked d p c.e.invariant.said ∙ ap (λ q. Ok q) (sym c.in_ok-found.ensures);
+      sized = c.in_ok-size.ensures none;
+    }
+
+pub returns-clause-is_marked : goal.returns-clause-is_marked
+returns-clause-is_marked c =
+    ap is_marked c.in_ok-tree.ensures ∙ is_marked-marked (view c.e.inside.tree) (parts_view c.e.inside.found) c.e.invariant.said
+
+pub returns-clause-parts : goal.returns-clause-parts
+returns-clause-parts c =
+    let d = view c.e.inside.tree in
+    let p = parts_view c.e.inside.found in
+    ap (λ (x : Data). parts_or_none (said_by x)) c.in_ok-tree.ensures ∙ ap parts_or_none (said_marked d p c.e.invariant.said ∙ sym c.e.invariant.said) ∙ ap (λ t. parts_or_none (said_by (view t))) c.e.view_is
+
+pub returns-clause-priority : goal.returns-clause-priority
+returns-clause-priority c = ap priority_of c.in_ok-tree.ensures ∙ priority-marked (view c.e.inside.tree) ∙ ap (λ t. priority_of (view t)) c.e.view_is

@@ -1,0 +1,12 @@
+pub mod Bodies
+pub mod Entries
+pub mod Envelopes
+pub mod Laws
+pub mod Marks
+pub mod Members
+pub mod Reading
+pub mod Sealed
+pub mod Shown
+pub mod ShownEntry
+pub mod Sorted
+pub mod Tags

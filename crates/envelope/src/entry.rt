@@ -1,0 +1,136 @@
+//! Entries of the table of messages that are not acknowledged yet: an envelope beside where it was sent.
+ghost use Rattle.std.specs.Prelude.{◌≡◌, IfOk, Ok, false, option_map};
+ghost use Rattle.serde_json.specs.View.{items_view, view as data_of};
+ghost use Rattle.serde_json.specs.Written.{compact_text};
+ghost use Rattle.envelope.specs.Entries.{entry_at, entry_data, entry_for, entry_in, of_items, of_three};
+ghost use Rattle.envelope.specs.Reading.{Gives, needed};
+ghost use Rattle.envelope.specs.ShownEntry.{entry_view, items_of};
+ghost use Rattle.envelope.specs.declared.fault.EnvelopeFault.TheVariants.{NotJson};
+
+use crate::envelope::Envelope;
+use crate::fault::EnvelopeFault;
+use crate::find::want;
+use crate::reading::{fit_names, json, of_tree};
+use resp_wire::Bytes;
+use serde_json::{Value, json};
+use std::alloc::{AllocError, Global};
+
+/// The longest bytes of an entry.
+const MAX_ENTRY: usize = 1_048_576;
+
+/// An entry of the table: an envelope, and the exchange and the routing key by which it is returned.
+#[derive(Debug, Drop)]
+pub struct UnackedEntry {
+    /// The envelope.
+    pub envelope: Envelope,
+    /// The exchange, at most 255 bytes.
+    pub exchange: Bytes,
+    /// The routing key, at most 255 bytes.
+    pub routing_key: Bytes,
+}
+
+/// The entry that the bytes are: a JSON array of an envelope's tree, an exchange and a routing key.
+///
+/// # Errors
+/// The first that holds: `TooLong` above 1,048,576 bytes; `NotJson`, also where it is no array of three whose last
+/// two are texts; each fault of the envelope's tree, as `read` gives it; `TooLong` where one of the two texts has
+/// more than 255 bytes. `Memory` is want of memory.
+#[tactic(auto, unfolding(crate::specs::Entries::entry_at))]
+pub fn read_entry(alloc: Global, bytes: &[u8]) -> Result<UnackedEntry, EnvelopeFault>
+    ensures { Gives entry_view result (entry_at bytes.now) }
+{
+    want(bytes.len() <= MAX_ENTRY, EnvelopeFault::TooLong)?;
+    let value = json(alloc, bytes)?;
+    let items = needed_items(&value)?;
+    let envelope = of_tree(alloc, items.tree.clone()?)?;
+    want(
+        fit_names(items.exchange, items.routing_key),
+        EnvelopeFault::TooLong,
+    )?;
+    Ok(UnackedEntry {
+        envelope,
+        exchange: Bytes::from_slice(alloc, items.exchange.as_bytes())?,
+        routing_key: Bytes::from_slice(alloc, items.routing_key.as_bytes())?,
+    })
+}
+
+/// The entry of an envelope, by its own exchange and routing key: the compact text of the array of the three.
+pub fn write_entry(alloc: Global, e: &Envelope) -> Result<Bytes, AllocError>
+    ensures text { IfOk result (λ b. b ≡ compact_text (entry_data (entry_for (data_of e.now)))) }
+    // What was written is read again as the same entry.
+    ensures again { IfOk result (λ b. entry_at b ≡ Ok (entry_for (data_of e.now))) }
+{
+    let value = array_of(
+        alloc,
+        &e.tree,
+        e.found.exchange.as_str(),
+        e.found.routing_key.as_str(),
+    )?;
+    Ok(Bytes::from_vec(value.to_vec(alloc)?))
+}
+
+/// The three items of an entry, as they stand in its array.
+#[derive(Drop)]
+pub(crate) struct Items<'a> {
+    pub(crate) tree: &'a Value,
+    pub(crate) exchange: &'a str,
+    pub(crate) routing_key: &'a str,
+}
+
+/// The items of an entry, or the fault that it is none.
+fn needed_items(value: &Value) -> Result<Items<'_>, EnvelopeFault>
+    ensures { Gives items_of result (needed NotJson (entry_in (data_of value.now))) }
+{
+    match found_items(value) {
+        Some(found) => Ok(found),
+        None => Err(EnvelopeFault::NotJson),
+    }
+}
+
+/// The items of an entry.
+fn found_items(value: &Value) -> Option<Items<'_>>
+    ensures { option_map items_of result ≡ entry_in (data_of value.now) }
+{
+    three_of(value.as_array()?.as_slice())
+}
+
+/// The items of a slice that has three of them.
+fn three_of(values: &[Value]) -> Option<Items<'_>>
+    ensures { option_map items_of result ≡ of_items (items_view values.now) }
+{
+    match values {
+        [] | [_] | [_, _] => None,
+        [tree, exchange, routing_key] => texts_of(tree, exchange, routing_key),
+        [_, _, _, _, ..] => None,
+    }
+}
+
+/// The items, where the last two are texts.
+fn texts_of<'a>(tree: &'a Value, exchange: &'a Value, routing_key: &'a Value) -> Option<Items<'a>>
+    ensures { option_map items_of result
+        ≡ of_three (data_of tree.now) (data_of exchange.now) (data_of routing_key.now) }
+{
+    let exchange = exchange.as_str()?;
+    let routing_key = routing_key.as_str()?;
+    Some(Items {
+        tree,
+        exchange,
+        routing_key,
+    })
+}
+
+/// The array of an entry.
+fn array_of(
+    alloc: Global,
+    tree: &Value,
+    exchange: &str,
+    routing_key: &str,
+) -> Result<Value, AllocError>
+    ensures { IfOk result (λ v. data_of v ≡ entry_data (record {
+      tree = data_of tree.now;
+      exchange = exchange.now;
+      routing_key = routing_key.now;
+    })) }
+{
+    json!(in alloc; [tree, exchange, routing_key])
+}

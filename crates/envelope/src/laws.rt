@@ -1,0 +1,33 @@
+//! Laws of trees, envelopes, entries and tags that need no call. Each body is empty: the clauses are the laws.
+ghost use Rattle.envelope.specs.Laws.{BodiesComeOut, BodiesGoIn, MarksSay, MarksStay, ReadsBack, ReadsEnvelopes, ReadsSorted, TagsOfEnvelopes, TagsSpelled, TagsTold};
+
+/// What was read is sorted, and a sorted tree's compact text is read back as that tree.
+pub fn texts_read_back()
+    ensures sorted { ReadsSorted }
+    ensures back { ReadsBack }
+{}
+
+/// Reading gives an envelope's tree exactly where the bytes are a JSON text of that tree and the tree is an
+/// envelope's.
+pub fn envelopes_read()
+    ensures { ReadsEnvelopes }
+{}
+
+/// Marks that are set are set, and marks change nothing that an envelope says.
+pub fn marks_stay()
+    ensures twice { MarksStay }
+    ensures said { MarksSay }
+{}
+
+/// A tag's text tells its seed and its counter, and an envelope's tag is one.
+pub fn tags_tell()
+    ensures spelled { TagsSpelled }
+    ensures told { TagsTold }
+    ensures of_envelopes { TagsOfEnvelopes }
+{}
+
+/// An envelope goes into an entry and comes out of it whole, but for its marks.
+pub fn bodies_stay()
+    ensures go_in { BodiesGoIn }
+    ensures come_out { BodiesComeOut }
+{}
