@@ -23,3 +23,4 @@ pub mod Returns
 pub mod Identity
 pub mod Passes
 pub mod SettingLaws
+pub mod EnvelopeTexts

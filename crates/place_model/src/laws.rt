@@ -1,5 +1,6 @@
 //! What the definitions of keys, lookups and tokens keep, for every key layout.
 ghost use Rattle.place_model.specs.KeyLaws.{KeyTells, SplitTells, OnlyKeysSplit, OthersApart, PopsCount, PopsTell, StepsTell, RoutesTell, MembersTell, TokenTells};
+ghost use Rattle.place_model.specs.EnvelopeTexts.{EnvelopesServe};
 ghost use Rattle.place_model.specs.SettingLaws.{LayoutsServe};
 
 // A queue's key tells the queue and its step, and the split of a key gives them for such a key alone.
@@ -32,7 +33,8 @@ pub fn tokens()
     ensures { TokenTells }
 {}
 
-// With texts that keep their facts, each lawful layout gives a lawful setting.
+// With texts that keep their facts, each lawful layout gives a lawful setting, and the texts of envelopes keep them.
 pub fn layouts_serve()
-    ensures { LayoutsServe }
+    ensures layouts { LayoutsServe }
+    ensures envelopes { EnvelopesServe }
 {}

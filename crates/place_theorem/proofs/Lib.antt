@@ -20,4 +20,4 @@ pub mod Draws
 pub mod Once
 pub mod Fresh
 pub mod Passing
-pub mod Example
+pub mod EmptyStart
