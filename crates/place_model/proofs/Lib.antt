@@ -6,4 +6,5 @@ pub mod Steps
 pub mod Routes
 pub mod Texts
 pub mod Settings
+pub mod EnvelopeFacts
 pub mod Examples

@@ -24,3 +24,4 @@ pub mod Identity
 pub mod Passes
 pub mod SettingLaws
 pub mod Scripts
+pub mod EnvelopeTexts

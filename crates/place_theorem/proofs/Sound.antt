@@ -15,7 +15,7 @@ use Rattle.place_model.specs.Starts.{IsSound, IsSoundStart}
 use Rattle.place_model.specs.declared.history.Entry.{Entry}
 use Rattle.place_model.specs.declared.history.Entry.TheVariants.{Call as Called, Heard, Stop}
 use Rattle.place_theorem.proofs.Full.{Alike, Full, Kinds}
-use Rattle.place_theorem.proofs.Kept.{Inv, stopped}
+use Rattle.place_theorem.proofs.Kept.{Inv}
 use Rattle.place_theorem.proofs.Numerals.{eqb_true, off}
 use Rattle.place_theorem.proofs.Safe.{lists_of, table_of}
 use Rattle.place_theorem.proofs.Transactions.{table_is}
@@ -74,11 +74,12 @@ module _ (N : Type 0) (w : World) (c : ℕ) (cl : Client) (is : get w.clients c 
       go : (b : Bool) → (conn_of e == c) ≡ b → GoesOn (next_of w e (get w.clients (conn_of e))) c cl (calls_of c (e ∷ []))
       go b i = subst (GoesOn (next_of w e (get w.clients (conn_of e))) c cl) (sym (own_calls c e b i)) (by_client e (get w.clients (conn_of e)) refl b i)
 
-pub goes_on : {N : Type 0} (w : World) (es : List (Entry N)) (c : ℕ) (cl : Client) → get w.clients c ≡ Some cl → GoesOn (after_entries w es) c cl (calls_of c es)
-goes_on w [] c cl is = stays w c cl is
-goes_on {N = N} w (e ∷ es) c cl is =
+-- the world goes on with a client's calls
+pub client_goes : {N : Type 0} (w : World) (es : List (Entry N)) (c : ℕ) (cl : Client) → get w.clients c ≡ Some cl → GoesOn (after_entries w es) c cl (calls_of c es)
+client_goes w [] c cl is = stays w c cl is
+client_goes {N = N} w (e ∷ es) c cl is =
     let a = goes_one N w c cl is e in
-    let r = goes_on (next w e) es c a.0 a.1 in
+    let r = client_goes (next w e) es c a.0 a.1 in
     (r.0, r.1, r.2 ∙ a.2, r.3 ∙ ap (λ l. l ++ calls_of c es) a.3 ∙ append_assoc cl.calls (calls_of c (e ∷ [])) (calls_of c es) ∙ ap (λ l. cl.calls ++ l) (sym (calls-first c e es)))
 
 -- who isn't known stays so
@@ -99,12 +100,14 @@ unknown_one {N = N} w e c none = go e (get w.clients (conn_of e)) refl
     go (Heard d note) (Some old) was = none
     go (Stop d) (Some old) was = put (gone_of w.store d) d old (record old { stopped = true }) was
 
+-- no connection comes to be known
 pub unknown : {N : Type 0} (w : World) (es : List (Entry N)) (c : ℕ) → get w.clients c ≡ None → get (after_entries w es).clients c ≡ None
 unknown w [] c none = none
 unknown w (e ∷ es) c none = unknown (next w e) es c (unknown_one w e c none)
 
 -- ---- the table
 
+-- who is known at the start is in the table
 pub in_table : (cs : List (ℕ × ℕ)) (c : ℕ) (cl : Client) → get (table cs) c ≡ Some cl → Among (c, cl.seed) cs
 in_table [] c cl is = absurd (cc (is, get-empty {X = Client} nat_cmp c))
 in_table (d ∷ cs) c cl is = go (in_table cs c cl) (conn_or c d.0)
@@ -123,11 +126,12 @@ client_is h c cl is = go (get (table h.clients) c) refl
     go : (o : Option Client) → get (table h.clients) c ≡ o → Among (c, cl.seed) h.clients × (cl.calls ≡ calls_of c h.entries)
     go None none = absurd (cc (is, unknown (start_from h.start h.clients) h.entries c none))
     go (Some first) was =
-        let g = goes_on (start_from h.start h.clients) h.entries c first was in
+        let g = client_goes (start_from h.start h.clients) h.entries c first was in
         let they : g.0 ≡ cl = cc (g.1, is) in
         let new = table_get h.clients c first was in
         (subst (λ s. Among (c, s) h.clients) (sym g.2 ∙ ap (λ x. x.seed) they) (in_table h.clients c first was), sym (ap (λ x. x.calls) they) ∙ g.3 ∙ ap (λ l. l ++ calls_of c h.entries) new.0)
 
+-- so each client of the world keeps its manner
 pub all_mannered : {N : Type 0} (σ : Full) (h : History N) → IsSound σ.names h → AllMannered σ (after h)
 all_mannered σ h sound c cl is =
     let k = client_is h c cl is in
@@ -135,6 +139,7 @@ all_mannered σ h sound c cl is =
 
 -- ---- the start
 
+-- the kinds of a sound start
 pub kinds_of : (σ : Full) (m : Keys) (used : List ℕ) → IsSoundStart σ.names m used → Kinds σ m
 kinds_of σ m used s = record {
   lists = s.lists;
@@ -157,6 +162,7 @@ rebased σ base base' w same inv = record {
   placed = λ t one no_copy. let e = same t in let p = inv.placed t (omega (arith, e, one)) no_copy in omega (arith, e, p);
 }
 
+-- the invariant at the start
 pub inv_begin : (σ : Full) (cs : List (ℕ × ℕ)) (m : Keys) (used : List ℕ) → IsSoundStart σ.names m used → Inv σ (start_count σ.names m) (start_from m cs)
 inv_begin σ cs m used s = rebased σ _ _ _ (start_counts σ m s.alike) (inv_start σ cs m (kinds_of σ m used s) s.alike)
 
@@ -166,6 +172,7 @@ inv_begin σ cs m used s = rebased σ _ _ _ (start_counts σ m s.alike) (inv_sta
 pub parted : {N : Type 0} (σ : Full) (h p : History N) → IsSound σ.names h → (pre : IsHistoryPrefix p h) → IsSound σ.names (and_then p pre.0)
 parted σ h p sound pre = subst (IsSound σ.names) (sym pre.1) sound
 
+-- and after each prefix
 pub inv_of : {N : Type 0} (σ : Full) (h p : History N) → IsSound σ.names h → IsHistoryPrefix p h → Inv σ (start_count σ.names p.start) (after p)
 inv_of σ h p sound pre =
     let s = parted σ h p sound pre in

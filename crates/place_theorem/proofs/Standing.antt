@@ -7,7 +7,7 @@ use Rattle.mini_store.specs.Connections.{Conns, around, posted}
 use Rattle.mini_store.specs.Keys.{Keys, value_at, value_of}
 use Rattle.mini_store.specs.Lists.{brpop, brpop_at, shortened}
 use Rattle.mini_store.specs.Replies.{pair}
-use Rattle.mini_store.specs.Store.{State, answered, is_heard, run_all, serve, spoken, to_queue}
+use Rattle.mini_store.specs.Store.{State, is_heard, run_all, serve, spoken, to_queue}
 use Rattle.mini_store.specs.Words.{front}
 use Rattle.mini_store.specs.declared.command.Command.{Command}
 use Rattle.mini_store.specs.declared.command.Command.TheVariants.{Del, Exec, Faulty, Hdel, Hset, Ping, Subscribe, Unsubscribe, Zadd, Zrem}
@@ -23,7 +23,7 @@ use Rattle.place_model.specs.Answers.{number_of}
 use Rattle.place_model.specs.Counts.{entry_at, field_of}
 use Rattle.place_model.specs.Identity.{HasEnvelope, In_a_list, In_the_table, IsPush}
 use Rattle.place_model.specs.Names.{Bytes, same}
-use Rattle.place_model.specs.QueueKeys.{Among, IsAway, key}
+use Rattle.place_model.specs.QueueKeys.{Among, IsAway}
 use Rattle.place_model.specs.Returns.{gain, push_command, push_commands}
 use Rattle.place_model.specs.Seen.{Seen}
 use Rattle.place_model.specs.Setting.{is_queue}
@@ -126,6 +126,7 @@ module _ (σ : Full) (t b : Bytes) where
   Holds None = ⊥
   Holds (Some h) = (h.0 ≡ t) × (σ.names.body_of h.1 ≡ b)
 
+  -- it stood there, was published by the call, or was in hand
   abbrev pub Comes : State → Cursor → Command → Value → Type 0
   Comes s from cm reply = HasEnvelope σ.names s.keys t b ⊎ (IsPush σ.names t b cm reply ⊎ Holds (held_in from))
 
@@ -200,6 +201,7 @@ module _ (σ : Full) (t b : Bytes) where
     spoken_comes cn (Faulty fault false) st = st
     spoken_comes cn other st = st
 
+    -- what stands in the store after a step
     pub comes : (from to : Cursor) (cm : Command) (reply : Value) (mark : Bool) (ch : List Bytes) (ps : List Value) → Step σ from cm reply to → Ready σ s c sn from mark ch ps → reply ≡ (serve at s c cm (conn_in from mark ch ps)).1
         → HasEnvelope σ.names (serve at s c cm (conn_in from mark ch ps)).0.keys t b → Comes s from cm reply
     comes from to cm reply mark [] ps step ok is st = comes_plain from to cm reply reply mark ps step ok is st
@@ -211,6 +213,7 @@ module _ (σ : Full) (t b : Bytes) where
 
 -- what a client has in hand after a step, it had before, or it stood in the store
 module _ (σ : Full) (at : ℕ) (s : State) (c : ℕ) where
+  -- it was in hand, or stood in the store
   abbrev pub HeldBefore : Cursor → Bytes × Bytes → Type 0
   HeldBefore from h = (held_in from ≡ Some h) ⊎ HasEnvelope σ.names s.keys h.0 (σ.names.body_of h.1)
 
