@@ -1,0 +1,9 @@
+//! What a schedule determines is sound: laws over the definitions of schedules, whose functions have empty bodies.
+#![tactic(auto)]
+
+ghost use Rattle.schedule_laws.specs.Rows.{PlansAreRows};
+
+/// Each plan's script can always be said to its end, and what was said to its end is the plan's block.
+pub fn rows()
+    ensures { PlansAreRows }
+{}
