@@ -5,3 +5,12 @@ pub mod PlainRows
 pub mod Tries
 pub mod Returns
 pub mod PlanRows
+pub mod Numbered
+pub mod Fronts
+pub mod Kept
+pub mod Worlds
+pub mod Desks
+pub mod Spelled
+pub mod Asking
+pub mod Sounds
+pub mod Determined

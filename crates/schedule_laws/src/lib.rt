@@ -2,8 +2,14 @@
 #![tactic(auto)]
 
 ghost use Rattle.schedule_laws.specs.Rows.{PlansAreRows};
+ghost use Rattle.schedule_laws.specs.Sound.{SchedulesSound};
 
 /// Each plan's script can always be said to its end, and what was said to its end is the plan's block.
 pub fn rows()
     ensures { PlansAreRows }
+{}
+
+/// What a schedule determines is sound: a whole history, and also one that was full.
+pub fn schedules()
+    ensures { SchedulesSound }
 {}

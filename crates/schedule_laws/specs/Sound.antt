@@ -1,0 +1,52 @@
+-- Soundness of what a schedule determines.
+use Rattle.std.specs.Prelude.{◌≡◌, ◌⊎◌, ℕ, ◌^◌, ◌<◌, ◌≤◌, true, List, [], ◌∷◌, length, Option, None, Some}
+use Rattle.place_model.specs.Names.{Bytes, is_name}
+use Rattle.place_model.specs.Setting.{Setting, if_named}
+use Rattle.place_model.specs.Calls.{Call}
+use Rattle.place_model.specs.Blocks.{IsFrontOfBlocks}
+use Rattle.place_model.specs.Starts.{IsSound}
+use Rattle.place_model.specs.declared.history.Entry.{Entry}
+use Rattle.place_model.specs.declared.history.Entry.TheVariants.{Call as Called, Heard, Stop}
+use Rattle.schedule_model.specs.Costs.{is_full, total_cost}
+use Rattle.schedule_model.specs.Desk.{Desk}
+use Rattle.schedule_model.specs.Faults.{Craft}
+use Rattle.schedule_model.specs.Schedules.{Determined, Whole, Full, Bad_line, schedule_run, history_of}
+
+-- the envelope v tells what was asked: a tag's seed and counter, an exchange, and with the empty exchange one key
+pub record IsSealed (σ : Setting) (s n : ℕ) (x k v : Bytes) : Type 0 where
+  pub tag : σ.tag_of v ≡ Some (σ.tag s n)
+  pub exchange : σ.exchange_of v ≡ if_named x
+  pub key : x ≡ [] → is_name k ≡ true → (q : Bytes) × (σ.keys_for v [] ≡ q ∷ [])
+
+-- sealed envelopes tell what was asked, a seed and a counter of 64 bits have a tag, and as many queues as a line may name can be popped
+pub record IsCraft (κ : Craft) : Type 0 where
+  pub seals : (s n : ℕ) (x k : Bytes) (p : ℕ) (t j v : Bytes) → κ.sealed s n x k p t j ≡ Some v → IsSealed κ.setting s n x k v
+  pub tags : (s n : ℕ) → s < 2 ^ 64 → n < 2 ^ 64 → κ.setting.is_tag (κ.setting.tag s n) ≡ true
+  pub pops : (q : Bytes) (qs : List Bytes) → length (q ∷ qs) ≤ 1023 → (k : Bytes) × (ks : List Bytes) × (κ.setting.pop_keys (q ∷ qs) ≡ k ∷ ks) × (length (k ∷ ks) ≤ 4094)
+
+-- for each list of calls it is decided whether it is a front of blocks
+abbrev pub FrontsDecided : Setting → Type 0
+FrontsDecided σ = (s : ℕ) (l : List Call) → IsFrontOfBlocks σ s l ⊎ (IsFrontOfBlocks σ s l → ⊥)
+
+-- the moments of the calls never fall, from the first moment to the last
+abbrev pub RisesTo : {N : Type 0} → ℕ → List (Entry N) → ℕ → Type 0
+RisesTo m [] n = m ≤ n
+RisesTo m (Called c at words reply ∷ es) n = (m ≤ at) × RisesTo at es n
+RisesTo m (Heard c note ∷ es) n = RisesTo m es n
+RisesTo m (Stop c ∷ es) n = RisesTo m es n
+
+-- the history of a desk is sound, and its moments never fall, up to a present one below 2^40
+pub record IsSoundDesk (σ : Setting) (d : Desk) : Type 0 where
+  pub history : IsSound σ (history_of d)
+  pub moments : RisesTo 0 d.entries d.moment
+  pub present : d.moment < 2 ^ 40
+
+-- a whole history is sound, and so is one that was full, which has these many entries and this cost
+abbrev pub IsSoundlyDetermined : Setting → Determined → Type 0
+IsSoundlyDetermined σ (Whole d) = IsSoundDesk σ d
+IsSoundlyDetermined σ (Full n cost) = (d : Desk) × IsSoundDesk σ d × (is_full d.entries ≡ true) × (length d.entries ≡ n) × (total_cost d.entries ≡ cost)
+IsSoundlyDetermined σ (Bad_line n reason) = Unit {0}
+
+-- what each schedule determines is sound
+abbrev pub SchedulesSound : Type 0
+SchedulesSound = (κ : Craft) → IsCraft κ → FrontsDecided κ.setting → (bytes : Bytes) → IsSoundlyDetermined κ.setting (schedule_run κ bytes)
