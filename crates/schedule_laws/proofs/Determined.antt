@@ -20,13 +20,14 @@ use Rattle.schedule_model.specs.Schedules.{Led, Went, Filled, Bad, plan_of, with
 use Rattle.schedule_model.specs.declared.line.Asked.{Asked}
 use Rattle.schedule_model.specs.declared.line.Line.{Line}
 use Rattle.schedule_model.specs.declared.line.Line.TheVariants.{Client, At, Begin, Step, Run, Stop}
-use Rattle.schedule_laws.specs.Sound.{IsCraft, FrontsDecided, IsSoundDesk, IsSoundlyDetermined}
+use Rattle.schedule_laws.specs.Sound.{IsCraft, IsSoundDesk, IsSoundlyDetermined}
 use Rattle.schedule_laws.proofs.PlanRows.{plan_row}
-use Rattle.schedule_laws.proofs.Kept.{begun_kept}
+use Rattle.schedule_laws.proofs.Kept.{FrontsDecided, begun_kept}
 use Rattle.schedule_laws.proofs.Worlds.{neither}
 use Rattle.schedule_laws.proofs.Desks.{Holds, first_holds, book_holds, HeardHolds, said_one_holds, said_all_holds, moment_holds, stop_holds, client_holds}
 use Rattle.schedule_laws.proofs.Spelled.{IfThere, IsAskedWithin, IsWithin, line_there}
 use Rattle.schedule_laws.proofs.Asking.{AreFaultless, faultless, lawful_plan}
+use Rattle.schedule_laws.proofs.Decided.{fronts_decided}
 use Rattle.schedule_laws.proofs.Sounds.{desk_sound}
 
 -- the desk of what a line led to holds, and is full where it says so
@@ -150,5 +151,5 @@ header_sound κ craft decide cut (h ∷ l ∷ ls) =
     on_sound κ.setting decide (λ d. lines_led κ cut 2 d (l ∷ ls)) 1 (header_led h (text_fault 65536 h)) (header_holds κ.setting h (text_fault 65536 h))
     (λ e g. lines_sound κ craft decide cut 2 e (l ∷ ls) g)
 
-pub schedule_sound : (κ : Craft) → IsCraft κ → FrontsDecided κ.setting → (bytes : Bytes) → IsSoundlyDetermined κ.setting (schedule_run κ bytes)
-schedule_sound κ craft decide bytes = header_sound κ craft decide (nat_lt max_input (length bytes)) (lines_of bytes)
+pub schedule_sound : (κ : Craft) → IsCraft κ → (bytes : Bytes) → IsSoundlyDetermined κ.setting (schedule_run κ bytes)
+schedule_sound κ craft bytes = header_sound κ craft (fronts_decided κ.setting craft.exchange_at craft.lawful craft.readable) (nat_lt max_input (length bytes)) (lines_of bytes)

@@ -9,9 +9,12 @@ use Rattle.place_model.specs.Blocks.{Kind, drawn, passed, IsFrontOfBlocks, IsMan
 use Rattle.place_model.specs.Scripts.{Script, Over, Off, Say, Plan, script_of, kind_of, after_call, rest_of, IsSaid}
 use Rattle.schedule_model.specs.Desk.{Book, begun}
 use Rattle.schedule_laws.specs.Rows.{IsGood, AreTimely, IsRow}
-use Rattle.schedule_laws.specs.Sound.{FrontsDecided}
 use Rattle.schedule_laws.proofs.Talks.{says_not, says_on}
 use Rattle.schedule_laws.proofs.Fronts.{said-append, rest-append, timely-append, end_of, PutOff, rest_good, BlocksTo, blocks_more, concat_more, whole_front, part_front}
+
+-- for each list of calls before the moment 2^40 it is decided whether it is a front of blocks
+abbrev pub FrontsDecided : Setting → Type 0
+FrontsDecided σ = (s : ℕ) (l : List Call) → AreTimely l → IsFrontOfBlocks σ s l ⊎ (IsFrontOfBlocks σ s l → ⊥)
 
 -- no block is in progress after whole blocks with these counters
 pub record IsIdle (m q : ℕ) (part : List Call) (b : Book) : Type 0 where
@@ -138,8 +141,8 @@ module _ (σ : Setting) (calls : List Call) (b : Book) (k : Kept σ calls b) whe
     on_front g = let e = end_of (rest_of its k.part) g in
         subst Front (sym k.calls_are) (front k.part e.0 (timely-append k.part e.0 i.timely e.1) (said-append its k.part e.0 i.said e.2) (rest-append its k.part e.0 ∙ e.3))
 
-    off_mannered : FrontsDecided σ → PutOff its k.part → IsMannered σ b.seed calls
-    off_mannered decide o = by (decide b.seed calls) where
+    off_mannered : FrontsDecided σ → AreTimely calls → PutOff its k.part → IsMannered σ b.seed calls
+    off_mannered decide timely o = by (decide b.seed calls timely) where
       listed : Call
       listed = call o.last.at o.last.words o.listed
 
@@ -160,11 +163,11 @@ module _ (σ : Setting) (calls : List Call) (b : Book) (k : Kept σ calls b) whe
         never,
       )
 
-    busy_mannered : FrontsDecided σ → IsMannered σ b.seed calls
-    busy_mannered decide = by (rest_good its k.part i.row.good i.timely i.said) where
+    busy_mannered : FrontsDecided σ → AreTimely calls → IsMannered σ b.seed calls
+    busy_mannered decide timely = by (rest_good its k.part i.row.good i.timely i.said) where
       by : IsGood (rest_of its k.part) ⊎ ((rest_of its k.part ≡ Off) × PutOff its k.part) → IsMannered σ b.seed calls
       by (inl g) = inl (on_front g)
-      by (inr h) = off_mannered decide h.1
+      by (inr h) = off_mannered decide timely h.1
 
     busy_front : (b.left ≡ Off → ⊥) → Front calls
     busy_front on = by (rest_good its k.part i.row.good i.timely i.said) where
@@ -172,11 +175,11 @@ module _ (σ : Setting) (calls : List Call) (b : Book) (k : Kept σ calls b) whe
       by (inl g) = on_front g
       by (inr h) = absurd (on (sym i.rest ∙ h.0))
 
-  pub mannered : FrontsDecided σ → IsMannered σ b.seed calls
-  mannered decide = by k.standing where
+  pub mannered : FrontsDecided σ → AreTimely calls → IsMannered σ b.seed calls
+  mannered decide timely = by k.standing where
     by : IsIdle k.m k.q k.part b ⊎ IsBusy σ k.m k.q k.part b → IsMannered σ b.seed calls
     by (inl i) = inl (idle_front i)
-    by (inr i) = busy_mannered i decide
+    by (inr i) = busy_mannered i decide timely
 
   pub on_is_front : (b.left ≡ Off → ⊥) → Front calls
   on_is_front on = by k.standing where

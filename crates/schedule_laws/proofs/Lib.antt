@@ -12,5 +12,7 @@ pub mod Worlds
 pub mod Desks
 pub mod Spelled
 pub mod Asking
+pub mod Decided
 pub mod Sounds
+pub mod Crafts
 pub mod Determined

@@ -15,8 +15,9 @@ use Rattle.place_model.specs.Counts.{entry_at, field_of, has_field, has_member, 
 use Rattle.place_model.specs.Starts.{IsListOrNone, IsHashOrNone, IsScoresOrNone, elements_of, elements_at, IsSoundStart, IsSound}
 use Rattle.schedule_model.specs.Desk.{Book, Desk}
 use Rattle.schedule_model.specs.Schedules.{history_of}
-use Rattle.schedule_laws.specs.Sound.{FrontsDecided, IsSoundDesk}
-use Rattle.schedule_laws.proofs.Kept.{mannered}
+use Rattle.schedule_laws.specs.Sound.{IsSoundDesk}
+use Rattle.schedule_laws.proofs.Kept.{FrontsDecided, mannered}
+use Rattle.schedule_laws.proofs.Worlds.{calls_timely}
 use Rattle.schedule_laws.proofs.Desks.{Holds}
 
 -- the store without a key
@@ -72,7 +73,7 @@ empty_start σ = record {
 client_mannered : (σ : Setting) (d : Desk) → Holds σ d → FrontsDecided σ → (c s : ℕ) → Among (c, s) d.clients → IsMannered σ s (calls_of c d.entries)
 client_mannered σ d h decide c s among =
     let b = h.book_of c s among in
-    subst (λ q. IsMannered σ q (calls_of c d.entries)) b.2 (mannered σ (calls_of c d.entries) b.0 (h.books c b.0 b.1).kept decide)
+    subst (λ q. IsMannered σ q (calls_of c d.entries)) b.2 (mannered σ (calls_of c d.entries) b.0 (h.books c b.0 b.1).kept decide (calls_timely c 0 d.moment d.entries h.rises h.present))
 
 pub desk_sound : (σ : Setting) (d : Desk) → Holds σ d → FrontsDecided σ → IsSoundDesk σ d
 desk_sound σ d h decide = record {

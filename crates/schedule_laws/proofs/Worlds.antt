@@ -1,5 +1,5 @@
 -- Histories with an entry or a client more.
-use Rattle.std.proofs.Common.{◌≡◌, ◌≢◌, ◌⊎◌, inl, inr, ℕ, ◌≤◌, refl, ap, sym, ◌∙◌, subst, arith, List, [], ◌∷◌, ◌++◌, Bool, true, false, Option, None, Some, if◌then◌else◌, append_assoc}
+use Rattle.std.proofs.Common.{◌≡◌, ◌≢◌, ◌⊎◌, inl, inr, ℕ, ◌≤◌, ◌<◌, ◌^◌, refl, ap, sym, ◌∙◌, subst, arith, List, [], ◌∷◌, ◌++◌, Bool, true, false, Option, None, Some, if◌then◌else◌, append_assoc}
 use Rattle.std.specs.Prelude.{◌==◌, ◌||◌, nat_eq}
 use Rattle.std.specs.List.{list_any}
 use Rattle.std.specs.Ordering.{nat_cmp}
@@ -15,6 +15,7 @@ use Rattle.place_model.specs.declared.heard.Heard.{Heard as Note}
 use Rattle.place_model.specs.declared.history.Entry.{Entry}
 use Rattle.place_model.specs.declared.history.Entry.TheVariants.{Call as Called, Heard, Stop}
 use Rattle.schedule_model.specs.Faults.{has_number, has_seed}
+use Rattle.schedule_laws.specs.Rows.{AreTimely}
 use Rattle.schedule_laws.specs.Sound.{RisesTo}
 use Rattle.schedule_laws.proofs.Numbered.{same_or, get_same, get_other, insert_swap, another}
 
@@ -93,6 +94,30 @@ rises_stop m n [] d h = h
 rises_stop m n (Called c at words reply ∷ es) d h = (h.0, rises_stop at n es d h.1)
 rises_stop m n (Heard c note ∷ es) d h = rises_stop m n es d h
 rises_stop m n (Stop c ∷ es) d h = rises_stop m n es d h
+
+rises_le : (m n : ℕ) (es : List (Entry Note)) → RisesTo m es n → m ≤ n
+rises_le m n [] h = h
+rises_le m n (Called c at words reply ∷ es) h = let more = rises_le at n es h.1 in omega (arith, more, h.0)
+rises_le m n (Heard c note ∷ es) h = rises_le m n es h
+rises_le m n (Stop c ∷ es) h = rises_le m n es h
+
+onto_timely : (e : Entry Note) (es : List (Entry Note)) (m n : ℕ) → RisesTo m (e ∷ es) n → n < 2 ^ 40 → (l : List Call) → AreTimely l → AreTimely (onto_calls e l)
+onto_timely (Called c at words reply) es m n h less l t = let le = rises_le at n es h.1 in (omega (arith, le, less), t)
+onto_timely (Heard c note) es m n h less l t = t
+onto_timely (Stop c) es m n h less l t = t
+
+later_rises : (e : Entry Note) (es : List (Entry Note)) (m n : ℕ) → RisesTo m (e ∷ es) n → (k : ℕ) × RisesTo k es n
+later_rises (Called c at words reply) es m n h = (at, h.1)
+later_rises (Heard c note) es m n h = (m, h)
+later_rises (Stop c) es m n h = (m, h)
+
+-- a client's calls lie before the moment 2^40
+pub calls_timely : (c m n : ℕ) (es : List (Entry Note)) → RisesTo m es n → n < 2 ^ 40 → AreTimely (calls_of c es)
+calls_timely c m n [] h less = tt
+calls_timely c m n (e ∷ es) h less = by (same_or (conn_of e) c) (let r = later_rises e es m n h in calls_timely c r.0 n es r.1 less) where
+  by : (conn_of e ≡ c) ⊎ (conn_of e ≢ c) → AreTimely (calls_of c es) → AreTimely (calls_of c (e ∷ es))
+  by (inl is) t = subst AreTimely (sym (own c e es is)) (onto_timely e es m n h less (calls_of c es) t)
+  by (inr is) t = subst AreTimely (sym (foreign c e es is)) t
 
 -- ---- a client that comes later might as well have been there from the start
 

@@ -2,7 +2,7 @@
 #![tactic(auto)]
 
 ghost use Rattle.schedule_laws.specs.Rows.{PlansAreRows};
-ghost use Rattle.schedule_laws.specs.Sound.{SchedulesSound};
+ghost use Rattle.schedule_laws.specs.Sound.{SchedulesSound, LayoutsMakeCrafts};
 
 /// Each plan's script can always be said to its end, and what was said to its end is the plan's block.
 pub fn rows()
@@ -12,4 +12,9 @@ pub fn rows()
 /// What a schedule determines is sound: a whole history, and also one that was full.
 pub fn schedules()
     ensures { SchedulesSound }
+{}
+
+/// A lawful layout of at most four priority steps serves schedules.
+pub fn layout_crafts()
+    ensures { LayoutsMakeCrafts }
 {}
