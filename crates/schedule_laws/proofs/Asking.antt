@@ -1,12 +1,11 @@
 -- What is begun without a fault is a lawful plan.
-use Rattle.std.proofs.Common.{◌≡◌, ◌⊎◌, inl, inr, ℕ, ◌<◌, ◌≤◌, ◌^◌, suc, refl, ap, sym, ◌∙◌, subst, List, [], ◌∷◌, Bool, true, false, Option, None, Some, if◌then◌else◌, length}
-use Rattle.std.specs.Prelude.{◌||◌, ◌&&◌, not, is_none}
+use Rattle.std.proofs.Common.{◌≡◌, ℕ, suc, refl, sym, ◌∙◌, subst, List, [], ◌∷◌, Bool, true, false, Option, None, Some, if◌then◌else◌}
+use Rattle.std.specs.Prelude.{◌||◌, ◌&&◌, not}
 use Rattle.std.specs.List.{list_any}
-use Rattle.line_text.specs.declared.reason.Reason.{Reason}
 use Rattle.place_model.specs.Bindings.{is_part}
 use Rattle.place_model.specs.Names.{Bytes, is_name, is_reserved}
 use Rattle.place_model.specs.QueueKeys.{Each}
-use Rattle.place_model.specs.Setting.{Setting, if_named}
+use Rattle.place_model.specs.Setting.{if_named}
 use Rattle.place_model.specs.TakeBlocks.{IsPop}
 use Rattle.place_model.specs.Scripts.{Plan, Declare, Undeclare, Publish, Pop, End, Return, Pass}
 use Rattle.place_model.specs.declared.block.Side.TheVariants.{Left, Right}
@@ -14,7 +13,7 @@ use Rattle.schedule_model.specs.Faults.{Craft, Test, first_reason, is_no_name, i
 use Rattle.schedule_model.specs.Schedules.{publish_plan, plan_of}
 use Rattle.schedule_model.specs.declared.line.Asked.{Asked}
 use Rattle.schedule_model.specs.declared.line.Asked.TheVariants as asked
-use Rattle.schedule_laws.specs.Rows.{IsDeclaration, IsPublication, IsLawfulPlan}
+use Rattle.schedule_laws.specs.Rows.{IsDeclaration, IsLawfulPlan}
 use Rattle.schedule_laws.specs.Sound.{IsSealed, IsCraft}
 use Rattle.schedule_laws.proofs.Values.{some_is}
 use Rattle.schedule_laws.proofs.Worlds.{neither}

@@ -1,5 +1,5 @@
 -- What each line keeps of a desk: its history is legal, and each client's calls are as its book says.
-use Rattle.std.proofs.Common.{◌≡◌, ◌≢◌, ◌⊎◌, inl, inr, ℕ, ◌<◌, ◌≤◌, ◌^◌, refl, ap, sym, ◌∙◌, subst, lit<, arith, List, [], ◌∷◌, ◌++◌, Bool, true, false, Option, None, Some, if◌then◌else◌}
+use Rattle.std.proofs.Common.{◌≡◌, ◌≢◌, ◌⊎◌, inl, inr, ℕ, ◌<◌, ◌≤◌, ◌^◌, refl, ap, sym, ◌∙◌, subst, lit<, arith, [], ◌∷◌, ◌++◌, Bool, true, false, None, Some, if◌then◌else◌}
 use Rattle.std.proofs.lemmas.List.{append-nil}
 use Rattle.std.specs.Ordering.{nat_cmp}
 use Rattle.std.specs.FinMap.{get, insert, empty, get-empty}
@@ -8,9 +8,9 @@ use Rattle.mini_store.specs.Words.{Words}
 use Rattle.mini_store.specs.Store.{State, apply_of, gone_of}
 use Rattle.mini_store.specs.declared.reply.Reply.{Reply}
 use Rattle.place_model.specs.Setting.{Setting}
-use Rattle.place_model.specs.Calls.{Call, call}
+use Rattle.place_model.specs.Calls.{call}
 use Rattle.place_model.specs.QueueKeys.{Among}
-use Rattle.place_model.specs.Histories.{calls_of, Client, World, next, after_entries, new_client, start_from, AllMayCome, IsTable, with_client as with_known}
+use Rattle.place_model.specs.Histories.{calls_of, Client, World, after_entries, new_client, start_from, AllMayCome, IsTable, with_client as with_known}
 use Rattle.place_model.specs.Scripts.{Script, Over, Off, Say}
 use Rattle.place_model.specs.declared.history.Entry.TheVariants.{Call as Called, Stop}
 use Rattle.schedule_model.specs.Costs.{is_full}
@@ -19,7 +19,7 @@ use Rattle.schedule_model.specs.Faults.{has_number, has_seed}
 use Rattle.schedule_laws.specs.Sound.{RisesTo}
 use Rattle.schedule_laws.proofs.Values.{some_is}
 use Rattle.schedule_laws.proofs.Numbered.{same_or, get_same, get_other, insert_twice}
-use Rattle.schedule_laws.proofs.Kept.{Kept, new_kept, call_kept, gone_kept}
+use Rattle.schedule_laws.proofs.Kept.{IsKept, new_kept, call_kept, gone_kept}
 use Rattle.schedule_laws.proofs.Worlds.{after-append, legal-append, next_called, next_stopped, own_more, foreign_more, rises_later, rises_call, rises_stop, add, after_add, legal_add, no_calls, table_none, table_more, table_with, among_more}
 
 -- the world at the start of a desk's history, and after it
@@ -34,7 +34,7 @@ pub record IsBookOf (σ : Setting) (d : Desk) (c : ℕ) (b : Book) : Type 0 wher
   pub client : Client
   pub known : get (now d).clients c ≡ Some client
   pub stopped : client.stopped ≡ b.stopped
-  pub kept : Kept σ (calls_of c d.entries) b
+  pub kept : IsKept σ (calls_of c d.entries) b
 
 -- what each line keeps
 pub record Holds (σ : Setting) (d : Desk) : Type 0 where
@@ -61,7 +61,7 @@ first_holds σ = record {
 
 -- ---- a book that changes
 
-module _ (σ : Setting) (d : Desk) (h : Holds σ d) (c : ℕ) (b b' : Book) (book : get d.books c ≡ Some b) (seed : b'.seed ≡ b.seed) (stopped : b'.stopped ≡ b.stopped) (kept : Kept σ (calls_of c d.entries) b') where
+module _ (σ : Setting) (d : Desk) (h : Holds σ d) (c : ℕ) (b b' : Book) (book : get d.books c ≡ Some b) (seed : b'.seed ≡ b.seed) (stopped : b'.stopped ≡ b.stopped) (kept : IsKept σ (calls_of c d.entries) b') where
   seen : (k s : ℕ) → (k ≡ c) ⊎ (k ≢ c) → (x : Book) × (get d.books k ≡ Some x) × (x.seed ≡ s) → (x : Book) × (get (insert d.books c b') k ≡ Some x) × (x.seed ≡ s)
   seen k s (inl e) old = (
     b',
@@ -120,14 +120,14 @@ module _ (σ : Setting) (d : Desk) (h : Holds σ d) (c : ℕ) (b : Book) (w : �
         client = client;
         known = ap (λ v. get v.clients c) now_is ∙ get_same (now d).clients c client;
         stopped = mine.stopped;
-        kept = subst (λ l. Kept σ l b') (sym (own_more c d.entries (Called c d.moment (w d.moment) r.1) refl)) (call_kept σ (calls_of c d.entries) b w go d.moment r.1.answer mine.kept says h.present);
+        kept = subst (λ l. IsKept σ l b') (sym (own_more c d.entries (Called c d.moment (w d.moment) r.1) refl)) (call_kept σ (calls_of c d.entries) b w go d.moment r.1.answer mine.kept says h.present);
       } in
       subst (λ q. IsBookOf σ d' q x) (sym e) (subst (IsBookOf σ d' c) same new)
   spoken k x (inr n) is = let old = h.books k x (sym (get_other d.books c b' k n) ∙ is) in record {
     client = old.client;
     known = ap (λ v. get v.clients k) now_is ∙ (get_other (now d).clients c client k n ∙ old.known);
     stopped = old.stopped;
-    kept = subst (λ l. Kept σ l x) (sym (foreign_more k d.entries (Called c d.moment (w d.moment) r.1) (λ q. n (sym q)))) old.kept;
+    kept = subst (λ l. IsKept σ l x) (sym (foreign_more k d.entries (Called c d.moment (w d.moment) r.1) (λ q. n (sym q)))) old.kept;
   }
 
   found : (k s : ℕ) → (k ≡ c) ⊎ (k ≢ c) → (x : Book) × (get d.books k ≡ Some x) × (x.seed ≡ s) → (x : Book) × (get (insert d.books c b') k ≡ Some x) × (x.seed ≡ s)
@@ -225,19 +225,19 @@ module _ (σ : Setting) (d : Desk) (h : Holds σ d) (c : ℕ) (b : Book) (book :
   stayed k x (inl e) is =
       let same : gone ≡ x = some_is gone x (sym (get_same d.books c gone) ∙ (ap (get (insert d.books c gone)) (sym e) ∙ is)) in
       let k' = mine'.kept in
-      let still : Kept σ (calls_of c d.entries) gone = gone_kept σ (calls_of c d.entries) b k' in
+      let still : IsKept σ (calls_of c d.entries) gone = gone_kept σ (calls_of c d.entries) b k' in
       let new : IsBookOf σ (with_stop d c b) c gone = record {
         client = leaver;
         known = ap (λ v. get v.clients c) left_is ∙ get_same (now d).clients c leaver;
         stopped = refl;
-        kept = subst (λ l. Kept σ l gone) (sym (own_more c d.entries (Stop c) refl ∙ append-nil (calls_of c d.entries))) still;
+        kept = subst (λ l. IsKept σ l gone) (sym (own_more c d.entries (Stop c) refl ∙ append-nil (calls_of c d.entries))) still;
       } in
       subst (λ q. IsBookOf σ (with_stop d c b) q x) (sym e) (subst (IsBookOf σ (with_stop d c b) c) same new)
   stayed k x (inr n) is = let old = h.books k x (sym (get_other d.books c gone k n) ∙ is) in record {
     client = old.client;
     known = ap (λ v. get v.clients k) left_is ∙ (get_other (now d).clients c leaver k n ∙ old.known);
     stopped = old.stopped;
-    kept = subst (λ l. Kept σ l x) (sym (foreign_more k d.entries (Stop c) (λ q. n (sym q)))) old.kept;
+    kept = subst (λ l. IsKept σ l x) (sym (foreign_more k d.entries (Stop c) (λ q. n (sym q)))) old.kept;
   }
 
   remembered : (k s : ℕ) → (k ≡ c) ⊎ (k ≢ c) → (x : Book) × (get d.books k ≡ Some x) × (x.seed ≡ s) → (x : Book) × (get (insert d.books c gone) k ≡ Some x) × (x.seed ≡ s)
@@ -281,7 +281,7 @@ module _ (σ : Setting) (d : Desk) (h : Holds σ d) (c s : ℕ) (fresh : has_num
         client = new_client s;
         known = ap (λ v. get v.clients c) world_is ∙ get_same (now d).clients c (new_client s);
         stopped = refl;
-        kept = subst (λ l. Kept σ l blank) (sym (no_calls c (new_client s) (start d) d.entries h.legal nobody')) (new_kept σ s);
+        kept = subst (λ l. IsKept σ l blank) (sym (no_calls c (new_client s) (start d) d.entries h.legal nobody')) (new_kept σ s);
       } in
       subst (λ q. IsBookOf σ (with_client d c s) q x) (sym e) (subst (IsBookOf σ (with_client d c s) c) same new)
   joined k x (inr n) is = let old = h.books k x (sym (get_other d.books c blank k n) ∙ is) in record {

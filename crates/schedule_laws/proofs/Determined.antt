@@ -1,6 +1,6 @@
 -- What a schedule determines is sound.
-use Rattle.std.proofs.Common.{◌≡◌, ◌⊎◌, inl, inr, ℕ, ◌<◌, ◌≤◌, ◌+◌, ◌^◌, suc, refl, ap, sym, ◌∙◌, subst, arith, List, [], ◌∷◌, Bool, true, false, Option, None, Some, if◌then◌else◌, length, codes}
-use Rattle.std.specs.Prelude.{◌||◌, not, nat_le, nat_lt, bytes_eq, is_none}
+use Rattle.std.proofs.Common.{◌≡◌, ℕ, ◌<◌, ◌≤◌, ◌+◌, ◌^◌, suc, refl, arith, List, [], ◌∷◌, Bool, true, false, Option, None, Some, if◌then◌else◌, length, take, codes}
+use Rattle.std.specs.Prelude.{nat_le, nat_lt, bytes_eq}
 use Rattle.std.specs.FinMap.{get}
 use Rattle.std.proofs.lemmas.Grind.{common_steps}
 use Rattle.line_text.specs.Lines.{lines_of, text_fault}
@@ -12,17 +12,17 @@ use Rattle.place_model.specs.Histories.{calls_of}
 use Rattle.place_model.specs.Setting.{Setting}
 use Rattle.place_model.specs.Scripts.{Script, Over, Off, Say, Plan}
 use Rattle.schedule_model.specs.Built.{waits}
-use Rattle.schedule_model.specs.Costs.{is_full, total_cost}
+use Rattle.schedule_model.specs.Costs.{is_full}
 use Rattle.schedule_model.specs.Desk.{Desk, Book, Said, first_desk, with_book, begun, said_one, said_all, with_stop}
 use Rattle.schedule_model.specs.Faults.{Craft, first_reason, tests, is_off, is_gone, has_more, is_busy, has_number, has_seed, asked_tests, seed_of, counter_of}
 use Rattle.schedule_model.specs.Lines.{line_in}
-use Rattle.schedule_model.specs.Schedules.{Led, Went, Filled, Bad, plan_of, with_plan, heard, stepped, run_through, stopped, led, led_unless, led_by, words_led, text_led, line_led, header_led, Determined, Whole, Full, Bad_line, led_on, last_led, lines_led, header_on, max_input, schedule_run}
+use Rattle.schedule_model.specs.Schedules.{Led, Went, Filled, Bad, plan_of, with_plan, heard, stepped, run_through, stopped, led, led_unless, led_by, text_led, line_led, header_led, Determined, Whole, led_on, last_led, lines_led, header_on, max_input, schedule_run}
 use Rattle.schedule_model.specs.declared.line.Asked.{Asked}
 use Rattle.schedule_model.specs.declared.line.Line.{Line}
 use Rattle.schedule_model.specs.declared.line.Line.TheVariants.{Client, At, Begin, Step, Run, Stop}
-use Rattle.schedule_laws.specs.Sound.{IsCraft, IsSoundDesk, IsSoundlyDetermined}
+use Rattle.schedule_laws.specs.Sound.{IsCraft, IsSoundlyDetermined}
 use Rattle.schedule_laws.proofs.PlanRows.{plan_row}
-use Rattle.schedule_laws.proofs.Kept.{FrontsDecided, begun_kept}
+use Rattle.schedule_laws.proofs.Kept.{DecidesFronts, begun_kept}
 use Rattle.schedule_laws.proofs.Worlds.{neither}
 use Rattle.schedule_laws.proofs.Desks.{Holds, first_holds, book_holds, HeardHolds, said_one_holds, said_all_holds, moment_holds, stop_holds, client_holds}
 use Rattle.schedule_laws.proofs.Spelled.{IfThere, IsAskedWithin, IsWithin, line_there}
@@ -125,7 +125,7 @@ header_holds σ line None = if_led σ (bytes_eq line (codes "celery-schedule 1")
 
 -- ---- a schedule
 
-module _ (σ : Setting) (decide : FrontsDecided σ) where
+module _ (σ : Setting) (decide : DecidesFronts σ) where
   on_sound : (go : Desk → Determined) (n : ℕ) (r : Led) → LedHolds σ r → ((d : Desk) → Holds σ d → IsSoundlyDetermined σ (go d)) → IsSoundlyDetermined σ (led_on go n r)
   on_sound go n (Went d) h f = f d h
   on_sound go n (Filled d) h f = (d, desk_sound σ d h.0 decide, h.1, refl, refl)
@@ -135,14 +135,14 @@ module _ (σ : Setting) (decide : FrontsDecided σ) where
   last_holds true r h = tt
   last_holds false r h = h
 
-lines_sound : (κ : Craft) (craft : IsCraft κ) (decide : FrontsDecided κ.setting) (cut : Bool) (n : ℕ) (d : Desk) (ls : List Bytes) → Holds κ.setting d → IsSoundlyDetermined κ.setting (lines_led κ cut n d ls)
+lines_sound : (κ : Craft) (craft : IsCraft κ) (decide : DecidesFronts κ.setting) (cut : Bool) (n : ℕ) (d : Desk) (ls : List Bytes) → Holds κ.setting d → IsSoundlyDetermined κ.setting (lines_led κ cut n d ls)
 lines_sound κ craft decide cut n d [] h = desk_sound κ.setting d h decide
 lines_sound κ craft decide cut n d (l ∷ []) h =
     on_sound κ.setting decide Whole n (last_led cut (line_led κ d l)) (last_holds κ.setting decide cut (line_led κ d l) (line_holds κ craft d l h)) (λ e g. desk_sound κ.setting e g decide)
 lines_sound κ craft decide cut n d (l ∷ m ∷ ls) h =
     on_sound κ.setting decide (λ e. lines_led κ cut (n + 1) e (m ∷ ls)) n (line_led κ d l) (line_holds κ craft d l h) (λ e g. lines_sound κ craft decide cut (n + 1) e (m ∷ ls) g)
 
-header_sound : (κ : Craft) (craft : IsCraft κ) (decide : FrontsDecided κ.setting) (cut : Bool) (ls : List Bytes) → IsSoundlyDetermined κ.setting (header_on κ cut ls)
+header_sound : (κ : Craft) (craft : IsCraft κ) (decide : DecidesFronts κ.setting) (cut : Bool) (ls : List Bytes) → IsSoundlyDetermined κ.setting (header_on κ cut ls)
 header_sound κ craft decide cut [] = tt
 header_sound κ craft decide cut (h ∷ []) =
     on_sound κ.setting decide Whole 1 (last_led cut (header_led h (text_fault 65536 h))) (last_holds κ.setting decide cut (header_led h (text_fault 65536 h)) (header_holds κ.setting h (text_fault 65536 h)))
@@ -152,4 +152,4 @@ header_sound κ craft decide cut (h ∷ l ∷ ls) =
     (λ e g. lines_sound κ craft decide cut 2 e (l ∷ ls) g)
 
 pub schedule_sound : (κ : Craft) → IsCraft κ → (bytes : Bytes) → IsSoundlyDetermined κ.setting (schedule_run κ bytes)
-schedule_sound κ craft bytes = header_sound κ craft (fronts_decided κ.setting craft.exchange_at craft.lawful craft.readable) (nat_lt max_input (length bytes)) (lines_of bytes)
+schedule_sound κ craft bytes = header_sound κ craft (fronts_decided κ.setting craft.exchange_at craft.lawful craft.readable) (nat_lt max_input (length bytes)) (lines_of (take (max_input + 1) bytes))

@@ -1,14 +1,13 @@
 -- Scripts and fronts of blocks.
-use Rattle.std.proofs.Common.{◌≡◌, ◌⊎◌, inl, inr, ℕ, ◌<◌, ◌^◌, suc, refl, ap, sym, ◌∙◌, subst, List, [], ◌∷◌, ◌++◌, append_assoc, None, Some, Option, lit<}
+use Rattle.std.proofs.Common.{◌≡◌, ◌⊎◌, inl, inr, ℕ, ◌<◌, ◌^◌, refl, ap, sym, ◌∙◌, subst, List, [], ◌∷◌, ◌++◌, append_assoc, Some, lit<}
 use Rattle.std.proofs.lemmas.List.{append-nil}
 use Rattle.resp_wire.specs.declared.value.Value.{Value}
 use Rattle.mini_store.specs.Words.{Words}
 use Rattle.place_model.specs.Setting.{Setting}
 use Rattle.place_model.specs.Calls.{Call, call, concat}
 use Rattle.place_model.specs.Blocks.{Kind, drawn, passed, IsBlock, AreBlocks, IsFrontOfBlocks}
-use Rattle.place_model.specs.Scripts.{Script, Over, Off, Say, after_call, rest_of, next_words, IsSaid}
+use Rattle.place_model.specs.Scripts.{Script, Over, Off, Say, after_call, rest_of, IsSaid}
 use Rattle.schedule_laws.specs.Rows.{IsGood, AreTimely}
-use Rattle.schedule_laws.proofs.Values.{some_is}
 
 -- ---- calls by a script, and then calls by what is left of it
 
@@ -34,8 +33,12 @@ end_of (Say w go) g =
     let more = end_of (go g.0.0) g.0.1 in
     (call 0 (w 0) g.0.0 ∷ more.0, (lit< tt, more.1), (refl, more.2), more.3)
 
+-- a good script isn't off
+pub good_on : (p : Script) → IsGood p → p ≡ Off → ⊥
+good_on p g e = subst IsGood e g
+
 -- the last of these calls got an answer that isn't listed, and with a listed one the script could have been said to its end
-pub record PutOff (p : Script) (xs : List Call) : Type 0 where
+pub record IsPutOff (p : Script) (xs : List Call) : Type 0 where
   pub before : List Call
   pub last : Call
   pub listed : Value
@@ -46,7 +49,7 @@ pub record PutOff (p : Script) (xs : List Call) : Type 0 where
   pub over : rest_of p (before ++ call last.at last.words listed ∷ more) ≡ Over
 
 -- a call before
-later : (w : ℕ → Words) (go : Value → Script) (x : Call) (xs : List Call) → x.at < 2 ^ 40 → Some (w x.at) ≡ Some x.words → PutOff (go x.answer) xs → PutOff (Say w go) (x ∷ xs)
+later : (w : ℕ → Words) (go : Value → Script) (x : Call) (xs : List Call) → x.at < 2 ^ 40 → Some (w x.at) ≡ Some x.words → IsPutOff (go x.answer) xs → IsPutOff (Say w go) (x ∷ xs)
 later w go x xs at words h = record {
   before = x ∷ h.before;
   last = h.last;
@@ -64,12 +67,12 @@ off_silent [] h = refl
 off_silent (x ∷ xs) h = let e = h.0 in cc
 
 -- what is left of a good script is good, or its last answer put it off
-pub rest_good : (p : Script) (xs : List Call) → IsGood p → AreTimely xs → IsSaid p xs → IsGood (rest_of p xs) ⊎ ((rest_of p xs ≡ Off) × PutOff p xs)
+pub rest_good : (p : Script) (xs : List Call) → IsGood p → AreTimely xs → IsSaid p xs → IsGood (rest_of p xs) ⊎ ((rest_of p xs ≡ Off) × IsPutOff p xs)
 rest_good p [] g timely said = inl g
 rest_good Over (x ∷ xs) g timely said = let e = said.0 in cc
 rest_good Off (x ∷ xs) g timely said = absurd g
 rest_good (Say w go) (x ∷ xs) g timely said = by (g.1 x.answer) (λ k. rest_good (go x.answer) xs k timely.1 said.1) where
-  now : go x.answer ≡ Off → (rest_of (go x.answer) xs ≡ Off) × PutOff (Say w go) (x ∷ xs)
+  now : go x.answer ≡ Off → (rest_of (go x.answer) xs ≡ Off) × IsPutOff (Say w go) (x ∷ xs)
   now e =
       let none = off_silent xs (subst (λ q. IsSaid q xs) e said.1) in
       let more = end_of (go g.0.0) g.0.1 in (
@@ -86,11 +89,11 @@ rest_good (Say w go) (x ∷ xs) g timely said = by (g.1 x.answer) (λ k. rest_go
         },
       )
 
-  by : (go x.answer ≡ Off) ⊎ IsGood (go x.answer) → (IsGood (go x.answer) → IsGood (rest_of (go x.answer) xs) ⊎ ((rest_of (go x.answer) xs ≡ Off) × PutOff (go x.answer) xs))
-      → IsGood (rest_of (go x.answer) xs) ⊎ ((rest_of (go x.answer) xs ≡ Off) × PutOff (Say w go) (x ∷ xs))
+  by : (go x.answer ≡ Off) ⊎ IsGood (go x.answer) → (IsGood (go x.answer) → IsGood (rest_of (go x.answer) xs) ⊎ ((rest_of (go x.answer) xs ≡ Off) × IsPutOff (go x.answer) xs))
+      → IsGood (rest_of (go x.answer) xs) ⊎ ((rest_of (go x.answer) xs ≡ Off) × IsPutOff (Say w go) (x ∷ xs))
   by (inl e) f = inr (now e)
   by (inr k) f = on (f k) where
-    on : IsGood (rest_of (go x.answer) xs) ⊎ ((rest_of (go x.answer) xs ≡ Off) × PutOff (go x.answer) xs) → IsGood (rest_of (go x.answer) xs) ⊎ ((rest_of (go x.answer) xs ≡ Off) × PutOff (Say w go) (x ∷ xs))
+    on : IsGood (rest_of (go x.answer) xs) ⊎ ((rest_of (go x.answer) xs ≡ Off) × IsPutOff (go x.answer) xs) → IsGood (rest_of (go x.answer) xs) ⊎ ((rest_of (go x.answer) xs ≡ Off) × IsPutOff (Say w go) (x ∷ xs))
     on (inl h) = inl h
     on (inr h) = inr (h.0, later w go x xs timely.0 said.0 h.1)
 

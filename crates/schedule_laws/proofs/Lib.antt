@@ -7,6 +7,7 @@ pub mod Returns
 pub mod PlanRows
 pub mod Numbered
 pub mod Fronts
+pub mod Parts
 pub mod Kept
 pub mod Worlds
 pub mod Desks

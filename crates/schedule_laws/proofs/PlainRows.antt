@@ -42,16 +42,16 @@ pub publish_good : (σ : Setting) (v : Bytes) → IsGood (publish_script σ v)
 publish_good σ v = asking_good σ (σ.exchange_of v) (λ ms. pushes v (σ.keys_for v ms)) (λ ms. pushes_good v (σ.keys_for v ms))
 
 -- pushes, each with its moment, key and answer
-abbrev Pushed : Bytes → List Bytes → List Call → Type 0
-Pushed v ks xs = (ds : List (ℕ × Bytes × ℤ)) × (direct_keys ds ≡ ks) × (direct_calls v ds ≡ xs)
+abbrev ArePushes : Bytes → List Bytes → List Call → Type 0
+ArePushes v ks xs = (ds : List (ℕ × Bytes × ℤ)) × (direct_keys ds ≡ ks) × (direct_calls v ds ≡ xs)
 
-pushes_talk : (v : Bytes) (ks : List Bytes) (xs : List Call) → Talks (pushes v ks) xs → Pushed v ks xs
-pushes_talk v [] = over_talks (Pushed v []) ([], refl, refl)
-pushes_talk v (k ∷ ks) = say_talks (λ at. w) (on_number (pushes v ks)) (Pushed v (k ∷ ks)) (λ a r ys l t. number_talks (pushes v ks) r ys t (λ u. Pushed v (k ∷ ks) (call a w u ∷ ys)) (λ z u. more a z ys (pushes_talk v ks ys u))) where
+pushes_talk : (v : Bytes) (ks : List Bytes) (xs : List Call) → Talks (pushes v ks) xs → ArePushes v ks xs
+pushes_talk v [] = over_talks (ArePushes v []) ([], refl, refl)
+pushes_talk v (k ∷ ks) = say_talks (λ at. w) (on_number (pushes v ks)) (ArePushes v (k ∷ ks)) (λ a r ys l t. number_talks (pushes v ks) r ys t (λ u. ArePushes v (k ∷ ks) (call a w u ∷ ys)) (λ z u. more a z ys (pushes_talk v ks ys u))) where
   w : Words
   w = codes "LPUSH" ∷ k ∷ v ∷ []
 
-  more : (a : ℕ) (z : ℤ) (ys : List Call) → Pushed v ks ys → Pushed v (k ∷ ks) (call a w (Integer z) ∷ ys)
+  more : (a : ℕ) (z : ℤ) (ys : List Call) → ArePushes v ks ys → ArePushes v (k ∷ ks) (call a w (Integer z) ∷ ys)
   more a z ys p = ((a, k, z) ∷ p.0, ap (λ l. k ∷ l) p.1, ap (λ l. call a w (Integer z) ∷ l) p.2)
 
 module _ (σ : Setting) (s n : ℕ) (v : Bytes) (d : IsPublication σ s n v) where
@@ -65,7 +65,7 @@ module _ (σ : Setting) (s n : ℕ) (v : Bytes) (d : IsPublication σ s n v) whe
     one k to (d' ∷ []) e = let h : d'.1 ≡ k = cc e in Plain d'.0 d'.1 d'.2 d.tag none (to ∙ sym (ap (λ q. q ∷ []) h))
     one k to (d' ∷ d'' ∷ ds) e = absurd (cc e)
 
-    by : (k : Bytes) → σ.keys_for v [] ≡ k ∷ [] → Pushed v (σ.keys_for v []) xs → Out xs
+    by : (k : Bytes) → σ.keys_for v [] ≡ k ∷ [] → ArePushes v (σ.keys_for v []) xs → Out xs
     by k to p = subst Out p.2 (one k to p.0 (p.1 ∙ to))
 
   named_talk : (e : Bytes) → σ.exchange_of v ≡ Some e → (xs : List Call) → Talks (asking_script σ (Some e) (λ ms. pushes v (σ.keys_for v ms))) xs → Out xs
@@ -76,7 +76,7 @@ module _ (σ : Setting) (s n : ℕ) (v : Bytes) (d : IsPublication σ s n v) whe
     go : List Bytes → Script
     go ms = pushes v (σ.keys_for v ms)
 
-    by : (a : ℕ) (ms : List Bytes) (ys : List Call) → Pushed v (σ.keys_for v ms) ys → Out (call a w (bulks ms) ∷ ys)
+    by : (a : ℕ) (ms : List Bytes) (ys : List Call) → ArePushes v (σ.keys_for v ms) ys → Out (call a w (bulks ms) ∷ ys)
     by a ms ys p = subst (λ l. Out (call a w (bulks ms) ∷ l)) p.2 (Named a e ms p.0 d.tag some p.1)
 
   pub publish_talk : (xs : List Call) → Talks (publish_script σ v) xs → Out xs

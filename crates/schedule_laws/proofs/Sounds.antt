@@ -1,22 +1,19 @@
 -- A desk that holds has a sound history.
-use Rattle.std.proofs.Common.{◌≡◌, ◌⊎◌, inl, inr, ℕ, ◌+◌, ◌≤◌, zero, suc, refl, ap, sym, ◌∙◌, subst, arith, List, [], ◌∷◌, Bool, true, false, Option, None, Some, if◌then◌else◌, length}
-use Rattle.std.specs.FinMap.{get, empty, get-empty, entries, len-entries, len-empty}
+use Rattle.std.proofs.Common.{◌≡◌, ℕ, refl, ap, sym, ◌∙◌, subst, arith, List, [], ◌∷◌, Bool, true, false, None, Some, if◌then◌else◌, length}
+use Rattle.std.specs.FinMap.{empty, get-empty, entries, len-entries, len-empty}
 use Rattle.resp_wire.specs.Order.{bytes_cmp}
 use Rattle.mini_store.specs.Keys.{Keys, value_of, value_at, expiry_of}
 use Rattle.mini_store.specs.declared.held.Held.{Held}
-use Rattle.mini_store.specs.declared.held.Stored.{Stored}
 use Rattle.place_model.specs.Names.{Bytes}
-use Rattle.place_model.specs.Setting.{Setting, is_queue}
+use Rattle.place_model.specs.Setting.{Setting}
 use Rattle.place_model.specs.QueueKeys.{Among}
-use Rattle.place_model.specs.ReturnBlocks.{Carries}
 use Rattle.place_model.specs.Blocks.{IsMannered}
 use Rattle.place_model.specs.Histories.{calls_of}
 use Rattle.place_model.specs.Counts.{entry_at, field_of, has_field, has_member, is_field, is_member, in_held, total, start_count}
-use Rattle.place_model.specs.Starts.{IsListOrNone, IsHashOrNone, IsScoresOrNone, elements_of, elements_at, IsSoundStart, IsSound}
-use Rattle.schedule_model.specs.Desk.{Book, Desk}
-use Rattle.schedule_model.specs.Schedules.{history_of}
+use Rattle.place_model.specs.Starts.{IsListOrNone, IsHashOrNone, IsScoresOrNone, elements_of, IsSoundStart}
+use Rattle.schedule_model.specs.Desk.{Desk}
 use Rattle.schedule_laws.specs.Sound.{IsSoundDesk}
-use Rattle.schedule_laws.proofs.Kept.{FrontsDecided, mannered}
+use Rattle.schedule_laws.proofs.Kept.{DecidesFronts, mannered}
 use Rattle.schedule_laws.proofs.Worlds.{calls_timely}
 use Rattle.schedule_laws.proofs.Desks.{Holds}
 
@@ -70,12 +67,12 @@ empty_start σ = record {
   none_some u e = cc
 
 -- where fronts are decided, each client is mannered
-client_mannered : (σ : Setting) (d : Desk) → Holds σ d → FrontsDecided σ → (c s : ℕ) → Among (c, s) d.clients → IsMannered σ s (calls_of c d.entries)
+client_mannered : (σ : Setting) (d : Desk) → Holds σ d → DecidesFronts σ → (c s : ℕ) → Among (c, s) d.clients → IsMannered σ s (calls_of c d.entries)
 client_mannered σ d h decide c s among =
     let b = h.book_of c s among in
     subst (λ q. IsMannered σ q (calls_of c d.entries)) b.2 (mannered σ (calls_of c d.entries) b.0 (h.books c b.0 b.1).kept decide (calls_timely c 0 d.moment d.entries h.rises h.present))
 
-pub desk_sound : (σ : Setting) (d : Desk) → Holds σ d → FrontsDecided σ → IsSoundDesk σ d
+pub desk_sound : (σ : Setting) (d : Desk) → Holds σ d → DecidesFronts σ → IsSoundDesk σ d
 desk_sound σ d h decide = record {
   history = record { start = empty_start σ; table = h.table; legal = h.legal; mannered = client_mannered σ d h decide };
   moments = h.rises;

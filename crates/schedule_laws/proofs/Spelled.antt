@@ -1,6 +1,6 @@
 -- What the spelling of a line says of its numbers and names.
-use Rattle.std.proofs.Common.{◌≡◌, ℕ, ◌+◌, ◌-◌, ◌<◌, ◌≤◌, ◌^◌, refl, arith, List, [], ◌∷◌, Bool, true, false, Option, None, Some, if◌then◌else◌, length, codes}
-use Rattle.std.specs.Prelude.{◌&&◌, nat_le, bytes_eq, option_map, ◌==◌}
+use Rattle.std.proofs.Common.{◌≡◌, ℕ, ◌-◌, ◌<◌, ◌≤◌, ◌^◌, refl, arith, List, [], ◌∷◌, Bool, true, false, Option, None, Some, if◌then◌else◌, length, codes}
+use Rattle.std.specs.Prelude.{◌&&◌, nat_le, bytes_eq, ◌==◌}
 use Rattle.std.specs.List.{list_all, list_any, before_first, after_first}
 use Rattle.std.specs.Str.Parse.{digits_value}
 use Rattle.std.proofs.lemmas.Grind.{common_steps}

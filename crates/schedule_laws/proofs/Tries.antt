@@ -93,14 +93,14 @@ carried_not σ t u e v c =
 -- ---- talks
 
 -- pushes inside a transaction, and a talk of the rest
-abbrev QueuedTo : Side → Bytes → List Bytes → Script → List Call → Type 0
-QueuedTo side v ks rest xs = (qs : List (ℕ × Bytes)) × (ys : List Call) × (queued_keys qs ≡ ks) × (queued_calls side v qs ys ≡ xs) × Talks rest ys
+abbrev AreQueued : Side → Bytes → List Bytes → Script → List Call → Type 0
+AreQueued side v ks rest xs = (qs : List (ℕ × Bytes)) × (ys : List Call) × (queued_keys qs ≡ ks) × (queued_calls side v qs ys ≡ xs) × Talks rest ys
 
-queued_pushes_talk : (side : Side) (v : Bytes) (ks : List Bytes) (rest : Script) (xs : List Call) → Talks (queued_script side v ks rest) xs → QueuedTo side v ks rest xs
+queued_pushes_talk : (side : Side) (v : Bytes) (ks : List Bytes) (rest : Script) (xs : List Call) → Talks (queued_script side v ks rest) xs → AreQueued side v ks rest xs
 queued_pushes_talk side v [] rest xs t = ([], xs, refl, refl, t)
 queued_pushes_talk side v (k ∷ ks) rest xs t =
-    queued_talks (λ at. push_word side ∷ k ∷ v ∷ []) (queued_script side v ks rest) (QueuedTo side v (k ∷ ks) rest) (λ a ys _ u. more a ys (queued_pushes_talk side v ks rest ys u)) xs t where
-      more : (a : ℕ) (ys : List Call) → QueuedTo side v ks rest ys → QueuedTo side v (k ∷ ks) rest (call a (push_word side ∷ k ∷ v ∷ []) queued ∷ ys)
+    queued_talks (λ at. push_word side ∷ k ∷ v ∷ []) (queued_script side v ks rest) (AreQueued side v (k ∷ ks) rest) (λ a ys _ u. more a ys (queued_pushes_talk side v ks rest ys u)) xs t where
+      more : (a : ℕ) (ys : List Call) → AreQueued side v ks rest ys → AreQueued side v (k ∷ ks) rest (call a (push_word side ∷ k ∷ v ∷ []) queued ∷ ys)
       more a ys q = ((a, k) ∷ q.0, q.1, ap (λ l. k ∷ l) q.2, ap (λ l. call a (push_word side ∷ k ∷ v ∷ []) queued ∷ l) q.3, q.4)
 
 -- by what follows a return's end: a talk of the one script, or where each try failed of the other
@@ -156,7 +156,7 @@ module _ (σ : Setting) (side : Side) (t : Bytes) (ended failed : Script) (P : L
           push : Script
           push = queued_script side v (k ∷ ks) (plainly (codes "EXEC" ∷ []) (on_ran ended failed))
 
-          by : (d e f : ℕ) (xs : List Call) → QueuedTo side v (k ∷ ks) (plainly (codes "EXEC" ∷ []) (on_ran ended failed)) xs → Q (call d (codes "MULTI" ∷ []) done ∷ call e zrem queued ∷ call f hdel queued ∷ xs)
+          by : (d e f : ℕ) (xs : List Call) → AreQueued side v (k ∷ ks) (plainly (codes "EXEC" ∷ []) (on_ran ended failed)) xs → Q (call d (codes "MULTI" ∷ []) done ∷ call e zrem queued ∷ call f hdel queued ∷ xs)
           by d e f xs q = subst (λ l. Q (call d (codes "MULTI" ∷ []) done ∷ call e zrem queued ∷ call f hdel queued ∷ l)) q.3 (pushed_talk d e f k ks keys q.0 q.2 q.1 q.4)
 
     take_talk : (ks : List Bytes) → σ.keys_in u ms ≡ ks → (xs : List Call) → Talks (take_script σ side t v ended failed ks) xs → Q xs

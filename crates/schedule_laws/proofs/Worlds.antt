@@ -1,23 +1,22 @@
 -- Histories with an entry or a client more.
-use Rattle.std.proofs.Common.{◌≡◌, ◌≢◌, ◌⊎◌, inl, inr, ℕ, ◌≤◌, ◌<◌, ◌^◌, refl, ap, sym, ◌∙◌, subst, arith, List, [], ◌∷◌, ◌++◌, Bool, true, false, Option, None, Some, if◌then◌else◌, append_assoc}
+use Rattle.std.proofs.Common.{◌≡◌, ◌≢◌, ◌⊎◌, inl, inr, ℕ, ◌≤◌, ◌<◌, ◌^◌, refl, ap, sym, ◌∙◌, subst, arith, List, [], ◌∷◌, ◌++◌, Bool, true, false, None, Some, if◌then◌else◌}
 use Rattle.std.specs.Prelude.{◌==◌, ◌||◌, nat_eq}
-use Rattle.std.specs.List.{list_any}
 use Rattle.std.specs.Ordering.{nat_cmp}
-use Rattle.std.specs.FinMap.{FinMap, get, insert, get-empty}
+use Rattle.std.specs.FinMap.{get, insert, get-empty}
 use Rattle.std.proofs.lemmas.Grind.{common_steps}
 use Rattle.mini_store.specs.Words.{Words}
-use Rattle.mini_store.specs.Store.{State, apply_of, gone_of}
+use Rattle.mini_store.specs.Store.{apply_of, gone_of}
 use Rattle.mini_store.specs.declared.reply.Reply.{Reply}
 use Rattle.place_model.specs.Calls.{Call, call}
 use Rattle.place_model.specs.QueueKeys.{IsAway, Differ, Among}
-use Rattle.place_model.specs.Histories.{conn_of, own_entries, onto_calls, calls_among, calls_of, Client, World, with_client, next_of, next, after_entries, new_client, table, start_from, AnswersRight, MayCome, AllMayCome, connections, seeds, AreUnused, IsTable}
+use Rattle.place_model.specs.Histories.{conn_of, own_entries, onto_calls, calls_among, calls_of, Client, World, with_client, next_of, next, after_entries, new_client, table, AnswersRight, MayCome, AllMayCome, connections, seeds, AreUnused, IsTable}
 use Rattle.place_model.specs.declared.heard.Heard.{Heard as Note}
 use Rattle.place_model.specs.declared.history.Entry.{Entry}
 use Rattle.place_model.specs.declared.history.Entry.TheVariants.{Call as Called, Heard, Stop}
 use Rattle.schedule_model.specs.Faults.{has_number, has_seed}
 use Rattle.schedule_laws.specs.Rows.{AreTimely}
 use Rattle.schedule_laws.specs.Sound.{RisesTo}
-use Rattle.schedule_laws.proofs.Numbered.{same_or, get_same, get_other, insert_swap, another}
+use Rattle.schedule_laws.proofs.Numbered.{same_or, get_other, insert_swap, another}
 
 pub neither : (a b : Bool) → (a || b) ≡ false → (a ≡ false) × (b ≡ false)
 neither true b e = let no_way : true ≡ false = e in absurd (cc no_way)

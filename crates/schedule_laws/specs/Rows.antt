@@ -1,11 +1,12 @@
 -- Rows: a block's script can always be said to its end, and what was said to its end is the block.
-use Rattle.std.specs.Prelude.{◌≡◌, ◌⊎◌, ℕ, ◌^◌, suc, true, ◌<◌, List, [], ◌∷◌, codes, None, Some}
+use Rattle.std.specs.Prelude.{◌≡◌, ◌⊎◌, ℕ, ◌^◌, suc, true, ◌<◌, List, [], ◌∷◌, ◌++◌, codes, None, Some}
 use Rattle.resp_wire.specs.declared.value.Value.{Value}
+use Rattle.mini_store.specs.Words.{Words}
 use Rattle.place_model.specs.Names.{Bytes, is_name}
 use Rattle.place_model.specs.Texts.{token}
 use Rattle.place_model.specs.Bindings.{is_part}
 use Rattle.place_model.specs.Setting.{Setting}
-use Rattle.place_model.specs.Calls.{Call}
+use Rattle.place_model.specs.Calls.{Call, call}
 use Rattle.place_model.specs.RouteBlocks.{IsDeclareBlock, IsPublishBlock}
 use Rattle.place_model.specs.TakeBlocks.{IsPop, IsPopBlock, IsEndBlock}
 use Rattle.place_model.specs.ReturnBlocks.{ReturnEnd, IsReturnBlock}
@@ -69,3 +70,13 @@ pub record IsRow (σ : Setting) (s n p : ℕ) (plan : Plan) : Type 0 where
 -- each lawful plan is a row
 abbrev pub PlansAreRows : Type 0
 PlansAreRows = (σ : Setting) (s n p : ℕ) (plan : Plan) → IsLawfulPlan σ s n plan → IsRow σ s n p plan
+
+-- what was said so far of a lawful plan begins a block of its kind, where its last answer was a listed one
+abbrev pub TalksGoOn : Type 0
+TalksGoOn = (σ : Setting) (s n p : ℕ) (plan : Plan) → IsLawfulPlan σ s n plan → (l : List Call) → AreTimely l → IsSaid (script_of σ s p plan) l → (rest_of (script_of σ s p plan) l ≡ Off → ⊥)
+    → (more : List Call) × IsBlock σ s n p (kind_of plan) (l ++ more)
+
+-- where it wasn't, what was said would begin such a block with another answer to the last words
+abbrev pub TalksPutOff : Type 0
+TalksPutOff = (σ : Setting) (s n p : ℕ) (plan : Plan) → IsLawfulPlan σ s n plan → (l : List Call) → AreTimely l → IsSaid (script_of σ s p plan) l → rest_of (script_of σ s p plan) l ≡ Off
+    → (before : List Call) × (a : ℕ) × (words : Words) × (answer : Value) × (listed : Value) × (more : List Call) × (l ≡ before ++ call a words answer ∷ []) × IsBlock σ s n p (kind_of plan) (before ++ call a words listed ∷ more)

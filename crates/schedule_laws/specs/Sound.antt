@@ -1,5 +1,5 @@
 -- Soundness of what a schedule determines.
-use Rattle.std.specs.Prelude.{◌≡◌, ℕ, ◌^◌, ◌<◌, ◌≤◌, true, List, [], ◌∷◌, length, Option, None, Some}
+use Rattle.std.specs.Prelude.{◌≡◌, ℕ, ◌^◌, ◌<◌, ◌≤◌, true, List, [], ◌∷◌, length, Option, Some}
 use Rattle.place_model.specs.Names.{Bytes, is_name}
 use Rattle.place_model.specs.Layouts.{Layout, is_layout}
 use Rattle.place_model.specs.Setting.{Setting, Texts, IsTexts, IsLawful, if_named, setting_of}
