@@ -2,7 +2,7 @@
 use Rattle.std.proofs.Common.{◌≡◌, ◌≢◌, ◌⊎◌, inl, inr, ℕ, ◌<◌, ◌≤◌, ◌^◌, refl, ap, sym, ◌∙◌, subst, lit<, arith, [], ◌∷◌, ◌++◌, Bool, true, false, None, Some, if◌then◌else◌}
 use Rattle.std.proofs.lemmas.List.{append-nil}
 use Rattle.std.specs.Ordering.{nat_cmp}
-use Rattle.std.specs.FinMap.{get, insert, empty, get-empty}
+use Rattle.std.specs.FinMap.{FinMap, get, insert, empty, get-empty}
 use Rattle.resp_wire.specs.declared.value.Value.{Value}
 use Rattle.mini_store.specs.Words.{Words}
 use Rattle.mini_store.specs.Store.{State, apply_of, gone_of}
@@ -61,15 +61,14 @@ first_holds σ = record {
 
 -- ---- a book that changes
 
-module _ (σ : Setting) (d : Desk) (h : Holds σ d) (c : ℕ) (b b' : Book) (book : get d.books c ≡ Some b) (seed : b'.seed ≡ b.seed) (stopped : b'.stopped ≡ b.stopped) (kept : IsKept σ (calls_of c d.entries) b') where
-  seen : (k s : ℕ) → (k ≡ c) ⊎ (k ≢ c) → (x : Book) × (get d.books k ≡ Some x) × (x.seed ≡ s) → (x : Book) × (get (insert d.books c b') k ≡ Some x) × (x.seed ≡ s)
-  seen k s (inl e) old = (
-    b',
-    ap (get (insert d.books c b')) e ∙ get_same d.books c b',
-    seed ∙ (ap (λ (x : Book). x.seed) (some_is b old.0 (sym book ∙ (ap (get d.books) (sym e) ∙ old.1))) ∙ old.2),
-  )
-  seen k s (inr n) old = (old.0, get_other d.books c b' k n ∙ old.1, old.2)
+-- where a book is written that keeps its client's seed, each client of the table has a book with its seed
+rewritten : (m : FinMap nat_cmp Book) (c : ℕ) (b b' : Book) → get m c ≡ Some b → b'.seed ≡ b.seed → (k s : ℕ) → (x : Book) × (get m k ≡ Some x) × (x.seed ≡ s) → (x : Book) × (get (insert m c b') k ≡ Some x) × (x.seed ≡ s)
+rewritten m c b b' book seed k s old = by (same_or k c) where
+  by : (k ≡ c) ⊎ (k ≢ c) → (x : Book) × (get (insert m c b') k ≡ Some x) × (x.seed ≡ s)
+  by (inl e) = (b', ap (get (insert m c b')) e ∙ get_same m c b', seed ∙ (ap (λ (x : Book). x.seed) (some_is b old.0 (sym book ∙ (ap (get m) (sym e) ∙ old.1))) ∙ old.2))
+  by (inr n) = (old.0, get_other m c b' k n ∙ old.1, old.2)
 
+module _ (σ : Setting) (d : Desk) (h : Holds σ d) (c : ℕ) (b b' : Book) (book : get d.books c ≡ Some b) (seed : b'.seed ≡ b.seed) (stopped : b'.stopped ≡ b.stopped) (kept : IsKept σ (calls_of c d.entries) b') where
   its : (k : ℕ) (x : Book) → (k ≡ c) ⊎ (k ≢ c) → get (insert d.books c b') k ≡ Some x → IsBookOf σ d k x
   its k x (inl e) is =
       let same : b' ≡ x = some_is b' x (sym (get_same d.books c b') ∙ (ap (get (insert d.books c b')) (sym e) ∙ is)) in
@@ -85,7 +84,7 @@ module _ (σ : Setting) (d : Desk) (h : Holds σ d) (c : ℕ) (b b' : Book) (boo
     rises = h.rises;
     store = h.store;
     legal = h.legal;
-    book_of = λ k s among. seen k s (same_or k c) (h.book_of k s among);
+    book_of = λ k s among. rewritten d.books c b b' book seed k s (h.book_of k s among);
     books = λ k x is. let o = its k x (same_or k c) is in record { client = o.client; known = o.known; stopped = o.stopped; kept = o.kept };
   }
 
@@ -130,14 +129,6 @@ module _ (σ : Setting) (d : Desk) (h : Holds σ d) (c : ℕ) (b : Book) (w : �
     kept = subst (λ l. IsKept σ l x) (sym (foreign_more k d.entries (Called c d.moment (w d.moment) r.1) (λ q. n (sym q)))) old.kept;
   }
 
-  found : (k s : ℕ) → (k ≡ c) ⊎ (k ≢ c) → (x : Book) × (get d.books k ≡ Some x) × (x.seed ≡ s) → (x : Book) × (get (insert d.books c b') k ≡ Some x) × (x.seed ≡ s)
-  found k s (inl e) old = (
-    b',
-    ap (get (insert d.books c b')) e ∙ get_same d.books c b',
-    ap (λ (x : Book). x.seed) (some_is b old.0 (sym book ∙ (ap (get d.books) (sym e) ∙ old.1))) ∙ old.2,
-  )
-  found k s (inr n) old = (old.0, get_other d.books c b' k n ∙ old.1, old.2)
-
   pub call_holds : Holds σ d'
   call_holds = record {
     table = h.table;
@@ -146,7 +137,7 @@ module _ (σ : Setting) (d : Desk) (h : Holds σ d) (c : ℕ) (b : Book) (w : �
     store = ap (λ v. v.store) now_is;
     legal = legal-append (start d) d.entries (Called c d.moment (w d.moment) r.1 ∷ []) h.legal
         ((mine.client, mine.known, mine.stopped ∙ on, ap (λ s. (apply_of s d.moment c (w d.moment)).1) (sym h.store)), tt);
-    book_of = λ k s among. found k s (same_or k c) (h.book_of k s among);
+    book_of = λ k s among. rewritten d.books c b b' book refl k s (h.book_of k s among);
     books = λ k x is. spoken k x (same_or k c) is;
   }
 
@@ -212,19 +203,19 @@ module _ (σ : Setting) (d : Desk) (h : Holds σ d) (c : ℕ) (b : Book) (book :
   abbrev gone : Book
   gone = record b { stopped = true }
 
-  mine' : IsBookOf σ d c b
-  mine' = h.books c b book
+  theirs : IsBookOf σ d c b
+  theirs = h.books c b book
 
   abbrev leaver : Client
-  leaver = record mine'.client { stopped = true }
+  leaver = record theirs.client { stopped = true }
 
   left_is : now (with_stop d c b) ≡ with_known (gone_of (now d).store c) (now d) c leaver
-  left_is = after-append (start d) d.entries (Stop c ∷ []) ∙ next_stopped (now d) c mine'.client mine'.known
+  left_is = after-append (start d) d.entries (Stop c ∷ []) ∙ next_stopped (now d) c theirs.client theirs.known
 
   stayed : (k : ℕ) (x : Book) → (k ≡ c) ⊎ (k ≢ c) → get (insert d.books c gone) k ≡ Some x → IsBookOf σ (with_stop d c b) k x
   stayed k x (inl e) is =
       let same : gone ≡ x = some_is gone x (sym (get_same d.books c gone) ∙ (ap (get (insert d.books c gone)) (sym e) ∙ is)) in
-      let k' = mine'.kept in
+      let k' = theirs.kept in
       let still : IsKept σ (calls_of c d.entries) gone = gone_kept σ (calls_of c d.entries) b k' in
       let new : IsBookOf σ (with_stop d c b) c gone = record {
         client = leaver;
@@ -240,22 +231,14 @@ module _ (σ : Setting) (d : Desk) (h : Holds σ d) (c : ℕ) (b : Book) (book :
     kept = subst (λ l. IsKept σ l x) (sym (foreign_more k d.entries (Stop c) (λ q. n (sym q)))) old.kept;
   }
 
-  remembered : (k s : ℕ) → (k ≡ c) ⊎ (k ≢ c) → (x : Book) × (get d.books k ≡ Some x) × (x.seed ≡ s) → (x : Book) × (get (insert d.books c gone) k ≡ Some x) × (x.seed ≡ s)
-  remembered k s (inl e) old = (
-    gone,
-    ap (get (insert d.books c gone)) e ∙ get_same d.books c gone,
-    ap (λ (x : Book). x.seed) (some_is b old.0 (sym book ∙ (ap (get d.books) (sym e) ∙ old.1))) ∙ old.2,
-  )
-  remembered k s (inr n) old = (old.0, get_other d.books c gone k n ∙ old.1, old.2)
-
   pub stop_holds : Holds σ (with_stop d c b)
   stop_holds = record {
     table = h.table;
     present = h.present;
     rises = rises_stop 0 d.moment d.entries c h.rises;
     store = ap (λ v. v.store) left_is ∙ ap (λ s. gone_of s c) h.store;
-    legal = legal-append (start d) d.entries (Stop c ∷ []) h.legal ((mine'.client, mine'.known, mine'.stopped ∙ on, tt), tt);
-    book_of = λ k s among. remembered k s (same_or k c) (h.book_of k s among);
+    legal = legal-append (start d) d.entries (Stop c ∷ []) h.legal ((theirs.client, theirs.known, theirs.stopped ∙ on, tt), tt);
+    book_of = λ k s among. rewritten d.books c b gone book refl k s (h.book_of k s among);
     books = λ k x is. stayed k x (same_or k c) is;
   }
 
@@ -265,14 +248,14 @@ module _ (σ : Setting) (d : Desk) (h : Holds σ d) (c s : ℕ) (fresh : has_num
   abbrev blank : Book
   blank = record { seed = s; drawn = 0; passes = 0; left = Over; stopped = false }
 
-  nobody' : get (start d).clients c ≡ None
-  nobody' = table_none c d.clients fresh
+  stranger : get (start d).clients c ≡ None
+  stranger = table_none c d.clients fresh
 
   start_is : start (with_client d c s) ≡ add c (new_client s) (start d)
   start_is = ap (λ m. record { store = (start d).store; clients = m }) (table_more c s d.clients fresh)
 
   world_is : now (with_client d c s) ≡ add c (new_client s) (now d)
-  world_is = ap (λ v. after_entries v d.entries) start_is ∙ after_add c (new_client s) (start d) d.entries h.legal nobody'
+  world_is = ap (λ v. after_entries v d.entries) start_is ∙ after_add c (new_client s) (start d) d.entries h.legal stranger
 
   joined : (k : ℕ) (x : Book) → (k ≡ c) ⊎ (k ≢ c) → get (insert d.books c blank) k ≡ Some x → IsBookOf σ (with_client d c s) k x
   joined k x (inl e) is =
@@ -281,7 +264,7 @@ module _ (σ : Setting) (d : Desk) (h : Holds σ d) (c s : ℕ) (fresh : has_num
         client = new_client s;
         known = ap (λ v. get v.clients c) world_is ∙ get_same (now d).clients c (new_client s);
         stopped = refl;
-        kept = subst (λ l. IsKept σ l blank) (sym (no_calls c (new_client s) (start d) d.entries h.legal nobody')) (new_kept σ s);
+        kept = subst (λ l. IsKept σ l blank) (sym (no_calls c (new_client s) (start d) d.entries h.legal stranger)) (new_kept σ s);
       } in
       subst (λ q. IsBookOf σ (with_client d c s) q x) (sym e) (subst (IsBookOf σ (with_client d c s) c) same new)
   joined k x (inr n) is = let old = h.books k x (sym (get_other d.books c blank k n) ∙ is) in record {
@@ -301,7 +284,7 @@ module _ (σ : Setting) (d : Desk) (h : Holds σ d) (c s : ℕ) (fresh : has_num
     present = h.present;
     rises = h.rises;
     store = ap (λ v. v.store) world_is ∙ h.store;
-    legal = subst (λ v. AllMayCome v d.entries) (sym start_is) (legal_add c (new_client s) (start d) d.entries h.legal nobody');
+    legal = subst (λ v. AllMayCome v d.entries) (sym start_is) (legal_add c (new_client s) (start d) d.entries h.legal stranger);
     book_of = λ k t among. listed k t (among_more c s k t d.clients fresh among);
     books = λ k x is. joined k x (same_or k c) is;
   }
