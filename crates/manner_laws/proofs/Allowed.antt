@@ -186,8 +186,8 @@ module _ (σ : Setting) (exchange_at : Bytes → Option Bytes) (s : ℕ) (laws :
       subst (λ z. if_said (push_word z ∷ x ∷ v ∷ []) words (Queueing (Putting n p (settled j z) k v xs)) ≡ Some q) (sym (side_is j side (x ∷ v ∷ []) may)) (said (push_word side ∷ x ∷ v ∷ []) (Queueing (Putting n p (settled j side) k v xs)))
   ask-allowed c a words q time (Moves n p b j k v) = said words q
   ask-allowed c a words q time (Looks n p b v lt) =
-      subst (λ z. only_if (nat_lt z (2 ^ 64)) (if_said (due_words σ a z) words (Due n p)) ≡ Some q) (sym (seconds_before-difference a v time lt))
-      (only_if-true (nat_lt v (2 ^ 64)) (if_said (due_words σ a v) words (Due n p)) q (true_lt v (2 ^ 64) lt) (said (due_words σ a v) (Due n p)))
+      subst (λ z. only_if (nat_lt z (2 ^ 32)) (if_said (due_words σ a z) words (Due n p)) ≡ Some q) (sym (seconds_before-difference a v time lt))
+      (only_if-true (nat_lt v (2 ^ 32)) (if_said (due_words σ a v) words (Due n p)) q (true_lt v (2 ^ 32) lt) (said (due_words σ a v) (Due n p)))
   ask-allowed c a words q time (Turns n p b t ts) = said words q
   ask-allowed c a words q time (Lets_go n p b) = said words q
   ask-allowed c a words q time (Inspects n p b) = said words q

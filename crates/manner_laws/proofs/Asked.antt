@@ -178,8 +178,8 @@ module _ (σ : Setting) (exchange_at : Bytes → Option Bytes) (s : ℕ) where
   ask_is (Putting n p j k v []) a words q h = moved (Asks σ s (Putting n p j k v []) a) _ words _ q (Moves n p a j k v) h
   ask_is (Putting n p j k v (x ∷ xs)) a words q h = moved (Asks σ s (Putting n p j k v (x ∷ xs)) a) _ words _ q (Puts n p a j k v x xs (side_for j words) (side_may j words)) h
   ask_is (Locked n p) a words q h =
-      let x = only_if_is (nat_lt (seconds_before a (third words)) (2 ^ 64)) (if_said (due_words σ a (seconds_before a (third words))) words (Due n p)) q h in
-      moved (Asks σ s (Locked n p) a) _ words _ q (Looks n p a (seconds_before a (third words)) (lt_true (seconds_before a (third words)) (2 ^ 64) x.0)) x.1
+      let x = only_if_is (nat_lt (seconds_before a (third words)) (2 ^ 32)) (if_said (due_words σ a (seconds_before a (third words))) words (Due n p)) q h in
+      moved (Asks σ s (Locked n p) a) _ words _ q (Looks n p a (seconds_before a (third words)) (lt_true (seconds_before a (third words)) (2 ^ 32) x.0)) x.1
   ask_is (Turning n p []) a words q h = moved (Asks σ s (Turning n p []) a) _ words _ q (Lets_go n p a) h
   ask_is (Turning n p (t ∷ ts)) a words q h = moved (Asks σ s (Turning n p (t ∷ ts)) a) _ words _ q (Turns n p a t ts) h
   ask_is (Release_watched n p) a words q h = moved (Asks σ s (Release_watched n p) a) _ words _ q (Inspects n p a) h

@@ -38,6 +38,9 @@ wide n h = omega arith
 less : (a b : ℕ) → a < 2 ^ 64 → a - b < 2 ^ 64
 less a b h = omega arith
 
+longer : (v : ℕ) → v < 2 ^ 32 → v < 2 ^ 64
+longer v h = omega arith
+
 back : (a v : ℕ) → v ≤ a → a - (a - v) ≡ v
 back a v h = omega arith
 
@@ -47,11 +50,11 @@ forth a v h = omega arith
 not_le : (a v : ℕ) → nat_le v a ≡ false → a ≤ v
 not_le a v e = grind (arith, nat_tests)
 
-pub seconds_before-difference : (a v : ℕ) → a < 2 ^ 64 → v < 2 ^ 64 → seconds_before a (difference a v) ≡ v
+pub seconds_before-difference : (a v : ℕ) → a < 2 ^ 64 → v < 2 ^ 32 → seconds_before a (difference a v) ≡ v
 seconds_before-difference a v h i = go (nat_le v a) refl
   where
     go : (t : Bool) → nat_le v a ≡ t → seconds_before a (if t then decimal (a - v) else 45 ∷ decimal (v - a)) ≡ v
     go true e =
         let w = wide (a - v) (less a v h) in
         plain_seconds a (decimal (a - v)) (decimal_plain (a - v) w) ∙ ap (λ z. a - z) (decimal_is_IsNumeral_wide (a - v) w).1 ∙ back a v (le_true v a e)
-    go false e = let w = wide (v - a) (less v a i) in ap (λ z. a + z) (decimal_is_IsNumeral_wide (v - a) w).1 ∙ forth a v (not_le a v e)
+    go false e = let w = wide (v - a) (less v a (longer v i)) in ap (λ z. a + z) (decimal_is_IsNumeral_wide (v - a) w).1 ∙ forth a v (not_le a v e)

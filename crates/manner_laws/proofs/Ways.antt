@@ -296,7 +296,7 @@ module _ (σ : Setting) (s : ℕ) where
         subst (λ z. Runs σ s c l z) (alone_end n p t (goes_on end)) (subst (λ z. Runs σ s c z (ended n p (Open t) (goes_on end))) r.4 (Looking n p, by σ s (start at Returns) (Consented _), (r.5.0, by σ s (Names n p r.1 t is) r.5.1, r.5.2))),
       )
 
-  pass_runs : IsLawful σ → (c : Spot) (n p v : ℕ) (end : PassEnd) (l : List Call) → v < 2 ^ 64 → IsStart c n p → IsPassBlock σ (token s (suc p)) v end l → BlockRuns c l n (suc p)
+  pass_runs : IsLawful σ → (c : Spot) (n p v : ℕ) (end : PassEnd) (l : List Call) → v < 2 ^ 32 → IsStart c n p → IsPassBlock σ (token s (suc p)) v end l → BlockRuns c l n (suc p)
   pass_runs laws c n p v end l lt at (Is_held a) = (Free n (suc p), Here n (suc p), (Free n (suc p), by σ s (start at Passes) (Taken n p), refl))
   pass_runs laws c n p v end l lt at (Ran a b ms e k k' h free) = (
     Free n (suc p),

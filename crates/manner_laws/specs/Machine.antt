@@ -56,7 +56,7 @@ pub data Asks (σ : Setting) (s : ℕ) : Spot → ℕ → Words → Ask → Type
   Deletes : (n p a : ℕ) (j : Job) (k : ℕ) (v q : Bytes) (qs : List Bytes) → Asks σ s (Removed n p j k v q qs) a (codes "HDEL" ∷ σ.unacked ∷ tag_in j ∷ []) (Queueing (Putting n p j k v (q ∷ qs)))
   Puts : (n p a : ℕ) (j : Job) (k : ℕ) (v q : Bytes) (qs : List Bytes) (side : Side) → MayPush j side → Asks σ s (Putting n p j k v (q ∷ qs)) a (push_word side ∷ q ∷ v ∷ []) (Queueing (Putting n p (settled j side) k v qs))
   Moves : (n p a : ℕ) (j : Job) (k : ℕ) (v : Bytes) → Asks σ s (Putting n p j k v []) a (codes "EXEC" ∷ []) (Move n p j k)
-  Looks : (n p a v : ℕ) → v < 2 ^ 64 → Asks σ s (Locked n p) a (due_words σ a v) (Due n p)
+  Looks : (n p a v : ℕ) → v < 2 ^ 32 → Asks σ s (Locked n p) a (due_words σ a v) (Due n p)
   Turns : (n p a : ℕ) (t : Bytes) (ts : List Bytes) → Asks σ s (Turning n p (t ∷ ts)) a (codes "WATCH" ∷ σ.unacked ∷ []) (Consent (Watched n p (Of_pass t ts) 0))
   Lets_go : (n p a : ℕ) → Asks σ s (Turning n p []) a (codes "WATCH" ∷ σ.mutex ∷ []) (Consent (Release_watched n p))
   Inspects : (n p a : ℕ) → Asks σ s (Release_watched n p) a (codes "GET" ∷ σ.mutex ∷ []) (Holder n p)

@@ -1,7 +1,7 @@
 -- A value taken from under its key: what stands in for it is written over, and it can be put back.
 use Rattle.std.proofs.Common.{◌≡◌, ℕ, List, [], ◌∷◌, Bool, true, false, cond, refl, sym, ap, ◌∙◌, None, Some, Option, IfSome, length, nat_eq, ℤ, arith}
 use Rattle.std.specs.Cmp.{unsigned_Decides}
-use Rattle.std.specs.FinMap.{FinMap, get, insert, remove, empty, len, empty_of_len}
+use Rattle.std.specs.FinMap.{FinMap, get, insert, remove, empty, len, len-empty, empty_of_len}
 use Rattle.resp_wire.specs.Order.{bytes_cmp}
 use Rattle.store_tables.proofs.Maps.{bytes_total, bytes_anti}
 use Rattle.store_tables.proofs.Lookups.{get-insert_same, insert-insert, remove-insert, insert_same}
@@ -90,3 +90,7 @@ is_scores (Text t) h s = cc
 is_scores (Items xs) h s = cc
 is_scores (Members g) h s = cc
 is_scores (Hash g) h s = cc
+
+-- an absent key was left alone
+pub none_back : {X : Type 0} (m n : Keys) (h : FinMap bytes_cmp X) → h ≡ empty → cond (nat_eq (len h) 0) m n ≡ m
+none_back {X} m n h e = ap (λ t. cond (nat_eq (len t) 0) m n) e ∙ ap (λ t. cond (nat_eq t 0) m n) (len-empty bytes_cmp X)

@@ -8,11 +8,15 @@ mod command;
 mod connection;
 mod effect;
 mod held;
+mod hashes;
 mod integer;
 mod keyspace;
 mod laws;
 mod lists;
+mod members;
 mod reply;
+mod sets;
+mod sorted_sets;
 mod texts;
 mod words;
 

@@ -8,3 +8,9 @@ pub mod Texts
 pub mod Settings
 pub mod EnvelopeFacts
 pub mod Examples
+pub mod NameFaults
+pub mod Cuts
+pub mod Gathers
+pub mod Weighs
+pub mod Walks
+pub mod Placed

@@ -1,26 +1,49 @@
--- The texts of histories: what the bytes of envelopes, entries and tags tell.
-use Rattle.std.specs.Prelude.{option_map}
+-- What the bytes of tags, envelopes and entries of the table tell, as Celery's envelopes have it, and the setting of the keys without a prefix.
+use Rattle.std.specs.Prelude.{ℕ, Option, option_map}
 use Rattle.std.specs.Result.{result_ok}
+use Rattle.serde_json.specs.Data.{Data}
 use Rattle.envelope.specs.Bodies.{body_in, body_of, carried, entry_of, tag_of_bytes}
-use Rattle.envelope.specs.Entries.{entry_at}
+use Rattle.envelope.specs.Entries.{Entry, entry_at}
 use Rattle.envelope.specs.Envelopes.{envelope_at, parts_in, priority_of}
 use Rattle.envelope.specs.Tags.{is_tag, tag}
-use Rattle.place_model.specs.Setting.{Texts, IsTexts}
+use Rattle.place_model.specs.Names.{Bytes}
+use Rattle.place_model.specs.Layouts.{plain}
+use Rattle.place_model.specs.Setting.{IsTexts, Setting, Texts, Way, setting_of}
 
--- the texts of Kombu's envelopes: an envelope goes where its own delivery_info says, and an entry returns by its own two texts
-abbrev pub envelope_texts : Texts
-envelope_texts = record {
+-- where an envelope's tree goes
+abbrev pub way_said : Data → Way
+way_said d = record { exchange = (parts_in d).exchange; routing_key = (parts_in d).routing_key; priority = priority_of d }
+
+-- where an entry's tree returns, by the entry's own two texts
+abbrev pub way_kept : Entry → Way
+way_kept e = record { exchange = e.exchange; routing_key = e.routing_key; priority = priority_of e.tree }
+
+-- where an envelope goes, none where the bytes are no envelope
+abbrev pub way_of : Bytes → Option Way
+way_of v = option_map way_said (result_ok (envelope_at v))
+
+-- where an entry's envelope returns, none where the bytes are no entry
+abbrev pub way_in : Bytes → Option Way
+way_in u = option_map way_kept (result_ok (entry_at u))
+
+-- the texts of Celery's envelopes
+abbrev pub texts : Texts
+texts = record {
   tag = tag;
   is_tag = is_tag;
   tag_of = tag_of_bytes;
-  way_of = λ v. option_map (λ d. record { exchange = (parts_in d).exchange; routing_key = (parts_in d).routing_key; priority = priority_of d }) (result_ok (envelope_at v));
+  way_of = way_of;
   entry_of = entry_of;
-  way_in = λ u. option_map (λ e. record { exchange = e.exchange; routing_key = e.routing_key; priority = priority_of e.tree }) (result_ok (entry_at u));
+  way_in = way_in;
   carried = carried;
   body_of = body_of;
   body_in = body_in;
 }
 
--- they keep the facts that the proofs need
+-- the keys without a prefix and the four steps of Kombu, with these texts
+abbrev pub plain_setting : Setting
+plain_setting = setting_of plain texts
+
+-- the texts keep the facts that the proofs need
 abbrev pub EnvelopesServe : Type 0
-EnvelopesServe = IsTexts envelope_texts
+EnvelopesServe = IsTexts texts

@@ -1,18 +1,16 @@
 -- The report of a history: its entries, the places of its messages, and how many there are of each.
-use Rattle.std.specs.Prelude.{ℕ, suc, ◌+◌, ◌/◌, ◌%◌, ◌^◌, Bool, true, false, not, List, [], ◌∷◌, ◌++◌, codes, decimal, count_by, filter, map, Option, None, Some}
+use Rattle.std.specs.Prelude.{ℕ, suc, ◌+◌, ◌/◌, ◌%◌, ◌^◌, Bool, true, false, List, [], ◌∷◌, ◌++◌, codes, decimal, count_by, map}
 use Rattle.std.specs.Fmt.{signed_decimal}
 use Rattle.std.specs.List.{flat_map}
 use Rattle.line_text.specs.Forms.{quoted}
 use Rattle.line_text.specs.Short.{short_word, short_value, tag_short}
 use Rattle.line_text.specs.declared.short.Shape.{Shape}
 use Rattle.resp_wire.specs.declared.value.Value.{Value}
-use Rattle.mini_store.specs.Words.{command_of}
 use Rattle.mini_store.specs.declared.reply.Reply.{Reply}
 use Rattle.envelope.specs.declared.tag.Tag.{Tag}
+use Rattle.place_model.specs.Accepted.{places}
 use Rattle.place_model.specs.Histories.{History}
-use Rattle.place_model.specs.Names.{Bytes, same}
-use Rattle.place_model.specs.PlaceOf.{place_of}
-use Rattle.place_model.specs.Seen.{push_by}
+use Rattle.place_model.specs.Names.{Bytes}
 use Rattle.place_model.specs.Setting.{Setting}
 use Rattle.place_model.specs.declared.heard.Heard.{Heard}
 use Rattle.place_model.specs.declared.heard.Heard.TheVariants.{Took, Finished, Expired, Revoked, Rejected, Held, Unreadable}
@@ -78,21 +76,6 @@ entry_lines l n (e ∷ es) = entry_line l n e ++ entry_lines l (n + 1) es
 
 -- ---- places
 
--- the tags that an entry accepted
-abbrev pub accepted_by : Setting → Entry Heard → List Bytes
-accepted_by σ (Call c at words reply) = push_by σ (command_of words) reply.answer
-accepted_by σ (Noted c note) = []
-accepted_by σ (Stop c) = []
-
--- each text where it stands first
-abbrev pub firsts : List Bytes → List Bytes
-firsts [] = []
-firsts (t ∷ ts) = t ∷ filter (λ u. not (same u t)) (firsts ts)
-
--- the accepted tags, in the order of their first push
-abbrev pub accepted_tags : Setting → List (Entry Heard) → List Bytes
-accepted_tags σ es = firsts (flat_map (accepted_by σ) es)
-
 -- the words of a place
 abbrev pub place_words : Legend → Place → List Bytes
 place_words l (InList queue step) = codes "list" ∷ short_word l.shape queue ∷ decimal step ∷ []
@@ -106,10 +89,6 @@ place_words l Never = codes "never" ∷ []
 -- a tag with its place
 abbrev pub place_line : Legend → Bytes × Place → Bytes
 place_line l p = line (codes "place" ∷ tag_short (l.seed p.0) (l.counter p.0) ∷ place_words l p.1)
-
--- the accepted tags with their places
-abbrev pub places : Setting → History Heard → List (Bytes × Place)
-places σ h = map (λ t. (t, place_of σ h t)) (accepted_tags σ h.entries)
 
 -- ---- totals
 

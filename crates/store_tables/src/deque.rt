@@ -1,6 +1,6 @@
 //! A list that grows and shrinks at both ends.
 ghost use Rattle.std.specs.List.{list_any};
-ghost use Rattle.std.specs.Prelude.{◌≡◌, [], ◌∷◌, ◌++◌, IfOk, IfSome, IfNone, filter, not, OnOk, OnErr, length, IsTrue, ◌↔◌, bytes_eq};
+ghost use Rattle.std.specs.Prelude.{◌≡◌, [], ◌∷◌, ◌++◌, IfOk, IfSome, IfNone, filter, not, nat_lt, OnOk, OnErr, length, IsTrue, ◌↔◌, bytes_eq};
 
 use resp_wire::Bytes;
 use std::alloc::{AllocError, Global};
@@ -95,6 +95,13 @@ impl<T: Drop> Deque<T> {
 }
 
 impl Deque<Bytes> {
+    /// Whether one of the texts has more bytes than this.
+    pub fn has_longer(&self, most: usize) -> bool
+        ensures { result ≡ list_any (λ one. nat_lt most (length one)) self.now }
+    {
+        self.kept.iter().any(|one| one.len() > most)
+    }
+
     /// Copies of these texts.
     pub fn copied(alloc: Global, texts: &[Bytes]) -> Result<Self, AllocError>
         ensures { IfOk result (λ made. made ≡ texts.now) }

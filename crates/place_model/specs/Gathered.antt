@@ -1,0 +1,257 @@
+-- What a walk over a history's entries gathers, by the numbers of tags: of each client what is in its hand and what its commands since MULTI do to messages, and which messages were pushed, ended and copied.
+use Rattle.std.specs.Prelude.{ℕ, zero, suc, ℤ, ◌+◌, Bool, true, false, not, ◌&&◌, ◌||◌, ◌==◌, nat_le, if◌then◌else◌, List, [], ◌∷◌, ◌++◌, filter, map, Option, None, Some, option_and_then}
+use Rattle.std.specs.Ordering.{nat_cmp}
+use Rattle.std.specs.FinMap.{FinMap, empty, entries, get, insert}
+use Rattle.resp_wire.specs.declared.value.Value.{Value}
+use Rattle.mini_store.specs.Words.{command_of}
+use Rattle.mini_store.specs.declared.command.Command.{Command}
+use Rattle.mini_store.specs.declared.command.Command.TheVariants.{Lpush, Rpush, Brpop, Multi, Exec, Hdel}
+use Rattle.mini_store.specs.declared.held.Held.{Held}
+use Rattle.mini_store.specs.declared.held.Stored.{Stored}
+use Rattle.mini_store.specs.declared.held.Stored.TheVariants.{Items}
+use Rattle.envelope.specs.Tags.{tag_of_text}
+use Rattle.place_model.specs.Answers.{items_of, number_of, pair_of}
+use Rattle.place_model.specs.Histories.{Client, History}
+use Rattle.place_model.specs.Names.{Bytes, same}
+use Rattle.place_model.specs.PlaceOf.{by_counts, or_else}
+use Rattle.place_model.specs.Seen.{is_one, seen}
+use Rattle.place_model.specs.Setting.{Setting, is_queue}
+use Rattle.place_model.specs.declared.heard.Heard.{Heard}
+use Rattle.place_model.specs.declared.history.Entry.{Entry}
+use Rattle.place_model.specs.declared.history.Entry.TheVariants.{Call, Heard as Noted, Stop}
+use Rattle.place_model.specs.declared.place.Place.{Place}
+use Rattle.place_model.specs.declared.place.Place.TheVariants.{List as InList, Unacked, Hand, Ended, Lost, Never}
+use Rattle.place_model.specs.declared.seat.Act.{Act}
+use Rattle.place_model.specs.declared.seat.Act.TheVariants.{Push, Take, Nothing}
+use Rattle.place_model.specs.declared.seat.Seat.{Seat}
+
+-- the number of a tag's text
+abbrev pub number : Option Bytes → Option ℕ
+number o = option_and_then tag_of_text o
+
+-- the number as a list
+abbrev pub listed : Option ℕ → List ℕ
+listed None = []
+listed (Some n) = n ∷ []
+
+-- how often a number is among them
+abbrev pub times : ℕ → List ℕ → ℕ
+times t [] = 0
+times t (n ∷ ns) = (if n == t then 1 else 0) + times t ns
+
+-- whether a number is among them
+abbrev pub has : ℕ → List ℕ → Bool
+has t [] = false
+has t (n ∷ ns) = (n == t) || has t ns
+
+-- ---- what a command does
+
+abbrev pub push_act : Option ℕ → Act
+push_act None = Nothing
+push_act (Some n) = Push n
+
+abbrev pub take_act : Option ℕ → Act
+take_act None = Nothing
+take_act (Some n) = Take n
+
+-- a push of these bytes to this key
+abbrev pub push_at : Setting → Bytes → Bytes → Act
+push_at σ k v = if is_queue σ k then push_act (number (σ.tag_of v)) else Nothing
+
+-- the taking of a field out of this hash
+abbrev pub take_at : Setting → Bytes → Bytes → Act
+take_at σ k f = if same k σ.unacked then take_act (tag_of_text f) else Nothing
+
+-- what a command of a transaction does to a message
+abbrev pub act_of : Setting → Command → Act
+act_of σ (Lpush k (v ∷ [])) = push_at σ k v
+act_of σ (Rpush k (v ∷ [])) = push_at σ k v
+act_of σ (Hdel k (f ∷ [])) = take_at σ k f
+act_of σ other = Nothing
+
+-- ---- transactions
+
+-- the messages that are pushed
+abbrev pub pushed : List Act → List ℕ
+pushed [] = []
+pushed (Push n ∷ acts) = n ∷ pushed acts
+pushed (Take n ∷ acts) = pushed acts
+pushed (Nothing ∷ acts) = pushed acts
+
+-- a message that is taken, where the answer is the integer 1
+abbrev pub taken_by : Act → Value → List ℕ
+taken_by (Take n) r = if is_one (number_of r) then n ∷ [] else []
+taken_by other r = []
+
+-- the messages that are taken, by the answers
+abbrev pub taken : List Act → List Value → List ℕ
+taken [] rs = []
+taken (a ∷ acts) [] = []
+taken (a ∷ acts) (r ∷ rs) = taken_by a r ++ taken acts rs
+
+-- those that are taken and pushed nowhere
+abbrev pub ended_in : List Act → List Value → List ℕ
+ended_in acts rs = filter (λ n. not (has n (pushed acts))) (taken acts rs)
+
+-- those that are pushed more than once
+abbrev pub copied_in : List Act → List ℕ
+copied_in acts = filter (λ n. nat_le 2 (times n (pushed acts))) (pushed acts)
+
+-- ---- clients
+
+-- what is kept of a client
+abbrev pub seat_of : Setting → Client → Seat
+seat_of σ cl = record { hand = number (seen σ cl.calls).hand; acts = map (act_of σ) (seen σ cl.calls).since; stopped = cl.stopped }
+
+-- what is in hand after a key and an element were popped, if they were
+abbrev pub hand_with : Setting → Option ℕ → Option (Bytes × Bytes) → Option ℕ
+hand_with σ old None = old
+hand_with σ old (Some p) = if is_queue σ p.0 then number (σ.tag_of p.1) else old
+
+-- what is in hand after a call
+abbrev pub hand_after : Setting → Option ℕ → Command → Value → Option ℕ
+hand_after σ old Exec r = None
+hand_after σ old (Brpop ks) r = hand_with σ old (pair_of r)
+hand_after σ old other r = old
+
+-- what the commands since MULTI do, after a call
+abbrev pub acts_after : Setting → List Act → Command → List Act
+acts_after σ old Multi = []
+acts_after σ old command = old ++ act_of σ command ∷ []
+
+-- a client after a call
+abbrev pub seat_after : Setting → Seat → Command → Value → Seat
+seat_after σ seat command r = record { hand = hand_after σ seat.hand command r; acts = acts_after σ seat.acts command; stopped = seat.stopped }
+
+-- the message that a call pushes directly, by its key, its bytes and its answer
+abbrev pub push_told : Setting → Bytes → Bytes → Option ℤ → Option ℕ
+push_told σ k v None = None
+push_told σ k v (Some n) = if is_queue σ k then number (σ.tag_of v) else None
+
+-- the message that a call pushes directly
+abbrev pub push_of : Setting → Command → Value → Option ℕ
+push_of σ (Lpush k (v ∷ [])) r = push_told σ k v (number_of r)
+push_of σ other r = None
+
+-- what the transaction of a call ended, where it ran
+abbrev pub ended_with : List Act → Option (List Value) → List ℕ
+ended_with acts None = []
+ended_with acts (Some rs) = ended_in acts rs
+
+abbrev pub copied_with : List Act → Option (List Value) → List ℕ
+copied_with acts None = []
+copied_with acts (Some rs) = copied_in acts
+
+-- what a call ended and copied
+abbrev pub ended_by : List Act → Command → Value → List ℕ
+ended_by acts Exec r = ended_with acts (items_of r)
+ended_by acts other r = []
+
+abbrev pub copied_by : List Act → Command → Value → List ℕ
+copied_by acts Exec r = copied_with acts (items_of r)
+copied_by acts other r = []
+
+-- ---- the walk
+
+-- what the walk has gathered: the clients, and the messages that were accepted, pushed by a client that is known, ended and copied
+pub record Walk : Type 0 where
+  pub seats : FinMap nat_cmp Seat
+  pub accepted : List ℕ
+  pub pushes : List ℕ
+  pub ended : List ℕ
+  pub copied : List ℕ
+
+-- after a call of a connection, by what is known of it
+abbrev pub walk_called : Setting → Walk → ℕ → Command → Value → Option Seat → Walk
+walk_called σ w c command r None = record w { accepted = w.accepted ++ listed (push_of σ command r) }
+walk_called σ w c command r (Some seat) = record {
+  seats = insert w.seats c (seat_after σ seat command r);
+  accepted = w.accepted ++ listed (push_of σ command r);
+  pushes = w.pushes ++ listed (push_of σ command r);
+  ended = w.ended ++ ended_by seat.acts command r;
+  copied = w.copied ++ copied_by seat.acts command r;
+}
+
+-- after a connection is gone
+abbrev pub walk_stopped : Walk → ℕ → Option Seat → Walk
+walk_stopped w c None = w
+walk_stopped w c (Some seat) = record w { seats = insert w.seats c (record seat { stopped = true }) }
+
+-- after an entry
+abbrev pub walked : Setting → Walk → Entry Heard → Walk
+walked σ w (Call c at words reply) = walk_called σ w c (command_of words) reply.answer (get w.seats c)
+walked σ w (Noted c note) = w
+walked σ w (Stop c) = walk_stopped w c (get w.seats c)
+
+-- after entries in a row
+abbrev pub walked_all : Setting → Walk → List (Entry Heard) → Walk
+walked_all σ w [] = w
+walked_all σ w (e ∷ es) = walked_all σ (walked σ w e) es
+
+-- ---- what stands where
+
+-- the first that a number is told with
+abbrev pub first_of : {A : Type 0} → ℕ → List (ℕ × A) → Option A
+first_of t [] = None
+first_of t (p ∷ ps) = if p.0 == t then Some p.1 else first_of t ps
+
+-- each message of a list with its queue and step
+abbrev pub told_at : Setting → Bytes × ℕ → List Bytes → List (ℕ × (Bytes × ℕ))
+told_at σ p [] = []
+told_at σ p (v ∷ vs) = map (λ n. (n, p)) (listed (number (σ.tag_of v))) ++ told_at σ p vs
+
+-- the messages of a value
+abbrev pub told_in : Setting → Bytes × ℕ → Stored → List (ℕ × (Bytes × ℕ))
+told_in σ p (Items vs) = told_at σ p vs
+told_in σ p other = []
+
+-- the messages under a key, by the queue and the step whose key it is
+abbrev pub told_under : Setting → Option (Bytes × ℕ) → Held → List (ℕ × (Bytes × ℕ))
+told_under σ None h = []
+told_under σ (Some p) h = told_in σ p h.value
+
+-- the messages in the lists of queues, with their queues and steps, in the order of the keys
+abbrev pub told_by : Setting → List (Bytes × Held) → List (ℕ × (Bytes × ℕ))
+told_by σ [] = []
+told_by σ (e ∷ es) = told_under σ (σ.split e.0) e.1 ++ told_by σ es
+
+-- the messages in the hands of clients that are gone, or that aren't, in the order of connections
+abbrev pub hands : Bool → List (ℕ × Seat) → List (ℕ × ℕ)
+hands gone [] = []
+hands gone (e ∷ es) = (if e.1.stopped then (if gone then map (λ n. (n, e.0)) (listed e.1.hand) else []) else (if gone then [] else map (λ n. (n, e.0)) (listed e.1.hand))) ++ hands gone es
+
+-- ---- places
+
+-- a client that has called nothing
+abbrev pub new_seat : Seat
+new_seat = record { hand = None; acts = []; stopped = false }
+
+-- with these clients
+abbrev pub seated : FinMap nat_cmp Seat → List (ℕ × ℕ) → FinMap nat_cmp Seat
+seated m [] = m
+seated m (c ∷ cs) = seated (insert m c.0 new_seat) cs
+
+-- before any entry
+abbrev pub walk_start : List (ℕ × ℕ) → Walk
+walk_start cs = record { seats = seated empty cs; accepted = []; pushes = []; ended = []; copied = [] }
+
+-- after a history
+abbrev pub gathered : Setting → History Heard → Walk
+gathered σ h = walked_all σ (walk_start h.clients) h.entries
+
+-- the place of a list
+abbrev pub listed_place : Bytes × ℕ → Place
+listed_place p = InList p.0 p.1
+
+-- the place of a message of which nothing is pushed twice, by what was gathered, the lists of queues, and whether it is in the table
+abbrev pub single_place : ℕ → Walk → List (ℕ × (Bytes × ℕ)) → Bool → Place
+single_place t w told kept =
+    or_else listed_place (first_of t told)
+    (if kept then Unacked else
+    or_else Hand (first_of t (hands false (entries w.seats)))
+    (if has t w.ended then Ended else
+    or_else Lost (first_of t (hands true (entries w.seats))) Never))
+
+-- the place of a message
+abbrev pub place_by : ℕ → Walk → List (ℕ × (Bytes × ℕ)) → Bool → Place
+place_by t w told kept = by_counts (times t w.pushes) (if has t w.copied then 1 else 0) (single_place t w told kept)
