@@ -27,6 +27,5 @@ pub mod Scripts
 pub mod EnvelopeTexts
 pub mod NameFaults
 pub mod Shown
-pub mod EnvelopeTexts
 pub mod Accepted
 pub mod Gathered
