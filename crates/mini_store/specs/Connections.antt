@@ -1,5 +1,5 @@
 -- What the store knows of connections: watched keys and their marks, channels and pending messages.
-use Rattle.std.specs.Prelude.{ℕ, ◌+◌, Bool, false, not, ◌||◌, ◌&&◌, List, [], ◌∷◌, ◌++◌, map, filter, length, nat_lt, bytes_eq, Option, None, Some, if◌then◌else◌}
+use Rattle.std.specs.Prelude.{ℕ, ◌+◌, Bool, false, not, ◌||◌, ◌&&◌, List, [], ◌∷◌, ◌++◌, map, filter, count_by, length, nat_lt, bytes_eq, Option, None, Some, if◌then◌else◌}
 use Rattle.std.specs.List.{list_any}
 use Rattle.std.specs.Ordering.{nat_cmp}
 use Rattle.std.specs.FinMap.{FinMap, get, entries, from_entries}
@@ -49,8 +49,7 @@ hears channel c = list_any (bytes_eq channel) c.channels && nat_lt (length c.pen
 
 -- how many connections a message on this channel reaches
 abbrev pub hearing : Bytes → List (ℕ × Conn) → ℕ
-hearing channel [] = 0
-hearing channel (e ∷ es) = (if hears channel e.1 then 1 else 0) + hearing channel es
+hearing channel es = count_by (λ e. hears channel e.1) es
 
 -- what a command sees at this moment
 abbrev pub around : ℕ → Conns → Around

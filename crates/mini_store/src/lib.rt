@@ -6,9 +6,10 @@
 
 mod command;
 mod connection;
+mod conns;
 mod effect;
-mod held;
 mod hashes;
+mod held;
 mod integer;
 mod keyspace;
 mod laws;
