@@ -1,23 +1,37 @@
 -- Keys that are due: those that are dropped, and the connections that watch them.
 use Rattle.std.proofs.Common.{◌≡◌, ℕ, List, [], ◌∷◌, Bool, true, false, cond, refl, sym, ap, subst, ◌∙◌, None, Some, Option, T, map}
-use Rattle.std.specs.Prelude.{not, ◌||◌, bytes_eq, filter}
+use Rattle.std.specs.Prelude.{not, ◌||◌, ◌&&◌, bytes_eq, filter}
 use Rattle.std.specs.List.{list_any, AllByRecursion}
 use Rattle.std.specs.List.Sorted.{IsStrictlySortedBy}
 use Rattle.std.specs.Map.{keys_of}
 use Rattle.std.specs.declared.cmp.Ordering.TheVariants.{Less, Equal, Greater}
-use Rattle.std.specs.Ordering.{eq_by_cmp, is_eq}
+use Rattle.std.specs.Ordering.{eq_by_cmp, is_eq, is_lt}
+use Rattle.std.specs.declared.cmp.Ordering.{Ordering}
 use Rattle.std.specs.Cmp.{eq_by_cmp_equiv}
 use Rattle.std.specs.Cmp.Lexicographic.{texts_ties}
-use Rattle.std.specs.FinMap.{FinMap, get, entries, from_entries, same_map, get-entries, get-from_entries, get-retain_keys}
-use Rattle.std.specs.FinMap.Entries.{find}
+use Rattle.std.specs.FinMap.{FinMap, get, entries, entries_sorted, same_entries_map, from_entries, same_map, get-entries, get-from_entries, get-retain_keys}
+use Rattle.std.specs.FinMap.Entries.{find, below_all, is_sorted}
 use Rattle.resp_wire.specs.Order.{bytes_cmp}
 use Rattle.store_tables.proofs.Maps.{bytes_total, bytes_anti, entries_made}
 use Rattle.store_tables.proofs.Lookups.{tied_same}
 use Rattle.mini_store.specs.Words.{Bytes}
 use Rattle.mini_store.specs.Keys.{Keys, is_over, is_due, due_keys, live_at}
-use Rattle.mini_store.specs.Connections.{hit, touch}
+use Rattle.mini_store.specs.Connections.{hit, touch, touch_due}
 use Rattle.mini_store.specs.declared.held.Held.{Held}
 use Rattle.mini_store.specs.declared.connection.Conn.{Conn}
+
+first : (a b : Bool) → T (a && b) → T a
+first true b p = tt
+first false b p = p
+
+second : (a b : Bool) → T (a && b) → T b
+second true b p = p
+second false b p = absurd p
+
+less : (r : Ordering) → T (is_lt r) → r ≡ Less
+less Less p = refl
+less Equal p = absurd p
+less Greater p = absurd p
 
 -- what isn't due
 abbrev lasting : ℕ → Option Held → Option Held
@@ -105,9 +119,31 @@ due_among at w (e ∷ es) h =
     any_moved (is_over at e.1.expiry) w e.0 (due_keys at es)
     ∙ one_due at w e es (eq_by_cmp bytes_cmp w e.0) (is_over at e.1.expiry) refl (absent_at w e es h.0) (due_among at w es h.1)
 
+below_strictly : {X : Type 0} (x : Bytes) (es : List (Bytes × X)) → T (below_all bytes_cmp x es) → AllByRecursion (λ y. bytes_cmp x y ≡ Less) (keys_of es)
+below_strictly x [] h = tt
+below_strictly x (e ∷ es) h = (less (bytes_cmp x e.0) (first (is_lt (bytes_cmp x e.0)) (below_all bytes_cmp x es) h), below_strictly x es (second (is_lt (bytes_cmp x e.0)) (below_all bytes_cmp x es) h))
+
+sorted_strictly : {X : Type 0} (es : List (Bytes × X)) → T (is_sorted bytes_cmp es) → IsStrictlySortedBy bytes_cmp (keys_of es)
+unfolding IsStrictlySortedBy
+sorted_strictly [] h = tt
+sorted_strictly (e ∷ es) h = (below_strictly e.0 es (first (below_all bytes_cmp e.0 es) (is_sorted bytes_cmp es) h), sorted_strictly es (second (below_all bytes_cmp e.0 es) (is_sorted bytes_cmp es) h))
+
+-- a map's keys rise
+strictly : {X : Type 0} (m : FinMap bytes_cmp X) → IsStrictlySortedBy bytes_cmp (keys_of (entries m))
+strictly m = sorted_strictly (entries m) (entries_sorted m)
+
 -- one of the keys that are due is watched exactly where a watched key is due
 pub due_hit : (at : ℕ) (es : List (Bytes × Held)) → IsStrictlySortedBy bytes_cmp (keys_of es) → (ws : List Bytes) → list_any (λ w. is_due at (get (from_entries {R = bytes_cmp} es) w)) ws ≡ hit (due_keys at (entries (from_entries {R = bytes_cmp} es))) ws
 due_hit at es h ws =
     any_same _ _ ws (λ w. ap (is_due at) (get-from_entries bytes_total es w) ∙ sym (due_among at w es h))
     ∙ sym (any_swap (due_keys at es) ws)
     ∙ sym (ap (λ t. hit (due_keys at t) ws) (entries_made bytes_total bytes_anti es h))
+
+-- so the connections are marked as for the keys that are due
+pub touch_due_is : (at : ℕ) (m : Keys) (c : Conn) → touch_due at m c ≡ touch (due_keys at (entries m)) c
+touch_due_is at m c =
+    let es = entries m in
+    let made : from_entries es ≡ m = same_entries_map _ _ (entries_made bytes_total bytes_anti es (strictly m)) in
+    let same : list_any (λ w. is_due at (get m w)) c.watched ≡ hit (due_keys at (entries m)) c.watched =
+    ap (λ t. list_any (λ w. is_due at (get t w)) c.watched) (sym made) ∙ due_hit at es (strictly m) c.watched ∙ ap (λ t. hit (due_keys at (entries t)) c.watched) made in
+    λ i. record c { marked = c.marked || same i }

@@ -2,6 +2,7 @@ pub mod Dues
 pub mod Ends
 pub mod Expiries
 pub mod Pops
+pub mod Ranks
 pub mod Refills
 pub mod Rooms
 pub mod Takings

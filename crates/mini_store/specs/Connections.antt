@@ -5,6 +5,7 @@ use Rattle.std.specs.Ordering.{nat_cmp}
 use Rattle.std.specs.FinMap.{FinMap, get, entries, from_entries}
 use Rattle.mini_store.specs.Words.{Bytes}
 use Rattle.mini_store.specs.Replies.{message}
+use Rattle.mini_store.specs.Keys.{Keys, is_due}
 use Rattle.mini_store.specs.Commands.{Around}
 use Rattle.mini_store.specs.declared.command.Command.{Command}
 use Rattle.mini_store.specs.declared.command.Command.TheVariants.{Publish}
@@ -42,6 +43,10 @@ touch ks c = record c { marked = c.marked || hit ks c.watched }
 -- each connection that watches one of these keys is marked
 unfoldable pub touched : List Bytes → Conns → Conns
 touched ks m = from_entries (map (λ e. (e.0, touch ks e.1)) (entries m))
+
+-- the connection after the keys that are due at this moment were dropped
+abbrev pub touch_due : ℕ → Keys → Conn → Conn
+touch_due at m c = record c { marked = c.marked || list_any (λ k. is_due at (get m k)) c.watched }
 
 -- a message on this channel reaches the connection: it is subscribed, and has fewer than 1,024 pending messages
 abbrev pub hears : Bytes → Conn → Bool

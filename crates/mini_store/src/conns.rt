@@ -1,5 +1,5 @@
 //! What the store knows of its connections.
-ghost use Rattle.mini_store.specs.Connections.{Conns, cleared, conn, delivered, hearing, hears, hit, no_conn, told, touch, touched};
+ghost use Rattle.mini_store.specs.Connections.{Conns, cleared, conn, delivered, hearing, hears, hit, no_conn, told, touch, touch_due, touched};
 ghost use Rattle.mini_store.specs.Keys.{due_keys};
 ghost use Rattle.mini_store.specs.Replies.{message};
 ghost use Rattle.std.specs.BTreeMap.{IsOrdered};
@@ -8,6 +8,7 @@ ghost use Rattle.std.specs.Ordering.{nat_cmp};
 ghost use Rattle.std.specs.Prelude.{◌≡◌, [], ◌∷◌, ◌++◌, IfOk, IsTrue, None, OnOk, is_some, length, map as mapped};
 
 use crate::Conn;
+use crate::keyspace::Keyspace;
 use resp_wire::{Bytes, Value};
 use sqlite_items::Items;
 use std::alloc::{AllocError, Global};
@@ -127,6 +128,13 @@ impl Connections {
     {
         mark_all(&mut self.kept, keys);
     }
+
+    /// Marks each connection that watches a key whose expiry is reached.
+    pub fn mark_due(&mut self, keys: &Keyspace, at: u64)
+        ensures { self.new ≡ touched (due_keys at (map.entries keys.now)) self.old }
+    {
+        mark_all_due(&mut self.kept, keys, at);
+    }
 }
 
 fn mark_all(kept: &mut BTreeMap<u32, Conn>, keys: &Deque<Bytes>)
@@ -204,4 +212,16 @@ fn tell_all(
         told.insert(number, tell(alloc, known, channel, text)?)?;
     }
     Ok(told)
+}
+
+fn mark_all_due(kept: &mut BTreeMap<u32, Conn>, keys: &Keyspace, at: u64)
+    ensures each { kept.new.entries ≡ mapped (λ e. (e.0, touch_due at keys.now e.1)) kept.old.entries }
+    ensures ordered { IsOrdered nat_cmp kept.old }
+{
+    kept.retain(|_, known| {
+        if keys.has_due(&known.watched, at) {
+            known.marked = true;
+        }
+        true
+    });
 }

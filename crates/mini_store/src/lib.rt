@@ -16,8 +16,10 @@ mod laws;
 mod lists;
 mod members;
 mod reply;
+mod run;
 mod sets;
 mod sorted_sets;
+mod store;
 mod texts;
 mod words;
 
