@@ -21,3 +21,4 @@ pub mod Once
 pub mod Fresh
 pub mod Passing
 pub mod EmptyStart
+pub mod Prefixes

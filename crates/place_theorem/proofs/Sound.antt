@@ -23,7 +23,7 @@ use Rattle.place_theorem.proofs.Whole.{AllMannered, call_in, inv_after, inv_star
 
 -- ---- what the world keeps of a client are its calls
 
-calls-first : {N : Type 0} (c : ℕ) (e : Entry N) (es : List (Entry N)) → calls_of c (e ∷ es) ≡ calls_of c (e ∷ []) ++ calls_of c es
+pub calls-first : {N : Type 0} (c : ℕ) (e : Entry N) (es : List (Entry N)) → calls_of c (e ∷ es) ≡ calls_of c (e ∷ []) ++ calls_of c es
 calls-first {N = N} c e es = elim (conn_of e == c) as (λ b. calls_among (if b then e ∷ own_entries c es else own_entries c es) ≡ calls_among (if b then e ∷ [] else []) ++ calls_of c es) [
   | true ↦ here e
   | false ↦ refl
