@@ -28,3 +28,4 @@ pub use connection::{Conn, Queue};
 pub use held::{Held, Stored};
 pub use laws::unaltered_keys;
 pub use reply::Reply;
+pub use words::command_of;

@@ -14,3 +14,6 @@ pub mod Gathers
 pub mod Weighs
 pub mod Walks
 pub mod Placed
+pub mod Messages
+pub mod Layers
+pub mod Seats
