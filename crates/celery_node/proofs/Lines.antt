@@ -1,9 +1,9 @@
 -- A text cut at its first line feed.
-use Rattle.std.proofs.Common.{Bool, List, None, Option, Some, [], ap, arith, cond, drop, false, length, nat_lt, position, refl, sym, take, true, ℕ, ◌+◌, ◌<◌, ◌==◌, ◌≡◌, ◌∙◌, ◌∷◌, ◌≤◌}
+use Rattle.std.proofs.Common.{Bool, List, None, Some, [], ap, arith, cond, drop, false, length, nat_lt, position, refl, sym, take, true, ℕ, ◌+◌, ◌<◌, ◌==◌, ◌≡◌, ◌∙◌, ◌∷◌, ◌≤◌}
 use Rattle.std.proofs.lemmas.Grind.{common_steps}
 use Rattle.std.proofs.lemmas.List.Splits.{length-slice_split, slice_split_first, slice_split_none}
 use Rattle.std.proofs.lemmas.List.Sums.{fails_before_first}
-use Rattle.std.specs.List.{position_or_len, slice_split}
+use Rattle.std.specs.List.{slice_split}
 use Rattle.celery_node.specs.Schedule.{end_of_input, line_fault, lines_run, on_fault, past_limit, text_run}
 use Rattle.celery_node.specs.declared.schedule.Ran.TheVariants.{Bad}
 use Rattle.celery_node.specs.declared.schedule.Reason.TheVariants.{Long}

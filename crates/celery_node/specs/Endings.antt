@@ -1,6 +1,6 @@
 -- How a run ends: its text, its status, and why it may end so.
 use Rattle.std.specs.Io.KnownBytes.{Appends, Consumes}
-use Rattle.std.specs.Prelude.{List, None, Option, Some, [], codes, decimal, length, ℕ, ◌++◌, ◌+◌, ◌≡◌, ◌≤◌, ◌⊎◌}
+use Rattle.std.specs.Prelude.{List, None, Some, codes, decimal, length, ℕ, ◌++◌, ◌+◌, ◌≡◌, ◌≤◌, ◌⊎◌}
 use Rattle.links.specs.Causes.{AppendsFront, Rose}
 use Rattle.links.specs.Ends.{IsPast, IsWhole}
 use Rattle.links.specs.Views.{SinkView, SourceView}
@@ -55,14 +55,14 @@ abbrev pub Shown : List (List ℕ) → SourceView → SourceView → End → Typ
 Shown words before now Reported = (bad_place words ≡ None) × ((bytes : List ℕ) × IsWhole 67108864 before now bytes × (schedule_run bytes ≡ Done))
 Shown words before now (BadWord place) = (bad_place words ≡ Some place) × (now ≡ before)
 Shown words before now (BadLine line why) = (bad_place words ≡ None) × ((bytes : List ℕ) × HasInput before now bytes × (schedule_run bytes ≡ Bad line why))
-Shown words before now ReadFault = (bad_place words ≡ None) × Rose before.faults now.faults
+Shown words before now ReadFault = (bad_place words ≡ None) × (before.faults ≤ now.faults) × Rose before.faults now.faults
 Shown words before now Memory = Unit {0}
 
 -- the whole text was written, or the sink failed within it and the status is 5
 abbrev pub Written : SinkView → SinkView → End → Ended → Type 0
 Written before now end result =
     ((result ≡ ended_of end) × Appends before.taken now.taken (text_of end) × (now.faults ≡ before.faults))
-    ⊎ ((result ≡ record { status = 5; place = 0; left = 0 }) × AppendsFront before.taken now.taken (text_of end) × Rose before.faults now.faults)
+    ⊎ ((result ≡ record { status = 5; place = 0; left = 0 }) × AppendsFront before.taken now.taken (text_of end) × (before.faults ≤ now.faults) × Rose before.faults now.faults)
 
 -- at most one byte more than 64 MiB was read, and no count of the source fell
 pub record Took (before now : SourceView) : Type 0 where
@@ -93,11 +93,11 @@ IsBadLine words before now old new line = (bad_place words ≡ None)
 
 -- status 4: the source's count rose, and its text was written
 abbrev pub IsReadFault : SourceView → SourceView → SinkView → SinkView → Type 0
-IsReadFault before now old new = Rose before.faults now.faults × Appends old.taken new.taken (text_of ReadFault)
+IsReadFault before now old new = (before.faults ≤ now.faults) × Rose before.faults now.faults × Appends old.taken new.taken (text_of ReadFault)
 
 -- status 5: the sink's count rose, and a front was written of a text for which there is cause
 abbrev pub IsWriteFault : List (List ℕ) → SourceView → SourceView → SinkView → SinkView → Type 0
-IsWriteFault words before now old new = Rose old.faults new.faults
+IsWriteFault words before now old new = (old.faults ≤ new.faults) × Rose old.faults new.faults
     × ((end : End) × Shown words before now end × AppendsFront old.taken new.taken (text_of end))
 
 -- the status is that of the whole input, where the source told it

@@ -1,6 +1,8 @@
 //! The program `celery_node`: real words and streams round one top call, whose status is the process' own.
 #![tactic(auto)]
 
+ghost use Rattle.std.specs.Prelude.{IfOk, map, string_bytes, ◌≡◌};
+
 mod ending;
 mod node;
 mod schedule;
@@ -27,7 +29,9 @@ fn main(rt: HostRuntime) -> ExitCode {
 }
 
 /// The words as a slice of texts.
-fn views<'a>(alloc: Global, texts: &'a [String]) -> Result<Vec<&'a str>, AllocError> {
+fn views<'a>(alloc: Global, texts: &'a [String]) -> Result<Vec<&'a str>, AllocError>
+    ensures { IfOk result (λ words. map (λ w. w.now) words.items ≡ map string_bytes texts.now) }
+{
     let mut words = Vec::new(alloc);
     for text in texts {
         words.push(text.as_str())?;

@@ -1,6 +1,6 @@
 //! The top call: words, a source and a sink to a status.
 ghost use Rattle.std.specs.Io.KnownBytes.{Appends};
-ghost use Rattle.std.specs.Prelude.{Contains, List, [], map, ℕ, ◌∷◌, ◌≡◌, ◌⊎◌};
+ghost use Rattle.std.specs.Prelude.{Contains, List, [], map, ℕ, ◌∷◌, ◌≡◌, ◌≤◌, ◌⊎◌};
 ghost use Rattle.celery_node.specs.Endings.{HasEnded, IsAnswerTo, IsBadLine, IsBadWord, IsReadFault, IsReported, IsWriteFault, Shown, Took, Written, text_of};
 ghost use Rattle.celery_node.specs.Schedule.{schedule_run};
 ghost use Rattle.celery_node.specs.Words.{bad_place};
@@ -31,6 +31,7 @@ pub fn run<S: Source, K: Sink>(alloc: Global, words: &[&str], src: &mut S, out: 
         (source_view S.left S.read_faults S.ends src.old) (source_view S.left S.read_faults S.ends src.new)
         (sink_view K.taken K.write_faults out.old) (sink_view K.taken K.write_faults out.new) result }
     ensures took { Took (source_view S.left S.read_faults S.ends src.old) (source_view S.left S.read_faults S.ends src.new) }
+    ensures sink_later { K.write_faults out.old ≤ K.write_faults out.new }
     ensures reported { result.status ≡ 0 → IsReported (map (λ w. w.now) words.now)
         (source_view S.left S.read_faults S.ends src.old) (source_view S.left S.read_faults S.ends src.new)
         (sink_view K.taken K.write_faults out.old) (sink_view K.taken K.write_faults out.new) }
@@ -107,3 +108,6 @@ fn write_end<K: Sink>(out: &mut K, end: End, text: &[u8]) -> Ended
         },
     }
 }
+
+#[cfg(test)]
+mod tests;

@@ -8,7 +8,7 @@ use Rattle.envelope.specs.Tags.{tag_of_text}
 use Rattle.place_model.specs.Answers.{items_of, number_of, pair_of}
 use Rattle.place_model.specs.Calls.{Call, call}
 use Rattle.place_model.specs.Counts.{copy_one, count, end_one, one_if_more, one_if_none, sum_of}
-use Rattle.place_model.specs.Gathered.{act_of, acts_after, copied_by, copied_in, copied_with, ended_by, ended_in, ended_with, hand_after, hand_with, has, listed, number, push_act, push_at, push_of, push_told, pushed, take_act, take_at, taken, taken_by, times}
+use Rattle.place_model.specs.Gathered.{act_of, acts_after, copied_by, copied_in, copied_with, ended_by, ended_in, ended_with, hand_after, hand_with, has, kind_of, listed, number, push_act, push_at, push_of, push_told, pushed, take_act, take_at, taken, taken_by, times}
 use Rattle.place_model.specs.Names.{Bytes, same}
 use Rattle.place_model.specs.Seen.{Ran, Seen, deletes, deletes_one, hand_by, hand_from, is_one, nothing_seen, push_by, push_weight_at, push_with, queued_push, queued_pushes, ran_by, ran_with, seen, seen_by, seen_from, since_by, tag_list, tag_weight}
 use Rattle.place_model.specs.Setting.{Setting, is_queue}
@@ -64,6 +64,7 @@ has-filter t p (n ∷ xs) = go (has-filter t p xs) (n == t) refl (p n) refl
     and_false : (a : Bool) → (a && false) ≡ false
     and_false true = refl
     and_false false = refl
+
     go : has t (filter p xs) ≡ (has t xs && p t) → (b : Bool) → (n == t) ≡ b → (q : Bool) → p n ≡ q → has t (cond (p n) (n ∷ filter p xs) (filter p xs)) ≡ (((n == t) || has t xs) && p t)
     go i true e true f = let s : n ≡ t = eqb_true n t e in let g : p t ≡ true = ap p (sym s) ∙ f in rw (f, e, g) refl
     go i true e false f = let s : n ≡ t = eqb_true n t e in let g : p t ≡ false = ap p (sym s) ∙ f in rw (f, e, g) (i ∙ ap (λ b. has t xs && b) g ∙ and_false (has t xs))
@@ -94,18 +95,19 @@ seen_more σ l y = seen_from-append σ nothing_seen l y
 
 -- ---- hands and acts
 
-pub hand_is : (σ : Setting) (o : Option Bytes) (c : Command) (r : Value) → number (hand_by σ o c r) ≡ hand_after σ (number o) c r
+pub hand_is : (σ : Setting) (o : Option Bytes) (c : Command) (r : Value) → number (hand_by σ o c r) ≡ hand_after σ (number o) (kind_of c) r
 hand_is σ o Exec r = refl
 hand_is σ o (Brpop ks) r = from (pair_of r)
   where
     by_queue : (p : Bytes × Bytes) (b : Bool) → number (if b then σ.tag_of p.1 else o) ≡ (if b then number (σ.tag_of p.1) else number o)
     by_queue p true = refl
     by_queue p false = refl
+
     from : (q : Option (Bytes × Bytes)) → number (hand_from σ o q) ≡ hand_with σ (number o) q
     from None = refl
     from (Some p) = by_queue p (is_queue σ p.0)
 hand_is σ o other r = refl
 
-pub acts_are : (σ : Setting) (l : List Command) (c : Command) → map (act_of σ) (since_by l c) ≡ acts_after σ (map (act_of σ) l) c
+pub acts_are : (σ : Setting) (l : List Command) (c : Command) → map (act_of σ) (since_by l c) ≡ acts_after (map (act_of σ) l) (kind_of c) (act_of σ c)
 acts_are σ l Multi = refl
 acts_are σ l other = map-append (act_of σ) l other

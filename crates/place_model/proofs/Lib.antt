@@ -6,6 +6,7 @@ pub mod Steps
 pub mod Routes
 pub mod Texts
 pub mod Settings
+pub mod EnvelopeFacts
 pub mod Examples
 pub mod NameFaults
 pub mod Cuts
@@ -13,3 +14,6 @@ pub mod Gathers
 pub mod Weighs
 pub mod Walks
 pub mod Placed
+pub mod Messages
+pub mod Layers
+pub mod Seats

@@ -13,7 +13,7 @@ use Rattle.mini_store.specs.declared.held.Stored.{Stored}
 use Rattle.mini_store.specs.declared.held.Stored.TheVariants.{Items}
 use Rattle.envelope.specs.Tags.{tag_of_text}
 use Rattle.place_model.specs.Counts.{copy_weight, direct_pushes, end_weight, has_field, hand_weight, in_held, in_value, is_field, is_member, loss_weight, over_clients, push_weight, start_count, tagged, total}
-use Rattle.place_model.specs.Gathered.{Walk, first_of, gathered, hands, has, listed, listed_place, new_seat, number, place_by, seat_of, seated, single_place, told_at, told_by, told_in, told_under, times, walk_start}
+use Rattle.place_model.specs.Gathered.{first_of, gathered, hands, has, listed, listed_place, new_seat, number, place_by, seat_of, seated, single_place, told_at, told_by, told_in, told_under, times, walk_start}
 use Rattle.place_model.specs.Histories.{Client, History, World, after, new_client, start_from, table}
 use Rattle.place_model.specs.Names.{Bytes, same}
 use Rattle.place_model.specs.PlaceOf.{by_counts, first_place, first_with, if_any, list_place, or_else, pick, place_of}
@@ -23,6 +23,7 @@ use Rattle.place_model.specs.declared.heard.Heard.{Heard}
 use Rattle.place_model.specs.declared.place.Place.{Place}
 use Rattle.place_model.specs.declared.place.Place.TheVariants.{List as InList, Unacked, Hand, Ended, Lost, Never}
 use Rattle.place_model.specs.declared.seat.Seat.{Seat}
+use Rattle.place_model.specs.declared.walk.Walk.{Walk}
 use Rattle.place_model.proofs.Gathers.{is_number, positive, positive-plus, positive-times}
 use Rattle.place_model.proofs.Walks.{Follows, steps, still_none, total_none}
 use Rattle.place_model.proofs.Weighs.{weight_is}
@@ -76,7 +77,7 @@ seats_listed σ m w h =
     let es = map (seat_entry σ) (entries w) in
     let s : T (is_sorted nat_cmp es) = subst (λ b. T b) (sym (sorted-map σ (entries w))) (entries_sorted w) in
     let e : m ≡ from_sorted {R = nat_cmp} es = same_map nat_cmp_total nat_cmp-IsAntisymmetric m (from_sorted {R = nat_cmp} es) (λ q.
-        h q ∙ ap (option_map (seat_of σ)) (get-entries w q) ∙ sym (find-map σ q (entries w)) ∙ sym (get-from_sorted nat_cmp es q s)) in
+    h q ∙ ap (option_map (seat_of σ)) (get-entries w q) ∙ sym (find-map σ q (entries w)) ∙ sym (get-from_sorted nat_cmp es q s)) in
     ap entries e ∙ entries-from_sorted nat_cmp es s
 
 module _ (σ : Setting) (t : ℕ) (x : Bytes) (tells : (u : Bytes) → same u x ≡ is_number t (tag_of_text u)) where
@@ -115,10 +116,12 @@ module _ (σ : Setting) (t : ℕ) (x : Bytes) (tells : (u : Bytes) → same u x 
     where
       rest : Option Bytes
       rest = first_with (in_held σ x) es
+
       chosen : (p : Bytes × ℕ) (b : Bool) → σ.split e.0 ≡ Some p → or_else (λ k. list_place (σ.split k)) (first_with (in_held σ x) es) later ≡ or_else listed_place (first_of t (told_by σ es)) later
           → or_else (λ k. list_place (σ.split k)) (if b then Some e.0 else first_with (in_held σ x) es) later ≡ or_else listed_place (if b then Some p else first_of t (told_by σ es)) later
       chosen p true s i = ap list_place s
       chosen p false s i = i
+
       value : (p : Bytes × ℕ) (v : Stored) → σ.split e.0 ≡ Some p → or_else (λ k. list_place (σ.split k)) (first_with (in_held σ x) es) later ≡ or_else listed_place (first_of t (told_by σ es)) later
           → or_else (λ k. list_place (σ.split k)) (pick (in_value σ x v) e.0 (first_with (in_held σ x) es)) later ≡ or_else listed_place (first_of t (told_in σ p v ++ told_by σ es)) later
       value p (Items vs) s i =
@@ -126,16 +129,13 @@ module _ (σ : Setting) (t : ℕ) (x : Bytes) (tells : (u : Bytes) → same u x 
           ∙ chosen p (positive (tagged σ x vs)) s i
           ∙ ap (λ q. or_else listed_place q later) (sym (first_told p vs (told_by σ es)))
       value p other s i = i
+
       by : (o : Option (Bytes × ℕ)) → σ.split e.0 ≡ o → or_else (λ k. list_place (σ.split k)) (first_with (in_held σ x) es) later ≡ or_else listed_place (first_of t (told_by σ es)) later
           → or_else (λ k. list_place (σ.split k)) (pick (if is_some (σ.split e.0) then in_value σ x e.1.value else 0) e.0 (first_with (in_held σ x) es)) later ≡ or_else listed_place (first_of t (told_under σ (σ.split e.0) e.1 ++ told_by σ es)) later
       by None s i = rw s i
       by (Some p) s i = subst (λ o. or_else (λ k. list_place (σ.split k)) (pick (if is_some o then in_value σ x e.1.value else 0) e.0 (first_with (in_held σ x) es)) later ≡ or_else listed_place (first_of t (told_under σ o e.1 ++ told_by σ es)) later) (sym s) (value p e.1.value s i)
 
   -- ---- hands
-
-  in_hand : (gone : Bool) → ℕ → Client → ℕ
-  in_hand true = loss_weight σ x
-  in_hand false = hand_weight σ x
 
   hand_told : (es : List (ℕ × Client)) → first_with (hand_weight σ x) es ≡ first_of t (hands false (map (seat_entry σ) es))
   unfolding seat_entry
@@ -181,15 +181,15 @@ module _ (σ : Setting) (t : ℕ) (x : Bytes) (tells : (u : Bytes) → same u x 
       let ended = over_clients w (end_weight σ x) in
       let lost = or_else Lost (first_of t (hands true (entries k.seats))) Never in
       let end_or_lost : if_any ended Ended (or_else Lost (first_with (loss_weight σ x) (entries w.clients)) Never) ≡ (if has t k.ended then Ended else lost) =
-          ap (λ q. if_any ended Ended (or_else Lost q Never)) l ∙ any_is ended Ended lost ∙ ap (λ b. if b then Ended else lost) f.ended in
+      ap (λ q. if_any ended Ended (or_else Lost q Never)) l ∙ any_is ended Ended lost ∙ ap (λ b. if b then Ended else lost) f.ended in
       let later = or_else Hand (first_of t (hands false (entries k.seats))) (if has t k.ended then Ended else lost) in
       list_told (entries w.store.keys) _
       ∙ ap (or_else listed_place (first_of t told))
-        (any_is (if kept then 1 else 0) Unacked _
-        ∙ ap (λ b. if b then Unacked else or_else Hand (first_with (hand_weight σ x) (entries w.clients)) (if_any ended Ended (or_else Lost (first_with (loss_weight σ x) (entries w.clients)) Never))) (positive_one kept)
-        ∙ ap (λ q. if kept then Unacked else q)
-          (ap (λ q. or_else Hand q (if_any ended Ended (or_else Lost (first_with (loss_weight σ x) (entries w.clients)) Never))) h
-          ∙ ap (or_else Hand (first_of t (hands false (entries k.seats)))) end_or_lost))
+      (any_is (if kept then 1 else 0) Unacked _
+      ∙ ap (λ b. if b then Unacked else or_else Hand (first_with (hand_weight σ x) (entries w.clients)) (if_any ended Ended (or_else Lost (first_with (loss_weight σ x) (entries w.clients)) Never))) (positive_one kept)
+      ∙ ap (λ q. if kept then Unacked else q)
+      (ap (λ q. or_else Hand q (if_any ended Ended (or_else Lost (first_with (loss_weight σ x) (entries w.clients)) Never))) h
+      ∙ ap (or_else Hand (first_of t (hands false (entries k.seats)))) end_or_lost))
 
   -- ---- the start
 
@@ -265,7 +265,7 @@ module _ (σ : Setting) (t : ℕ) (x : Bytes) (tells : (u : Bytes) → same u x 
       let kept = is_field σ w.store.keys x && is_member σ w.store.keys x in
       let copied = over_clients w (copy_weight σ x) in
       let n : start_count σ h.start x + direct_pushes σ w x ≡ times t k.pushes =
-          ap (λ m. start_count σ m x + direct_pushes σ w x) e ∙ ap (λ m. m + direct_pushes σ w x) no_start ∙ zero_plus (direct_pushes σ w x) ∙ f.pushes in
+      ap (λ m. start_count σ m x + direct_pushes σ w x) e ∙ ap (λ m. m + direct_pushes σ w x) no_start ∙ zero_plus (direct_pushes σ w x) ∙ f.pushes in
       ap (λ m. by_counts m copied (first_place σ w x)) n
       ∙ copies_are (times t k.pushes) copied (first_place σ w x)
       ∙ ap (λ b. by_counts (times t k.pushes) (if b then 1 else 0) (first_place σ w x)) f.copied

@@ -17,7 +17,7 @@ use Rattle.mini_store.specs.declared.reply.Reply.{Reply}
 use Rattle.envelope.specs.Tags.{tag_of_text}
 use Rattle.place_model.specs.Calls.{Call, call}
 use Rattle.place_model.specs.Counts.{copy_one, copy_weight, count, end_one, end_weight, over_clients, push_weight, sum_of, total}
-use Rattle.place_model.specs.Gathered.{Walk, act_of, acts_after, copied_by, ended_by, hand_after, has, listed, number, push_of, seat_after, seat_of, times, walk_called, walk_stopped, walked, walked_all}
+use Rattle.place_model.specs.Gathered.{act_of, acts_after, copied_by, ended_by, hand_after, has, kind_of, listed, number, push_of, seat_after, seat_of, times, walk_called, walk_stopped, walked, walked_all}
 use Rattle.place_model.specs.Histories.{Client, World, after_entries, conn_of, new_client, next, next_of, start_from, table, with_client}
 use Rattle.place_model.specs.Names.{Bytes, same}
 use Rattle.place_model.specs.Seen.{Seen, nothing_seen, push_by, ran_by, seen, seen_by}
@@ -26,6 +26,7 @@ use Rattle.place_model.specs.declared.heard.Heard.{Heard}
 use Rattle.place_model.specs.declared.history.Entry.{Entry}
 use Rattle.place_model.specs.declared.history.Entry.TheVariants.{Call as Called, Heard as Noted, Stop}
 use Rattle.place_model.specs.declared.seat.Seat.{Seat}
+use Rattle.place_model.specs.declared.walk.Walk.{Walk}
 use Rattle.place_model.proofs.Gathers.{acts_are, count-append, hand_is, has-append, is_number, positive, positive-plus, seen_more, sum_of-append, times-append}
 use Rattle.place_model.proofs.Weighs.{copies_by, ends_by, push_is}
 
@@ -97,12 +98,12 @@ pub record Follows (σ : Setting) (t : ℕ) (x : Bytes) (w : World) (k : Walk) :
 abbrev pub with_call : Client → Call → Client
 with_call cl y = record cl { calls = cl.calls ++ y ∷ [] }
 
-seat_more : (σ : Setting) (cl : Client) (y : Call) → seat_of σ (with_call cl y) ≡ seat_after σ (seat_of σ cl) (command_of y.words) y.answer
+seat_more : (σ : Setting) (cl : Client) (y : Call) → seat_of σ (with_call cl y) ≡ seat_after σ (seat_of σ cl) (kind_of (command_of y.words)) (act_of σ (command_of y.words)) y.answer
 seat_more σ cl y =
     let e = seen_more σ cl.calls y in
     ap (λ (s : Seen). record { hand = number s.hand; acts = map (act_of σ) s.since; stopped = cl.stopped }) e
     ∙ ap (λ h. record { hand = h; acts = map (act_of σ) (seen_by σ (seen σ cl.calls) (command_of y.words) y.answer).since; stopped = cl.stopped }) (hand_is σ (seen σ cl.calls).hand (command_of y.words) y.answer)
-    ∙ ap (λ a. record { hand = hand_after σ (number (seen σ cl.calls).hand) (command_of y.words) y.answer; acts = a; stopped = cl.stopped }) (acts_are σ (seen σ cl.calls).since (command_of y.words))
+    ∙ ap (λ a. record { hand = hand_after σ (number (seen σ cl.calls).hand) (kind_of (command_of y.words)) y.answer; acts = a; stopped = cl.stopped }) (acts_are σ (seen σ cl.calls).since (command_of y.words))
 
 module _ (σ : Setting) (t : ℕ) (x : Bytes) (tells : (u : Bytes) → same u x ≡ is_number t (tag_of_text u)) where
   seats_more : (w : World) (k : Walk) (c : ℕ) (new : Client) (seat : Seat) → ((q : ℕ) → get k.seats q ≡ option_map (seat_of σ) (get w.clients q)) → seat_of σ new ≡ seat → (q : ℕ) → get (insert k.seats c seat) q ≡ option_map (seat_of σ) (get (insert w.clients c new) q)
@@ -117,27 +118,27 @@ module _ (σ : Setting) (t : ℕ) (x : Bytes) (tells : (u : Bytes) → same u x 
   or_more a b p q e f = positive-plus a b ∙ ap (λ z. z || positive b) e ∙ ap (λ z. p || z) f
 
   called : (w : World) (k : Walk) (s : State) (c : ℕ) (cl : Client) (y : Call) → Follows σ t x w k → get w.clients c ≡ Some cl
-      → Follows σ t x (with_client s w c (with_call cl y)) (walk_called σ k c (command_of y.words) y.answer (Some (seat_of σ cl)))
+      → Follows σ t x (with_client s w c (with_call cl y)) (walk_called σ k c (kind_of (command_of y.words)) (act_of σ (command_of y.words)) y.answer (Some (seat_of σ cl)))
   called w k s c cl y h is =
       let m = seen_more σ cl.calls y in
       let old = seen σ cl.calls in
       let command = command_of y.words in
-      let p : push_weight σ x c (with_call cl y) ≡ push_weight σ x c cl + times t (listed (push_of σ command y.answer)) =
-          ap (λ (s : Seen). count x s.pushes) m ∙ count-append x old.pushes (push_by σ command y.answer) ∙ ap (λ n. count x old.pushes + n) (push_is σ t x tells command y.answer) in
+      let p : push_weight σ x c (with_call cl y) ≡ push_weight σ x c cl + times t (listed (push_of (kind_of command) (act_of σ command) y.answer)) =
+      ap (λ (s : Seen). count x s.pushes) m ∙ count-append x old.pushes (push_by σ command y.answer) ∙ ap (λ n. count x old.pushes + n) (push_is σ t x tells command y.answer) in
       let e : end_weight σ x c (with_call cl y) ≡ end_weight σ x c cl + sum_of (end_one σ x) (ran_by old.since command y.answer) =
-          ap (λ (s : Seen). sum_of (end_one σ x) s.ran) m ∙ sum_of-append (end_one σ x) old.ran (ran_by old.since command y.answer) in
+      ap (λ (s : Seen). sum_of (end_one σ x) s.ran) m ∙ sum_of-append (end_one σ x) old.ran (ran_by old.since command y.answer) in
       let d : copy_weight σ x c (with_call cl y) ≡ copy_weight σ x c cl + sum_of (copy_one σ x) (ran_by old.since command y.answer) =
-          ap (λ (s : Seen). sum_of (copy_one σ x) s.ran) m ∙ sum_of-append (copy_one σ x) old.ran (ran_by old.since command y.answer) in
+      ap (λ (s : Seen). sum_of (copy_one σ x) s.ran) m ∙ sum_of-append (copy_one σ x) old.ran (ran_by old.since command y.answer) in
       record {
-        seats = seats_more w k c (with_call cl y) (seat_after σ (seat_of σ cl) command y.answer) h.seats (seat_more σ cl y);
-        pushes = total_more (push_weight σ x) w.clients c cl (with_call cl y) (times t (listed (push_of σ command y.answer))) is p
-            ∙ ap (λ n. n + times t (listed (push_of σ command y.answer))) h.pushes ∙ sym (times-append t k.pushes (listed (push_of σ command y.answer)));
+        seats = seats_more w k c (with_call cl y) (seat_after σ (seat_of σ cl) (kind_of command) (act_of σ command) y.answer) h.seats (seat_more σ cl y);
+        pushes = total_more (push_weight σ x) w.clients c cl (with_call cl y) (times t (listed (push_of (kind_of command) (act_of σ command) y.answer))) is p
+            ∙ ap (λ n. n + times t (listed (push_of (kind_of command) (act_of σ command) y.answer))) h.pushes ∙ sym (times-append t k.pushes (listed (push_of (kind_of command) (act_of σ command) y.answer)));
         ended = ap positive (total_more (end_weight σ x) w.clients c cl (with_call cl y) (sum_of (end_one σ x) (ran_by old.since command y.answer)) is e)
             ∙ or_more (over_clients w (end_weight σ x)) (sum_of (end_one σ x) (ran_by old.since command y.answer)) _ _ h.ended (ends_by σ t x tells old.since command y.answer)
-            ∙ sym (has-append t k.ended (ended_by (map (act_of σ) old.since) command y.answer));
+            ∙ sym (has-append t k.ended (ended_by (map (act_of σ) old.since) (kind_of command) y.answer));
         copied = ap positive (total_more (copy_weight σ x) w.clients c cl (with_call cl y) (sum_of (copy_one σ x) (ran_by old.since command y.answer)) is d)
             ∙ or_more (over_clients w (copy_weight σ x)) (sum_of (copy_one σ x) (ran_by old.since command y.answer)) _ _ h.copied (copies_by σ t x tells old.since command y.answer)
-            ∙ sym (has-append t k.copied (copied_by (map (act_of σ) old.since) command y.answer));
+            ∙ sym (has-append t k.copied (copied_by (map (act_of σ) old.since) (kind_of command) y.answer));
       }
 
   plus_none : (n : ℕ) → n ≡ n + 0
@@ -162,16 +163,16 @@ module _ (σ : Setting) (t : ℕ) (x : Bytes) (tells : (u : Bytes) → same u x 
   step_by w k (Noted c note) None h is = h
   step_by w k (Noted c note) (Some cl) h is = h
   step_by w k (Called c at words reply) None h is =
-      subst (λ q. Follows σ t x w (walk_called σ k c (command_of words) reply.answer q)) (sym (h.seats c ∙ ap (option_map (seat_of σ)) is))
-        (record { seats = h.seats; pushes = h.pushes; ended = h.ended; copied = h.copied })
+      subst (λ q. Follows σ t x w (walk_called σ k c (kind_of (command_of words)) (act_of σ (command_of words)) reply.answer q)) (sym (h.seats c ∙ ap (option_map (seat_of σ)) is))
+      (record { seats = h.seats; pushes = h.pushes; ended = h.ended; copied = h.copied })
   step_by w k (Called c at words reply) (Some cl) h is =
-      subst (λ q. Follows σ t x (next_of {N = Heard} w (Called c at words reply) (Some cl)) (walk_called σ k c (command_of words) reply.answer q)) (sym (h.seats c ∙ ap (option_map (seat_of σ)) is))
-        (called w k (apply_of w.store at c words).0 c cl (call at words reply.answer) h is)
+      subst (λ q. Follows σ t x (next_of {N = Heard} w (Called c at words reply) (Some cl)) (walk_called σ k c (kind_of (command_of words)) (act_of σ (command_of words)) reply.answer q)) (sym (h.seats c ∙ ap (option_map (seat_of σ)) is))
+      (called w k (apply_of w.store at c words).0 c cl (call at words reply.answer) h is)
   step_by w k (Stop c) None h is =
       subst (λ q. Follows σ t x w (walk_stopped k c q)) (sym (h.seats c ∙ ap (option_map (seat_of σ)) is)) h
   step_by w k (Stop c) (Some cl) h is =
       subst (λ q. Follows σ t x (next_of {N = Heard} w (Stop c) (Some cl)) (walk_stopped k c q)) (sym (h.seats c ∙ ap (option_map (seat_of σ)) is))
-        (stopped w k (gone_of w.store c) c cl h is)
+      (stopped w k (gone_of w.store c) c cl h is)
 
   pub step : (w : World) (k : Walk) (e : Entry Heard) → Follows σ t x w k → Follows σ t x (next w e) (walked σ k e)
   unfolding next

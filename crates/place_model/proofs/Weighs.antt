@@ -7,7 +7,7 @@ use Rattle.mini_store.specs.declared.command.Command.TheVariants.{Lpush, Rpush, 
 use Rattle.envelope.specs.Tags.{tag_of_text}
 use Rattle.place_model.specs.Answers.{items_of, number_of}
 use Rattle.place_model.specs.Counts.{copy_one, count, end_one, one_if_more, one_if_none, sum_of}
-use Rattle.place_model.specs.Gathered.{act_of, copied_by, copied_in, copied_with, ended_by, ended_in, ended_with, has, listed, number, push_act, push_at, push_of, push_told, pushed, take_act, take_at, taken, taken_by, times}
+use Rattle.place_model.specs.Gathered.{act_of, copied_by, copied_in, copied_with, ended_by, ended_in, ended_with, has, kind_of, listed, number, push_act, push_at, push_of, push_told, pushed, take_act, take_at, taken, taken_by, times}
 use Rattle.place_model.specs.Names.{Bytes, same}
 use Rattle.place_model.specs.Seen.{Ran, deletes, deletes_one, is_one, push_by, push_weight_at, push_with, queued_push, queued_pushes, ran_by, ran_with, tag_list, tag_weight}
 use Rattle.place_model.specs.Setting.{Setting, is_queue}
@@ -72,17 +72,30 @@ module _ (σ : Setting) (t : ℕ) (x : Bytes) (tells : (u : Bytes) → same u x 
   list_is None = refl
   list_is (Some u) = plus_none (if same u x then 1 else 0) ∙ weight_is (Some u)
 
-  pub push_is : (c : Command) (r : Value) → count x (push_by σ c r) ≡ times t (listed (push_of σ c r))
-  push_is (Lpush k []) r = refl
+  pub push_is : (c : Command) (r : Value) → count x (push_by σ c r) ≡ times t (listed (push_of (kind_of c) (act_of σ c) r))
+  push_is (Lpush k []) r = none_told (number_of r)
+    where
+      none_told : (o : Option Rattle.std.specs.Prelude.ℤ) → 0 ≡ times t (listed (push_told Nothing o))
+      none_told None = refl
+      none_told (Some z) = refl
   push_is (Lpush k (v ∷ [])) r = by (number_of r)
     where
-      by_queue : (b : Bool) → count x (if b then tag_list (σ.tag_of v) else []) ≡ times t (listed (if b then number (σ.tag_of v) else None))
-      by_queue true = list_is (σ.tag_of v)
-      by_queue false = refl
-      by : (o : Option Rattle.std.specs.Prelude.ℤ) → count x (push_with σ k v o) ≡ times t (listed (push_told σ k v o))
+      one : (z : Rattle.std.specs.Prelude.ℤ) (o : Option ℕ) → times t (listed o) ≡ times t (listed (push_told (push_act o) (Some z)))
+      one z None = refl
+      one z (Some n) = refl
+
+      by_queue : (z : Rattle.std.specs.Prelude.ℤ) (b : Bool) → count x (if b then tag_list (σ.tag_of v) else []) ≡ times t (listed (push_told (if b then push_act (number (σ.tag_of v)) else Nothing) (Some z)))
+      by_queue z true = list_is (σ.tag_of v) ∙ one z (number (σ.tag_of v))
+      by_queue z false = refl
+
+      by : (o : Option Rattle.std.specs.Prelude.ℤ) → count x (push_with σ k v o) ≡ times t (listed (push_told (push_at σ k v) o))
       by None = refl
-      by (Some z) = by_queue (is_queue σ k)
-  push_is (Lpush k (v ∷ w ∷ vs)) r = refl
+      by (Some z) = by_queue z (is_queue σ k)
+  push_is (Lpush k (v ∷ w ∷ vs)) r = none_told (number_of r)
+    where
+      none_told : (o : Option Rattle.std.specs.Prelude.ℤ) → 0 ≡ times t (listed (push_told Nothing o))
+      none_told None = refl
+      none_told (Some z) = refl
   push_is other r = refl
 
   at_queue : (k v : Bytes) → push_weight_at σ x k v ≡ times t (pushed (push_at σ k v ∷ []))
@@ -161,13 +174,14 @@ module _ (σ : Setting) (t : ℕ) (x : Bytes) (tells : (u : Bytes) → same u x 
     where
       two : (n : ℕ) → true ≡ nat_le 2 (suc (suc n))
       two n = grind (arith, common_steps)
+
       more : (n : ℕ) → positive (one_if_more n) ≡ (positive n && nat_le 2 n)
       more zero = refl
       more (suc zero) = refl
       more (suc (suc n)) = two n
 
   -- what a call ends, copies
-  pub ends_by : (cs : List Command) (c : Command) (r : Value) → positive (sum_of (end_one σ x) (ran_by cs c r)) ≡ has t (ended_by (map (act_of σ) cs) c r)
+  pub ends_by : (cs : List Command) (c : Command) (r : Value) → positive (sum_of (end_one σ x) (ran_by cs c r)) ≡ has t (ended_by (map (act_of σ) cs) (kind_of c) r)
   ends_by cs Exec r = by (items_of r)
     where
       by : (o : Option (List Value)) → positive (sum_of (end_one σ x) (ran_with cs o)) ≡ has t (ended_with (map (act_of σ) cs) o)
@@ -175,7 +189,7 @@ module _ (σ : Setting) (t : ℕ) (x : Bytes) (tells : (u : Bytes) → same u x 
       by (Some rs) = ap positive (plus_none (end_one σ x (record { commands = cs; answers = rs }))) ∙ ended_is cs rs
   ends_by cs other r = refl
 
-  pub copies_by : (cs : List Command) (c : Command) (r : Value) → positive (sum_of (copy_one σ x) (ran_by cs c r)) ≡ has t (copied_by (map (act_of σ) cs) c r)
+  pub copies_by : (cs : List Command) (c : Command) (r : Value) → positive (sum_of (copy_one σ x) (ran_by cs c r)) ≡ has t (copied_by (map (act_of σ) cs) (kind_of c) r)
   copies_by cs Exec r = by (items_of r)
     where
       by : (o : Option (List Value)) → positive (sum_of (copy_one σ x) (ran_with cs o)) ≡ has t (copied_with (map (act_of σ) cs) o)

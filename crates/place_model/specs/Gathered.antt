@@ -23,7 +23,10 @@ use Rattle.place_model.specs.declared.place.Place.{Place}
 use Rattle.place_model.specs.declared.place.Place.TheVariants.{List as InList, Unacked, Hand, Ended, Lost, Never}
 use Rattle.place_model.specs.declared.seat.Act.{Act}
 use Rattle.place_model.specs.declared.seat.Act.TheVariants.{Push, Take, Nothing}
+use Rattle.place_model.specs.declared.seat.Kind.{Kind}
+use Rattle.place_model.specs.declared.seat.Kind.TheVariants.{Pushes, Pops, Begins, Runs, Others}
 use Rattle.place_model.specs.declared.seat.Seat.{Seat}
+use Rattle.place_model.specs.declared.walk.Walk.{Walk}
 
 -- the number of a tag's text
 abbrev pub number : Option Bytes → Option ℕ
@@ -62,12 +65,36 @@ push_at σ k v = if is_queue σ k then push_act (number (σ.tag_of v)) else Noth
 abbrev pub take_at : Setting → Bytes → Bytes → Act
 take_at σ k f = if same k σ.unacked then take_act (tag_of_text f) else Nothing
 
+-- the text of a list that has just one
+abbrev pub only : List Bytes → Option Bytes
+only [] = None
+only (v ∷ []) = Some v
+only (v ∷ w ∷ vs) = None
+
+-- a push, where there is just one element
+abbrev pub push_one : Setting → Bytes → Option Bytes → Act
+push_one σ k None = Nothing
+push_one σ k (Some v) = push_at σ k v
+
+-- a taking, where there is just one field
+abbrev pub take_one : Setting → Bytes → Option Bytes → Act
+take_one σ k None = Nothing
+take_one σ k (Some f) = take_at σ k f
+
 -- what a command of a transaction does to a message
 abbrev pub act_of : Setting → Command → Act
-act_of σ (Lpush k (v ∷ [])) = push_at σ k v
-act_of σ (Rpush k (v ∷ [])) = push_at σ k v
-act_of σ (Hdel k (f ∷ [])) = take_at σ k f
+act_of σ (Lpush k vs) = push_one σ k (only vs)
+act_of σ (Rpush k vs) = push_one σ k (only vs)
+act_of σ (Hdel k fs) = take_one σ k (only fs)
 act_of σ other = Nothing
+
+-- what else of a command matters
+abbrev pub kind_of : Command → Kind
+kind_of (Lpush k vs) = Pushes
+kind_of (Brpop ks) = Pops
+kind_of Multi = Begins
+kind_of Exec = Runs
+kind_of other = Others
 
 -- ---- transactions
 
@@ -109,29 +136,39 @@ hand_with σ old None = old
 hand_with σ old (Some p) = if is_queue σ p.0 then number (σ.tag_of p.1) else old
 
 -- what is in hand after a call
-abbrev pub hand_after : Setting → Option ℕ → Command → Value → Option ℕ
-hand_after σ old Exec r = None
-hand_after σ old (Brpop ks) r = hand_with σ old (pair_of r)
-hand_after σ old other r = old
+abbrev pub hand_after : Setting → Option ℕ → Kind → Value → Option ℕ
+hand_after σ old Pushes r = old
+hand_after σ old Pops r = hand_with σ old (pair_of r)
+hand_after σ old Begins r = old
+hand_after σ old Runs r = None
+hand_after σ old Others r = old
 
 -- what the commands since MULTI do, after a call
-abbrev pub acts_after : Setting → List Act → Command → List Act
-acts_after σ old Multi = []
-acts_after σ old command = old ++ act_of σ command ∷ []
+abbrev pub acts_after : List Act → Kind → Act → List Act
+acts_after old Pushes act = old ++ act ∷ []
+acts_after old Pops act = old ++ act ∷ []
+acts_after old Begins act = []
+acts_after old Runs act = old ++ act ∷ []
+acts_after old Others act = old ++ act ∷ []
 
 -- a client after a call
-abbrev pub seat_after : Setting → Seat → Command → Value → Seat
-seat_after σ seat command r = record { hand = hand_after σ seat.hand command r; acts = acts_after σ seat.acts command; stopped = seat.stopped }
+abbrev pub seat_after : Setting → Seat → Kind → Act → Value → Seat
+seat_after σ seat kind act r = record { hand = hand_after σ seat.hand kind r; acts = acts_after seat.acts kind act; stopped = seat.stopped }
 
--- the message that a call pushes directly, by its key, its bytes and its answer
-abbrev pub push_told : Setting → Bytes → Bytes → Option ℤ → Option ℕ
-push_told σ k v None = None
-push_told σ k v (Some n) = if is_queue σ k then number (σ.tag_of v) else None
+-- the message of a push that was answered by an integer
+abbrev pub push_told : Act → Option ℤ → Option ℕ
+push_told act None = None
+push_told (Push n) (Some z) = Some n
+push_told (Take n) (Some z) = None
+push_told Nothing (Some z) = None
 
 -- the message that a call pushes directly
-abbrev pub push_of : Setting → Command → Value → Option ℕ
-push_of σ (Lpush k (v ∷ [])) r = push_told σ k v (number_of r)
-push_of σ other r = None
+abbrev pub push_of : Kind → Act → Value → Option ℕ
+push_of Pushes act r = push_told act (number_of r)
+push_of Pops act r = None
+push_of Begins act r = None
+push_of Runs act r = None
+push_of Others act r = None
 
 -- what the transaction of a call ended, where it ran
 abbrev pub ended_with : List Act → Option (List Value) → List ℕ
@@ -143,33 +180,25 @@ copied_with acts None = []
 copied_with acts (Some rs) = copied_in acts
 
 -- what a call ended and copied
-abbrev pub ended_by : List Act → Command → Value → List ℕ
-ended_by acts Exec r = ended_with acts (items_of r)
-ended_by acts other r = []
+abbrev pub ended_by : List Act → Kind → Value → List ℕ
+ended_by acts Runs r = ended_with acts (items_of r)
+ended_by acts _ r = []
 
-abbrev pub copied_by : List Act → Command → Value → List ℕ
-copied_by acts Exec r = copied_with acts (items_of r)
-copied_by acts other r = []
+abbrev pub copied_by : List Act → Kind → Value → List ℕ
+copied_by acts Runs r = copied_with acts (items_of r)
+copied_by acts _ r = []
 
 -- ---- the walk
 
--- what the walk has gathered: the clients, and the messages that were accepted, pushed by a client that is known, ended and copied
-pub record Walk : Type 0 where
-  pub seats : FinMap nat_cmp Seat
-  pub accepted : List ℕ
-  pub pushes : List ℕ
-  pub ended : List ℕ
-  pub copied : List ℕ
-
 -- after a call of a connection, by what is known of it
-abbrev pub walk_called : Setting → Walk → ℕ → Command → Value → Option Seat → Walk
-walk_called σ w c command r None = record w { accepted = w.accepted ++ listed (push_of σ command r) }
-walk_called σ w c command r (Some seat) = record {
-  seats = insert w.seats c (seat_after σ seat command r);
-  accepted = w.accepted ++ listed (push_of σ command r);
-  pushes = w.pushes ++ listed (push_of σ command r);
-  ended = w.ended ++ ended_by seat.acts command r;
-  copied = w.copied ++ copied_by seat.acts command r;
+abbrev pub walk_called : Setting → Walk → ℕ → Kind → Act → Value → Option Seat → Walk
+walk_called σ w c kind act r None = record w { accepted = w.accepted ++ listed (push_of kind act r) }
+walk_called σ w c kind act r (Some seat) = record {
+  seats = insert w.seats c (seat_after σ seat kind act r);
+  accepted = w.accepted ++ listed (push_of kind act r);
+  pushes = w.pushes ++ listed (push_of kind act r);
+  ended = w.ended ++ ended_by seat.acts kind r;
+  copied = w.copied ++ copied_by seat.acts kind r;
 }
 
 -- after a connection is gone
@@ -179,7 +208,7 @@ walk_stopped w c (Some seat) = record w { seats = insert w.seats c (record seat 
 
 -- after an entry
 abbrev pub walked : Setting → Walk → Entry Heard → Walk
-walked σ w (Call c at words reply) = walk_called σ w c (command_of words) reply.answer (get w.seats c)
+walked σ w (Call c at words reply) = walk_called σ w c (kind_of (command_of words)) (act_of σ (command_of words)) reply.answer (get w.seats c)
 walked σ w (Noted c note) = w
 walked σ w (Stop c) = walk_stopped w c (get w.seats c)
 

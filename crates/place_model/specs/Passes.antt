@@ -1,5 +1,5 @@
 -- What a pass reads, and what becomes of it.
-use Rattle.std.specs.Prelude.{nat_le, ◌-◌, pos, negsuc, if◌then◌else◌, ◌≡◌, ℕ, ◌+◌, ℤ, List, [], ◌∷◌, Option, Some}
+use Rattle.std.specs.Prelude.{nat_le, ◌-◌, pos, negsuc, if◌then◌else◌, ◌≡◌, ℕ, ◌+◌, ℤ, List, [], ◌∷◌, Option, Some, ◌<◌, ◌^◌, length}
 use Rattle.mini_store.specs.Keys.{value_at}
 use Rattle.mini_store.specs.Store.{settled}
 use Rattle.mini_store.specs.SortedSets.{ranks}
@@ -9,7 +9,8 @@ use Rattle.place_model.specs.Names.{Bytes}
 use Rattle.place_model.specs.Setting.{Setting}
 use Rattle.place_model.specs.ReturnBlocks.{ReturnEnd, Moved, Gone, Stayed}
 use Rattle.place_model.specs.PassBlocks.{tags_among}
-use Rattle.place_model.specs.Histories.{World}
+use Rattle.place_model.specs.Histories.{World, History, IsHistoryPrefix, after}
+use Rattle.place_model.specs.Calls.{Call}
 
 -- the members with scores between these bounds of what stands at a key, the highest first
 abbrev pub ranks_of : ℤ → ℤ → ℕ → ℕ → Option Stored → List Bytes
@@ -46,3 +47,15 @@ abbrev pub stayed_count : List ReturnEnd → ℕ
 stayed_count [] = 0
 stayed_count (Stayed ∷ ends) = 1 + stayed_count ends
 stayed_count (other ∷ ends) = stayed_count ends
+
+-- the calls came before the moment 2 ^ 63, so that their moments are integers of 64 bits
+abbrev pub AreEarly : List Call → Type 0
+AreEarly [] = Unit {0}
+AreEarly (x ∷ xs) = (x.at < 2 ^ 63) × AreEarly xs
+
+-- the ends of a pass's returns account for what it read: at some moment after a prefix of the history it read the due messages, and its returns moved each of them, found it gone, or let it stay
+pub record AccountsForAll {N : Type 0} (σ : Setting) (h : History N) (v : ℕ) (ends : List ReturnEnd) : Type 0 where
+  pub before : History N
+  pub is_before : IsHistoryPrefix before h
+  pub at : ℕ
+  pub counted : moved_count ends + gone_count ends + stayed_count ends ≡ length (due_members σ (after before) at v)

@@ -1,14 +1,19 @@
 //! Where messages are: the keys of queues, histories of a store's clients, and the place of each message.
 #![tactic(auto)]
 
+mod answer;
 mod block;
 mod heard;
 mod history;
 mod keys;
 mod laws;
+mod numbered;
 mod place;
 mod queue_name;
 mod seat;
+mod told;
+mod transaction;
+mod walk;
 
 pub use block::Side;
 pub use heard::{Heard, Outcome};

@@ -12,6 +12,21 @@ pub(crate) enum Act {
     Nothing,
 }
 
+/// What else of a command matters to the places of messages.
+#[derive(Clone, Copy, Debug)]
+pub(crate) enum Kind {
+    /// LPUSH.
+    Pushes,
+    /// BRPOP.
+    Pops,
+    /// MULTI.
+    Begins,
+    /// EXEC.
+    Runs,
+    /// Any other.
+    Others,
+}
+
 /// What is kept of a client.
 #[derive(Debug, Drop)]
 pub(crate) struct Seat {

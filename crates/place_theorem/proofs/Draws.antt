@@ -33,10 +33,12 @@ abbrev pub NoPushBy : Full → Bytes → Option ℤ → Type 0
 NoPushBy σ k None = Unit {0}
 NoPushBy σ k (Some n) = is_queue σ.names k ≡ false
 
+-- the same, by the command
 abbrev pub NoPush : Full → Command → Value → Type 0
 NoPush σ (Lpush k (v ∷ [])) x = NoPushBy σ k (number_of x)
 NoPush σ other x = Unit {0}
 
+-- and so is no publication
 pub no_push : (σ : Full) (t b : Bytes) (c : Command) (x : Value) → NoPush σ c x → IsPush σ.names t b c x → ⊥
 no_push σ t b c x quiet p =
     let y : NoPushBy σ p.key (number_of x) = subst (λ y. NoPush σ y x) p.pushes quiet in
@@ -50,20 +52,24 @@ pub data Draw (σ : Full) (s : ℕ) : ℕ → Option Bytes → Command → Value
   Draws_and_shows : (n : ℕ) (o : Option Bytes) (k v : Bytes) (x : ℤ) → σ.names.tag_of v ≡ Some (σ.names.tag s (suc n)) → Draw σ s n o (Lpush k (v ∷ [])) (Integer x) (suc n) (Some v)
   Shows : (n : ℕ) (o : Option Bytes) (k v : Bytes) (x : ℤ) → (o ≡ None) ⊎ (o ≡ Some v) → σ.names.tag_of v ≡ Some (σ.names.tag s n) → Draw σ s n o (Lpush k (v ∷ [])) (Integer x) n (Some v)
 
+-- calls in a row
 abbrev pub DrawRuns : Full → ℕ → ℕ → Option Bytes → List Call → ℕ → Option Bytes → Type 0
 DrawRuns σ s n o [] n' o' = (n ≡ n') × (o ≡ o')
 DrawRuns σ s n o (x ∷ xs) n' o' = (i : ℕ) × (a : Option Bytes) × Draw σ s n o (command_of x.words) x.answer i a × DrawRuns σ s i a xs n' o'
 
+-- one after the other
 pub draws_join : (σ : Full) (s n : ℕ) (o : Option Bytes) (xs : List Call) (i : ℕ) (a : Option Bytes) (ys : List Call) (n' : ℕ) (o' : Option Bytes) → DrawRuns σ s n o xs i a → DrawRuns σ s i a ys n' o' → DrawRuns σ s n o (xs ++ ys) n' o'
 draws_join σ s n o [] i a ys n' o' r q = subst (λ z. DrawRuns σ s z o ys n' o') (sym r.0) (subst (λ z. DrawRuns σ s i z ys n' o') (sym r.1) q)
 draws_join σ s n o (x ∷ xs) i a ys n' o' r q = (r.0, r.1, r.2, draws_join σ s r.0 r.1 xs i a ys n' o' r.3 q)
 
+-- and apart again
 pub draws_split : (σ : Full) (s n : ℕ) (o : Option Bytes) (xs ys : List Call) (n' : ℕ) (o' : Option Bytes) → DrawRuns σ s n o (xs ++ ys) n' o' → (i : ℕ) × (a : Option Bytes) × DrawRuns σ s n o xs i a × DrawRuns σ s i a ys n' o'
 draws_split σ s n o [] ys n' o' r = (n, o, (refl, refl), r)
 draws_split σ s n o (x ∷ xs) ys n' o' r = let q = draws_split σ s r.0 r.1 xs ys n' o' r.3 in (q.0, q.1, (r.0, r.1, r.2, q.2), q.3)
 
 -- ---- blocks that draw nothing
 
+-- each of the calls publishes nothing
 abbrev pub AllQuiet : Full → List Call → Type 0
 AllQuiet σ [] = Unit {0}
 AllQuiet σ (x ∷ xs) = NoPush σ (command_of x.words) x.answer × AllQuiet σ xs
@@ -223,6 +229,7 @@ pub record HasDrawn (σ : Full) (s n : ℕ) (o : Option Bytes) (l : List Call) :
   pub last : (b : Bytes) → PushedIn σ.names (σ.names.tag s n) b l → (v : Bytes) × (o ≡ Some v) × (σ.names.body_of v ≡ b)
   pub once : (t b b' : Bytes) → PushedIn σ.names t b l → PushedIn σ.names t b' l → b ≡ b'
 
+-- a publication among calls is among the earlier ones or the last
 pub pushed_split : (σ : Full) (t b : Bytes) (l : List Call) (x : Call) → PushedIn σ.names t b (l ++ x ∷ []) → PushedIn σ.names t b l ⊎ IsPush σ.names t b (command_of x.words) x.answer
 pushed_split σ t b [] x (inl p) = inr p
 pushed_split σ t b [] x (inr p) = absurd p

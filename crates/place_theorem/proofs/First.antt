@@ -13,6 +13,7 @@ pick_zero : {K : Type 0} (n : ℕ) (k : K) (o : Option K) → n ≡ 0 → pick n
 pick_zero zero k o e = refl
 pick_zero (suc n) k o e = absurd (omega (arith, e))
 
+-- where nothing weighs there is no first
 pub first_none : {K X : Type 0} (f : K → X → ℕ) (es : List (K × X)) → total f es ≡ 0 → first_with f es ≡ None
 first_none f [] z = refl
 first_none f (e ∷ es) z =

@@ -71,6 +71,7 @@ no_number at s c cs w h r mark [] ps k v talk = not_queued s c (conn_in (At (Som
 no_number at s c cs w h r mark (x ∷ xs) ps k v (inl z) = absurd (cc z)
 no_number at s c cs w h r mark (x ∷ xs) ps k v (inr z) = let q : queue_in (At (Some cs) w h r) ≡ None = ap queue_in z in absurd (cc q)
 
+-- each client was in no transaction where it published last
 pub AllTidy : Full → World → Type 0
 AllTidy σ w = (c : ℕ) (cl : Client) → get w.clients c ≡ Some cl → Tidy σ cl.calls
 
@@ -96,9 +97,6 @@ module _ (σ : Full) (base : Bytes → ℕ) (w : World) (inv : Inv σ base w) (t
   unfolding AllTidy
   tidy_called N at words reply right d dl dis = go (conn_or d c)
     where
-      x : Call
-      x = call_in at words reply
-
       mine : Tidy σ (cl.calls ++ call_in at words reply ∷ [])
       mine before y t b from e p runs =
           let same = same_last cl.calls before (call_in at words reply) y e in
@@ -230,6 +228,7 @@ module _ {N : Type 0} (σ : Full) (h p : History N) (sound : IsSound σ.names h)
   abbrev first : World
   first = start_from p.start p.clients
 
+  -- the world in the end
   abbrev pub end : World
   end = after_entries first (p.entries ++ pre.0)
 

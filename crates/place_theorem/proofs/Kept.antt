@@ -29,14 +29,17 @@ seen_from-push : (σ : Full) (s : Seen) (l : List Call) (x : Call) → seen_from
 seen_from-push σ s [] x = refl
 seen_from-push σ s (y ∷ l) x = seen_from-push σ (seen_by σ.names s (command_of y.words) y.answer) l x
 
+-- what is read off one more call
 pub seen-push : (σ : Full) (l : List Call) (x : Call) → seen σ.names (l ++ x ∷ []) ≡ seen_by σ.names (seen σ.names l) (command_of x.words) x.answer
 unfolding seen
 seen-push σ l x = seen_from-push σ nothing_seen l x
 
+-- counts add up
 pub count-append : (t : Bytes) (xs ys : List Bytes) → count t (xs ++ ys) ≡ count t xs + count t ys
 count-append t [] ys = omega arith
 count-append t (x ∷ xs) ys = let r = count-append t xs ys in omega (arith, r)
 
+-- and so do sums
 pub sum_of-append : {A : Type 0} (f : A → ℕ) (xs ys : List A) → sum_of f (xs ++ ys) ≡ sum_of f xs + sum_of f ys
 sum_of-append f [] ys = omega arith
 sum_of-append f (x ∷ xs) ys = let r = sum_of-append f xs ys in omega (arith, r)
@@ -51,9 +54,11 @@ module _ (σ : Full) (base : Bytes → ℕ) (w : World) (inv : Inv σ base w) (c
       omega (arith, e)
 
   module _ (x : Call) (right : x.answer ≡ (serve x.at w.store c (command_of x.words) (conn w.store.conns c)).1) where
+    -- the client with this call
     abbrev pub new : Client
     new = record { seed = cl.seed; calls = cl.calls ++ x ∷ []; stopped = cl.stopped }
 
+    -- the state after it
     abbrev pub s' : State
     s' = (serve x.at w.store c (command_of x.words) (conn w.store.conns c)).0
 
@@ -70,6 +75,7 @@ module _ (σ : Full) (base : Bytes → ℕ) (w : World) (inv : Inv σ base w) (c
     client_ok : (to : Cursor) → Runs σ Idle (cl.calls ++ x ∷ []) to → Live to → Stands σ s' c to (seen σ.names (cl.calls ++ x ∷ []))
     client_ok to r live = subst (Stands σ s' c to) (sym (seen-push σ cl.calls x)) ((effect to r).lands live)
 
+    -- the world after it
     abbrev pub w' : World
     w' = with_client s' w c new
 
@@ -114,6 +120,7 @@ module _ (σ : Full) (base : Bytes → ℕ) (w : World) (inv : Inv σ base w) (c
         let moved = e.moves t (omega (arith, all, before, part_hand, h0)) no_copy_now in
         omega (arith, p, h, l, d, p', d', h', h0, l', l0, all, moved)
 
+    -- a call keeps the invariant
     pub called : (to : Cursor) → Runs σ Idle (cl.calls ++ x ∷ []) to → Inv σ base w'
     called to r = record {
       kinds = (effect to r).safe.kinds;
@@ -122,9 +129,11 @@ module _ (σ : Full) (base : Bytes → ℕ) (w : World) (inv : Inv σ base w) (c
       placed = placed' to r;
     }
 
+  -- the client, stopped
   abbrev pub stop : Client
   stop = record { seed = cl.seed; calls = cl.calls; stopped = true }
 
+  -- the world without its connection
   abbrev pub w'' : World
   w'' = with_client (gone_of w.store c) w c stop
 

@@ -20,4 +20,5 @@ pub mod Draws
 pub mod Once
 pub mod Fresh
 pub mod Passing
-pub mod Example
+pub mod EmptyStart
+pub mod Prefixes

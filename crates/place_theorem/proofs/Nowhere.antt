@@ -58,6 +58,7 @@ nowhere σ w t e =
     let s = first_nothing (loss_weight σ.names t) (entries w.clients) f.0 in
     omega (arith, l, b.0, h, d.0, s)
 
+-- an accepted and single tag has a place
 pub somewhere : {N : Type 0} (σ : Full) (h p : History N) (t : Bytes) → IsSound σ.names h → IsHistoryPrefix p h → IsAccepted σ.names p t → IsSingle σ.names p t → place_of σ.names p t ≡ Never → ⊥
 somewhere σ h p t sound pre accepted single never =
     let w = after p in

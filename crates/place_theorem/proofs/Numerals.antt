@@ -83,9 +83,11 @@ integer_of-decimal (suc n) h =
     let t : nat_lt (suc n) (2 ^ 63) ≡ true = grind (arith, nat_tests, h) in
     not_minus (suc n) (decimal (suc n)) r p ∙ ap plain_integer (magnitude (suc n) (decimal (suc n)) r p) ∙ rw t refl
 
+-- numbers that the test takes for one are one
 pub eqb_true : (m n : ℕ) → (m == n) ≡ true → m ≡ n
 eqb_true m n e = (Decides-eqb m n).0 e
 
+-- and others differ
 pub off : (m n : ℕ) → (m == n) ≡ false → m ≢ n
 off m n e i = let h : (m == n) ≡ true = (Decides-eqb m n).1 i in cc (e, h)
 

@@ -135,6 +135,7 @@ one_seed c d s (x ∷ cs) differ (inr is) (inr is') = one_seed c d s cs differ.1
 abbrev pub SeedsDiffer : List (ℕ × ℕ) → Type 0
 SeedsDiffer cs = (c d : ℕ) (cl dl : Client) → get (table cs) c ≡ Some cl → get (table cs) d ≡ Some dl → cl.seed ≡ dl.seed → c ≡ d
 
+-- so says a table of clients
 pub seeds_differ : (cs : List (ℕ × ℕ)) → Differ (seeds cs) → SeedsDiffer cs
 seeds_differ cs differ c d cl dl is dis same = one_seed c d dl.seed cs differ (subst (λ s. Among (c, s) cs) same (in_table cs c cl is)) (in_table cs d dl dis)
 

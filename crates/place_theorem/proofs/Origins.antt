@@ -38,11 +38,13 @@ pub record AllKnown (σ : Full) (m : Keys) (w : World) : Type 0 where
   pub stored : (t b : Bytes) → HasEnvelope σ.names w.store.keys t b → OriginIn σ m w t b
   pub hands : (c : ℕ) (cl : Client) (cur : Cursor) (h : Bytes × Bytes) → get w.clients c ≡ Some cl → cl.stopped ≡ false → Runs σ Idle cl.calls cur → held_in cur ≡ Some h → OriginIn σ m w h.0 (σ.names.body_of h.1)
 
+-- a publication stays one
 pub pushed_more : (σ : Full) (t b : Bytes) (xs ys : List Call) → PushedIn σ.names t b xs → PushedIn σ.names t b (xs ++ ys)
 pushed_more σ t b [] ys p = absurd p
 pushed_more σ t b (x ∷ xs) ys (inl p) = inl p
 pushed_more σ t b (x ∷ xs) ys (inr p) = inr (pushed_more σ t b xs ys p)
 
+-- the last call may be one
 pub pushed_last : (σ : Full) (t b : Bytes) (xs : List Call) (x : Call) → IsPush σ.names t b (command_of x.words) x.answer → PushedIn σ.names t b (xs ++ x ∷ [])
 pushed_last σ t b [] x p = inl p
 pushed_last σ t b (y ∷ xs) x p = inr (pushed_last σ t b xs x p)
@@ -65,15 +67,19 @@ held_origin σ m w t b (Some h) all is = subst (λ y. OriginIn σ m w t y) is.1 
 module _ (σ : Full) (base : Bytes → ℕ) (m : Keys) (w : World) (inv : Inv σ base w) (known : AllKnown σ m w) where
   -- ---- a call
   module _ (N : Type 0) (c at : ℕ) (words : Words) (reply : Reply) (cl : Client) (is : get w.clients c ≡ Some cl) (runs_on : cl.stopped ≡ false) (right : reply ≡ (apply_of w.store at c words).1) (to₀ : Cursor) (runs₀ : Runs σ Idle (cl.calls ++ call_in at words reply ∷ []) to₀) where
+    -- the call
     abbrev pub x : Call
     x = call_in at words reply
 
+    -- the state in which it is served
     abbrev pub s : State
     s = (ready w at c).store
 
+    -- its entry
     abbrev pub entry : Entry N
     entry = Called c at words reply
 
+    -- its client with it
     abbrev pub new : Client
     new = record cl { calls = cl.calls ++ x ∷ [] }
 
@@ -136,6 +142,7 @@ module _ (σ : Full) (base : Bytes → ℕ) (m : Keys) (w : World) (inv : Inv σ
     others : (d : ℕ) → d ≢ c → get (next w entry).clients d ≡ get w.clients d
     others d n = ap (λ y. get y.clients d) (next_called N w c at words reply cl is) ∙ get-insert_other nat_cmp nat_cmp_total nat_cmp-IsAntisymmetric w.clients c new d n
 
+    -- what is known stays so at a call
     pub known_called : AllKnown σ m (next w entry)
     known_called = record {
       stored = λ t b st. elim (came t b (subst (λ y. HasEnvelope σ.names y.keys t b) state_now st)) [
@@ -154,12 +161,14 @@ module _ (σ : Full) (base : Bytes → ℕ) (m : Keys) (w : World) (inv : Inv σ
 
   -- ---- a stop
   module _ (N : Type 0) (c : ℕ) (cl : Client) (is : get w.clients c ≡ Some cl) (runs_on : cl.stopped ≡ false) where
+    -- the client, stopped
     abbrev pub halted : Client
     halted = record { seed = cl.seed; calls = cl.calls; stopped = true }
 
     at_stop : next {N = N} w (Stop c) ≡ with_client (gone_of w.store c) w c halted
     at_stop = stopped_is σ base w inv c cl is runs_on N
 
+    -- and at a stop
     pub known_stopped : AllKnown σ m (next {N = N} w (Stop c))
     known_stopped = record {
       stored = λ t b st. origin_kept {N = N} σ m w (Stop c) t b (known.stored t b (subst (λ y. HasEnvelope σ.names y.store.keys t b) at_stop st));
@@ -196,6 +205,7 @@ known_after : {N : Type 0} (σ : Full) (base : Bytes → ℕ) (m : Keys) (w : Wo
 known_after σ base m w [] rest inv known legal all = known
 known_after σ base m w (e ∷ p) rest inv known legal all = known_after σ base m (next w e) p rest (one_entry σ base w e (p ++ rest) inv legal.0 all) (one_known σ base m w e (p ++ rest) inv known legal.0 all) legal.1 all
 
+-- each envelope has its origin
 pub identity : {N : Type 0} (σ : Full) (h p : History N) (t b : Bytes) → IsSound σ.names h → IsHistoryPrefix p h → HasEnvelope σ.names (after p).store.keys t b → HasOrigin σ.names p t b
 identity σ h p t b sound pre st =
     let s = parted σ h p sound pre in

@@ -21,13 +21,16 @@ altering_push : (side : Side) (k v : Bytes) → altering (push_command side k v)
 altering_push Left k v = refl
 altering_push Right k v = refl
 
+-- a push leaves the other keys
 pub push_away : (e : Around) (m : Keys) (side : Side) (v a k : Bytes) → k ≢ a → get (run e m (push_command side a v)).keys k ≡ get m k
 push_away e m side v a k n = (framed e m (push_command side a v)).away k (subst (IsAway k) (sym (altering_push side a v)) (n, tt))
 
+-- so do pushes in a row
 pub pushes_away : (at : ℕ) (cs : Conns) (m : Keys) (side : Side) (v k : Bytes) (ks : List Bytes) → IsAway k ks → get (run_all at m cs (push_commands side v ks)).keys k ≡ get m k
 pushes_away at cs m side v k [] far = refl
 pushes_away at cs m side v k (a ∷ ks) far = pushes_away at (posted (push_command side a v) cs) (run (around at cs) m (push_command side a v)).keys side v k ks far.1 ∙ push_away (around at cs) m side v a k far.0
 
+-- its list gains the bytes
 pub push_gains : (e : Around) (m : Keys) (side : Side) (k v : Bytes) → IsListOrNone (value_at m k) → elements_at (run e m (push_command side k v)).keys k ≡ gain side v (elements_at m k)
 push_gains e m Left k v is = lpush_elements e m k v is
 push_gains e m Right k v is = rpush_elements e m k v is
@@ -53,6 +56,7 @@ pushes_gain σ at cs m side v k (a ∷ ks) kinds qs far (inr is) =
     pushes_gain σ at cs' m' side v k ks (push_done σ e m side a v kinds qs.0).after.kinds qs.1 far.1 is
     ∙ ap (λ o. gain side v (elements_of (value_of o))) (push_away e m side v a k (among_not a k ks far.0 is))
 
+-- each of them is a queue's key
 pub among_queue : (σ : Full) (k : Bytes) (qs : List Bytes) → QueueKeys σ qs → Among k qs → is_queue σ.names k ≡ true
 among_queue σ k [] h is = absurd is
 among_queue σ k (a ∷ qs) h (inl z) = ap (is_queue σ.names) z ∙ h.0

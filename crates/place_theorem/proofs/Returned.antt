@@ -80,6 +80,7 @@ module _ (σ : Full) (at : ℕ) (cs : Conns) (s : State) (c : ℕ) (sn : Seen) (
   abbrev mid : Keys
   mid = (run e (run e s.keys (Zrem σ.names.index (t ∷ []))).keys (Hdel σ.names.unacked (t ∷ []))).keys
 
+  -- the keys after the transaction
   abbrev pub last : Keys
   last = (run_all at s.keys cs (take_out σ.names t (push_commands side v ks))).keys
 
@@ -193,6 +194,7 @@ returns_at σ base w inv c x cl to xs a b q qs known runs_on right runs exec arr
           (whole_from σ w.store.keys m' x.at it.0 it.1 it.2 it.3 it.4 inv.kinds it.5 (subst (λ k. entry_at σ.names k it.1 ≡ Some it.2) live it.6) (subst (λ k. Taken σ k m' it.0 it.1 it.3 (σ.names.keys_in it.2 it.4)) live took));
     }
 
+-- a return that ran returned its message whole
 pub whole_return : {N : Type 0} (σ : Full) (h p : History N) (c at : ℕ) (words : Words) (reply : Reply) (cl : Client) (xs : List Value) (a b q : Command) (qs : List Command) → IsSound σ.names h → IsHistoryPrefix (and_then p (Called c at words reply ∷ [])) h
     → get (after p).clients c ≡ Some cl → command_of words ≡ Exec → items_of reply.answer ≡ Some xs → (seen σ.names cl.calls).since ≡ a ∷ b ∷ q ∷ qs
     → ReturnsWhole σ.names (seen σ.names cl.calls) (after p).store.keys (after (and_then p (Called c at words reply ∷ []))).store.keys at

@@ -24,6 +24,7 @@ use Rattle.place_theorem.proofs.Machine.{Cursor}
 use Rattle.place_theorem.proofs.Safe.{Stands, touched_stands}
 use Rattle.store_tables.proofs.Maps.{bytes_anti, bytes_total}
 
+-- the world in which nothing is due
 abbrev pub settle : World → ℕ → World
 settle w at = record { store = settled w.store at; clients = w.clients }
 
@@ -32,6 +33,7 @@ module _ (σ : Full) (m : Keys) (at : ℕ) (ks : Kinds σ m) where
   lasting None e = refl
   lasting (Some h) e = ap (is_over at) e
 
+  -- a key that doesn't expire stays
   pub get-lasting : (k : Bytes) → expiry_of (get m k) ≡ None → get (live_at at m) k ≡ get m k
   get-lasting k e = get-live bytes_cmp bytes_total bytes_anti (λ h. is_over at h.expiry) m k ∙ ap (λ b. cond (not b) (get m k) None) (lasting (get m k) e)
 
@@ -65,6 +67,7 @@ module _ (σ : Full) (m : Keys) (at : ℕ) (ks : Kinds σ m) where
     members_last = ap expiry_of index_kept ∙ ks.members_last;
   }
 
+-- dropping what is due keeps the invariant
 pub inv_settled : (σ : Full) (base : Bytes → ℕ) (w : World) (at : ℕ) → Inv σ base w → Inv σ base (settle w at)
 inv_settled σ base w at inv =
     let u = unacked_kept σ w.store.keys at inv.kinds in
@@ -88,6 +91,7 @@ inv_settled σ base w at inv =
 abbrev pub quieted : State → ℕ → State
 quieted s c = quiet s c (conn s.conns c) (conn s.conns c).pending
 
+-- the world in which a connection was told its messages
 abbrev pub hush : World → ℕ → World
 hush w c = record { store = quieted w.store c; clients = w.clients }
 
@@ -118,6 +122,7 @@ told_stands σ s c d cur sn ok (inr n) = record {
   is = ok.is;
 }
 
+-- telling them keeps the invariant
 pub inv_hushed : (σ : Full) (base : Bytes → ℕ) (w : World) (c : ℕ) → Inv σ base w → Inv σ base (hush w c)
 inv_hushed σ base w c inv = go (conn w.store.conns c).pending
   where
@@ -132,10 +137,12 @@ inv_hushed σ base w c inv = go (conn w.store.conns c).pending
 
 -- ---- a call is served after that
 
+-- the state after a call
 pub state_is : (at : ℕ) (s : State) (c : ℕ) (words : Words) → (answer_to at s c words).0 ≡ (serve at (quieted s c) c (command_of words) (conn (quieted s c).conns c)).0
 unfolding answer_to
 state_is at s c words = refl
 
+-- and its answer
 pub answer_is : (at : ℕ) (s : State) (c : ℕ) (words : Words) → (answer_to at s c words).1.answer ≡ (serve at (quieted s c) c (command_of words) (conn (quieted s c).conns c)).1
 unfolding answer_to
 answer_is at s c words = refl

@@ -23,7 +23,7 @@ use Rattle.place_theorem.proofs.Whole.{AllMannered, call_in, inv_after, inv_star
 
 -- ---- what the world keeps of a client are its calls
 
-calls-first : {N : Type 0} (c : ℕ) (e : Entry N) (es : List (Entry N)) → calls_of c (e ∷ es) ≡ calls_of c (e ∷ []) ++ calls_of c es
+pub calls-first : {N : Type 0} (c : ℕ) (e : Entry N) (es : List (Entry N)) → calls_of c (e ∷ es) ≡ calls_of c (e ∷ []) ++ calls_of c es
 calls-first {N = N} c e es = elim (conn_of e == c) as (λ b. calls_among (if b then e ∷ own_entries c es else own_entries c es) ≡ calls_among (if b then e ∷ [] else []) ++ calls_of c es) [
   | true ↦ here e
   | false ↦ refl
@@ -74,6 +74,7 @@ module _ (N : Type 0) (w : World) (c : ℕ) (cl : Client) (is : get w.clients c 
       go : (b : Bool) → (conn_of e == c) ≡ b → GoesOn (next_of w e (get w.clients (conn_of e))) c cl (calls_of c (e ∷ []))
       go b i = subst (GoesOn (next_of w e (get w.clients (conn_of e))) c cl) (sym (own_calls c e b i)) (by_client e (get w.clients (conn_of e)) refl b i)
 
+-- the world goes on with a client's calls
 pub client_goes : {N : Type 0} (w : World) (es : List (Entry N)) (c : ℕ) (cl : Client) → get w.clients c ≡ Some cl → GoesOn (after_entries w es) c cl (calls_of c es)
 client_goes w [] c cl is = stays w c cl is
 client_goes {N = N} w (e ∷ es) c cl is =
@@ -99,12 +100,14 @@ unknown_one {N = N} w e c none = go e (get w.clients (conn_of e)) refl
     go (Heard d note) (Some old) was = none
     go (Stop d) (Some old) was = put (gone_of w.store d) d old (record old { stopped = true }) was
 
+-- no connection comes to be known
 pub unknown : {N : Type 0} (w : World) (es : List (Entry N)) (c : ℕ) → get w.clients c ≡ None → get (after_entries w es).clients c ≡ None
 unknown w [] c none = none
 unknown w (e ∷ es) c none = unknown (next w e) es c (unknown_one w e c none)
 
 -- ---- the table
 
+-- who is known at the start is in the table
 pub in_table : (cs : List (ℕ × ℕ)) (c : ℕ) (cl : Client) → get (table cs) c ≡ Some cl → Among (c, cl.seed) cs
 in_table [] c cl is = absurd (cc (is, get-empty {X = Client} nat_cmp c))
 in_table (d ∷ cs) c cl is = go (in_table cs c cl) (conn_or c d.0)
@@ -128,6 +131,7 @@ client_is h c cl is = go (get (table h.clients) c) refl
         let new = table_get h.clients c first was in
         (subst (λ s. Among (c, s) h.clients) (sym g.2 ∙ ap (λ x. x.seed) they) (in_table h.clients c first was), sym (ap (λ x. x.calls) they) ∙ g.3 ∙ ap (λ l. l ++ calls_of c h.entries) new.0)
 
+-- so each client of the world keeps its manner
 pub all_mannered : {N : Type 0} (σ : Full) (h : History N) → IsSound σ.names h → AllMannered σ (after h)
 all_mannered σ h sound c cl is =
     let k = client_is h c cl is in
@@ -135,6 +139,7 @@ all_mannered σ h sound c cl is =
 
 -- ---- the start
 
+-- the kinds of a sound start
 pub kinds_of : (σ : Full) (m : Keys) (used : List ℕ) → IsSoundStart σ.names m used → Kinds σ m
 kinds_of σ m used s = record {
   lists = s.lists;
@@ -157,6 +162,7 @@ rebased σ base base' w same inv = record {
   placed = λ t one no_copy. let e = same t in let p = inv.placed t (omega (arith, e, one)) no_copy in omega (arith, e, p);
 }
 
+-- the invariant at the start
 pub inv_begin : (σ : Full) (cs : List (ℕ × ℕ)) (m : Keys) (used : List ℕ) → IsSoundStart σ.names m used → Inv σ (start_count σ.names m) (start_from m cs)
 inv_begin σ cs m used s = rebased σ _ _ _ (start_counts σ m s.alike) (inv_start σ cs m (kinds_of σ m used s) s.alike)
 
@@ -166,6 +172,7 @@ inv_begin σ cs m used s = rebased σ _ _ _ (start_counts σ m s.alike) (inv_sta
 pub parted : {N : Type 0} (σ : Full) (h p : History N) → IsSound σ.names h → (pre : IsHistoryPrefix p h) → IsSound σ.names (and_then p pre.0)
 parted σ h p sound pre = subst (IsSound σ.names) (sym pre.1) sound
 
+-- and after each prefix
 pub inv_of : {N : Type 0} (σ : Full) (h p : History N) → IsSound σ.names h → IsHistoryPrefix p h → Inv σ (start_count σ.names p.start) (after p)
 inv_of σ h p sound pre =
     let s = parted σ h p sound pre in

@@ -126,6 +126,7 @@ module _ (σ : Full) (t b : Bytes) where
   Holds None = ⊥
   Holds (Some h) = (h.0 ≡ t) × (σ.names.body_of h.1 ≡ b)
 
+  -- it stood there, was published by the call, or was in hand
   abbrev pub Comes : State → Cursor → Command → Value → Type 0
   Comes s from cm reply = HasEnvelope σ.names s.keys t b ⊎ (IsPush σ.names t b cm reply ⊎ Holds (held_in from))
 
@@ -200,6 +201,7 @@ module _ (σ : Full) (t b : Bytes) where
     spoken_comes cn (Faulty fault false) st = st
     spoken_comes cn other st = st
 
+    -- what stands in the store after a step
     pub comes : (from to : Cursor) (cm : Command) (reply : Value) (mark : Bool) (ch : List Bytes) (ps : List Value) → Step σ from cm reply to → Ready σ s c sn from mark ch ps → reply ≡ (serve at s c cm (conn_in from mark ch ps)).1
         → HasEnvelope σ.names (serve at s c cm (conn_in from mark ch ps)).0.keys t b → Comes s from cm reply
     comes from to cm reply mark [] ps step ok is st = comes_plain from to cm reply reply mark ps step ok is st
@@ -211,6 +213,7 @@ module _ (σ : Full) (t b : Bytes) where
 
 -- what a client has in hand after a step, it had before, or it stood in the store
 module _ (σ : Full) (at : ℕ) (s : State) (c : ℕ) where
+  -- it was in hand, or stood in the store
   abbrev pub HeldBefore : Cursor → Bytes × Bytes → Type 0
   HeldBefore from h = (held_in from ≡ Some h) ⊎ HasEnvelope σ.names s.keys h.0 (σ.names.body_of h.1)
 

@@ -43,9 +43,11 @@ abbrev pub place_at : Full → Keys → World → Bytes → Place
 place_at σ m w t = by_counts (start_count σ.names m t + direct_pushes σ.names w t) (copy_count σ.names w t) (first_place σ.names w t)
 
 module _ (σ : Full) (m : Keys) (w : World) (inv : Inv σ (start_count σ.names m) w) (c : ℕ) (cl : Client) (known : get w.clients c ≡ Some cl) (runs_on : cl.stopped ≡ false) where
+  -- the client, stopped
   abbrev pub new : Client
   new = record { seed = cl.seed; calls = cl.calls; stopped = true }
 
+  -- the world without its connection
   abbrev pub after_stop : World
   after_stop = with_client (gone_of w.store c) w c new
 
@@ -157,6 +159,7 @@ module _ (σ : Full) (m : Keys) (w : World) (inv : Inv σ (start_count σ.names 
   pub stop_moves : (after_stop.store.keys ≡ w.store.keys) × ((hand : Option Bytes) × ((t : Bytes) → (place_at σ m after_stop t ≡ place_at σ m w t) ⊎ ((hand ≡ Some t) × (place_at σ m w t ≡ Hand c) × (place_at σ m after_stop t ≡ Lost c))))
   stop_moves = (refl, ((seen σ.names cl.calls).hand, moves_one))
 
+-- what a stop does after a prefix
 pub a_stop : {N : Type 0} (σ : Full) (h p : History N) (c : ℕ) → IsSound σ.names h → IsHistoryPrefix (and_then p (Stop c ∷ [])) h → StopMoves σ.names p c
 a_stop {N = N} σ h p c sound pre =
     let q : History N = and_then p (Stop c ∷ []) in

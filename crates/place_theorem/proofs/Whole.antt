@@ -26,6 +26,7 @@ use Rattle.place_theorem.proofs.Settle.{answer_is, hush, inv_hushed, inv_settled
 
 -- ---- the start
 
+-- the sum over no entries
 pub total-empty : {K X : Type 0} (R : K → K → Ordering) (o : IsTotalOrder R) (anti : IsAntisymmetric R) (f : K → X → ℕ) → total f (entries (empty {X = X} {R = R})) ≡ 0
 total-empty {X = X} R o anti f =
     let same : from_sorted {R = R} [] ≡ empty {X = X} = same_map o anti _ _ (λ q. get-from_sorted R [] q tt ∙ sym (get-empty R q)) in
@@ -35,6 +36,7 @@ total-empty {X = X} R o anti f =
 abbrev pub IsNew : Client → Type 0
 IsNew cl = (cl.calls ≡ []) × (cl.stopped ≡ false)
 
+-- a client of the table has called nothing
 pub table_get : (cs : List (ℕ × ℕ)) (c : ℕ) (cl : Client) → get (table cs) c ≡ Some cl → IsNew cl
 table_get [] c cl is = absurd (cc (is, get-empty {X = Client} nat_cmp c))
 table_get (d ∷ cs) c cl is = go (conn_or c d.0) (table_get cs c cl)
@@ -85,12 +87,14 @@ inv_start σ cs m kinds alike = record {
 
 -- ---- a client's calls grow
 
+-- a list is a prefix of itself
 pub prefix_self : {A : Type 0} (xs : List A) → IsPrefixOf xs xs
 prefix_self xs = ([], append-nil xs)
 
 prefix_trans : {A : Type 0} (xs ys zs : List A) → IsPrefixOf xs ys → IsPrefixOf ys zs → IsPrefixOf xs zs
 prefix_trans xs ys zs p q = (p.0 ++ q.0, sym (append_assoc xs p.0 q.0) ∙ ap (λ w. w ++ q.0) p.1 ∙ q.1)
 
+-- the client's calls begin with these
 abbrev pub Grown : World → ℕ → List Call → Type 0
 Grown w c l = (cl : Client) × (get w.clients c ≡ Some cl) × IsPrefixOf l cl.calls
 
@@ -120,12 +124,14 @@ grows_one {N = N} w e c l g = go (get w.clients (conn_of e)) refl
     go : (o : Option Client) → get w.clients (conn_of e) ≡ o → Grown (next_of w e o) c l
     go o is = by e o is
 
+-- and so they do after further entries
 pub grows : {N : Type 0} (w : World) (es : List (Entry N)) (c : ℕ) (l : List Call) → Grown w c l → Grown (after_entries w es) c l
 grows w [] c l g = g
 grows w (e ∷ es) c l g = grows (next w e) es c l (grows_one w e c l g)
 
 -- ---- one entry, and then all
 
+-- each client keeps its manner
 abbrev pub AllMannered : Full → World → Type 0
 AllMannered σ w = (c : ℕ) (cl : Client) → get w.clients c ≡ Some cl → IsMannered σ.names cl.seed cl.calls
 
@@ -133,10 +139,12 @@ AllMannered σ w = (c : ℕ) (cl : Client) → get w.clients c ≡ Some cl → I
 abbrev pub call_in : ℕ → Words → Reply → Call
 call_in at words reply = call at words reply.answer
 
+-- the world after a call
 pub next_called : (N : Type 0) (w : World) (c at : ℕ) (words : Words) (reply : Reply) (cl : Client) → get w.clients c ≡ Some cl → next {N = N} w (Called c at words reply) ≡ with_client (apply_of w.store at c words).0 w c (record cl { calls = cl.calls ++ call_in at words reply ∷ [] })
 unfolding next
 next_called N w c at words reply cl known = ap (next_of {N = N} w (Called c at words reply)) known
 
+-- a note changes nothing
 pub next_heard : {N : Type 0} (w : World) (c : ℕ) (note : N) → next w (Heard c note) ≡ w
 unfolding next
 next_heard w c note = go (get w.clients c)
@@ -159,6 +167,7 @@ runs_to {N = N} σ w c at words reply rest cl known all =
     let p = runs_split σ Idle r.0 (cl.calls ++ x ∷ []) last.2.0 (subst (λ l. Runs σ Idle l r.0) (sym last.2.1) r.1) in
     (p.0, p.1)
 
+-- the same of a call after a prefix
 pub called_runs : {N : Type 0} (σ : Full) (w : World) (p : List (Entry N)) (c at : ℕ) (words : Words) (reply : Reply) (rest : List (Entry N)) (cl : Client) → get (after_entries w p).clients c ≡ Some cl → AllMannered σ (after_entries w (p ++ Called c at words reply ∷ rest)) → (to : Cursor) × Runs σ Idle (cl.calls ++ call_in at words reply ∷ []) to
 called_runs σ w [] c at words reply rest cl known all = runs_to σ w c at words reply rest cl known all
 called_runs σ w (e ∷ p) c at words reply rest cl known all = called_runs σ (next w e) p c at words reply rest cl known all
@@ -167,12 +176,15 @@ called_runs σ w (e ∷ p) c at words reply rest cl known all = called_runs σ (
 abbrev pub ready : World → ℕ → ℕ → World
 ready w at c = hush (settle w at) c
 
+-- the invariant holds there
 pub inv_ready : (σ : Full) (base : Bytes → ℕ) (w : World) (at c : ℕ) → Inv σ base w → Inv σ base (ready w at c)
 inv_ready σ base w at c inv = inv_hushed σ base (settle w at) c (inv_settled σ base w at inv)
 
+-- the reply is what is served there
 pub served : (w : World) (c at : ℕ) (words : Words) (reply : Reply) → reply ≡ (apply_of w.store at c words).1 → reply.answer ≡ (serve at (ready w at c).store c (command_of words) (conn (ready w at c).store.conns c)).1
 served w c at words reply right = ap (λ r. r.answer) right ∙ answer_is at (settled w.store at) c words
 
+-- each entry keeps the invariant
 pub one_entry : {N : Type 0} (σ : Full) (base : Bytes → ℕ) (w : World) (e : Entry N) (rest : List (Entry N)) → Inv σ base w → MayCome w e → AllMannered σ (after_entries (next w e) rest) → Inv σ base (next w e)
 one_entry {N = N} σ base w (Stop c) rest inv may all = subst (Inv σ base) (sym (stopped_is σ base w inv c may.0 may.1 may.2 N)) (stopped σ base w inv c may.0 may.1 may.2)
 one_entry σ base w (Heard c note) rest inv may all = subst (Inv σ base) (sym (next_heard w c note)) inv
@@ -183,6 +195,7 @@ one_entry {N = N} σ base w (Called c at words reply) rest inv may all =
     let now = called σ base (ready w at c) (inv_ready σ base w at c inv) c may.0 may.1 may.2 x (served w c at words reply may.3) r.0 r.1 in
     subst (Inv σ base) (sym (next_called N w c at words reply may.0 may.1)) (subst (λ s. Inv σ base (with_client s w c new)) (sym (state_is at (settled w.store at) c words)) now)
 
+-- and so do entries in a row
 pub inv_after : {N : Type 0} (σ : Full) (base : Bytes → ℕ) (w : World) (p rest : List (Entry N)) → Inv σ base w → AllMayCome w (p ++ rest) → AllMannered σ (after_entries w (p ++ rest)) → Inv σ base (after_entries w p)
 inv_after σ base w [] rest inv legal all = inv
 inv_after σ base w (e ∷ p) rest inv legal all = inv_after σ base (next w e) p rest (one_entry σ base w e (p ++ rest) inv legal.0 all) legal.1 all
@@ -192,6 +205,7 @@ pub legal_part : {N : Type 0} (w : World) (p rest : List (Entry N)) → AllMayCo
 legal_part w [] rest h = h
 legal_part w (e ∷ p) rest h = legal_part (next w e) p rest h.1
 
+-- its keys are those that are live
 pub ready_keys : (w : World) (at c : ℕ) → (ready w at c).store.keys ≡ live_at at w.store.keys
 ready_keys w at c = go (conn (settled w.store at).conns c).pending
   where

@@ -18,6 +18,11 @@ ghost use Rattle.resp_wire.specs.declared.value.Value.{Value};
 ghost use Rattle.std.specs.FinMap.{get};
 ghost use Rattle.std.specs.Prelude.{◌≡◌, [], ◌∷◌, ℕ, List, Some};
 
+/// Each prefix of a sound history is sound.
+pub fn prefixes<N>()
+    ensures { (σ : Setting) → (h p : History N) → IsSound σ h → IsHistoryPrefix p h → IsSound σ p }
+{}
+
 /// Each message that is accepted and single is in exactly one place, and in the table just where it is in the table's index.
 pub fn one_place<N>()
     ensures { (σ : Setting) → IsLawful σ → (h p : History N) (t : Bytes) → IsSound σ h → IsHistoryPrefix p h

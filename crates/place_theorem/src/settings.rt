@@ -1,13 +1,15 @@
 //! The premises of the laws can be met.
-ghost use Rattle.place_model.specs.Layouts.{Layout, is_layout};
-ghost use Rattle.place_model.specs.Setting.{IsLawful, Setting, Texts, setting_of};
+ghost use Rattle.place_model.specs.Layouts.{Layout, is_layout, plain};
+ghost use Rattle.place_model.specs.EnvelopeTexts.{texts};
+ghost use Rattle.place_model.specs.Setting.{IsLawful, Setting, setting_of};
 ghost use Rattle.place_model.specs.Starts.{IsSoundStart};
 ghost use Rattle.std.specs.FinMap.{empty};
 ghost use Rattle.std.specs.Prelude.{◌≡◌, [], true};
 
-/// Each lawful layout has texts with which its setting is lawful.
-pub fn a_setting()
-    ensures { (l : Layout) → is_layout l ≡ true → (τ : Texts) × IsLawful (setting_of l τ) }
+/// The setting of Kombu's envelopes is lawful in each lawful layout, the plain one among them.
+pub fn envelopes_are_lawful()
+    ensures layouts { (l : Layout) → is_layout l ≡ true → IsLawful (setting_of l texts) }
+    ensures plain { IsLawful (setting_of plain texts) }
 {}
 
 /// A history may begin with no key.

@@ -1,6 +1,6 @@
 use Rattle.std.proofs.Common.{map}
 use Rattle.links.specs.Views.{sink_view, source_view}
-use Rattle.celery_node.proofs.Statuses.{answer_of_text, shown_memory, status_bad_line, status_bad_word, status_complete, status_out_of_memory, status_read_fault, status_reported, status_unlawful, status_write_fault, statuses}
+use Rattle.celery_node.proofs.Statuses.{answer_of_text, shown_memory, sink_later, status_bad_line, status_bad_word, status_complete, status_out_of_memory, status_read_fault, status_reported, status_unlawful, status_write_fault, statuses}
 use Rattle.celery_node.specs.Endings.{HasEnded}
 use Rattle.celery_node.proofs.node.run.Goals as goal
 
@@ -17,6 +17,7 @@ returns g c =
     record {
       ended = ended;
       took = c.judge-end.ensures.took;
+      sink_later = sink_later words b n o x r ended;
       reported = status_reported words b n o x r ended;
       bad_word = status_bad_word words b n o x r ended;
       bad_line = status_bad_line words b n o x r ended;

@@ -1,4 +1,4 @@
-use Rattle.std.proofs.Common.{arith, ap, false, length, sym, true, ◌<◌, ◌≡◌, ◌∙◌, ◌+◌}
+use Rattle.std.proofs.Common.{arith, ap, length, sym, ◌<◌, ◌∙◌, ◌+◌}
 use Rattle.std.proofs.lemmas.Grind.{common_steps}
 use Rattle.celery_node.proofs.Lines.{text_run-cut, text_run-last}
 use Rattle.celery_node.specs.Schedule.{end_of_input, on_fault, text_run}

@@ -1,6 +1,6 @@
-use Rattle.std.proofs.Common.{arith, ap, drop, length, length-drop, sym, take, ◌+◌, ◌≡◌, ◌∙◌, ◌<◌}
+use Rattle.std.proofs.Common.{arith, ap, drop, length, length-drop, sym, ◌+◌, ◌∙◌, ◌<◌}
 use Rattle.celery_node.proofs.Lines.{line_feed_at, text_run-line}
-use Rattle.celery_node.specs.Schedule.{line_fault, on_fault, text_run}
+use Rattle.celery_node.specs.Schedule.{on_fault, text_run}
 use Rattle.celery_node.proofs.schedule.run_text.Goals as goal
 
 pub returns-in-Some-line_fault : goal.returns-in-Some-line_fault

@@ -1,5 +1,5 @@
 -- What `an_empty_start` ensures.
-use Rattle.place_theorem.proofs.Example.{empty_start}
+use Rattle.place_theorem.proofs.EmptyStart.{empty_start}
 use Rattle.place_theorem.proofs.settings.an_empty_start.Goals as goal
 
 pub returns : goal.returns

@@ -1,6 +1,5 @@
--- Texts that keep their facts, and the empty start.
-use Rattle.std.proofs.Common.{◌≡◌, ℕ, [], ◌∷◌, Bool, true, false, if◌then◌else◌, length, refl, sym, ap, subst, ◌∙◌, arith, None, Some, Option}
-use Rattle.std.specs.Prelude.{nat_le}
+-- The empty start.
+use Rattle.std.proofs.Common.{◌≡◌, ℕ, [], true, if◌then◌else◌, sym, ap, subst, ◌∙◌, arith, None, Some, Option}
 use Rattle.std.specs.FinMap.{get, empty, get-empty, entries}
 use Rattle.resp_wire.specs.Order.{bytes_cmp}
 use Rattle.store_tables.proofs.Maps.{bytes_total, bytes_anti}
@@ -8,60 +7,10 @@ use Rattle.mini_store.specs.Keys.{value_of, expiry_of}
 use Rattle.mini_store.specs.declared.held.Held.{Held}
 use Rattle.place_model.specs.Names.{Bytes}
 use Rattle.place_model.specs.QueueKeys.{Among}
-use Rattle.place_model.specs.Layouts.{Layout, is_layout}
-use Rattle.place_model.specs.Setting.{Texts, IsTexts, IsLawful, Setting, setting_of}
+use Rattle.place_model.specs.Setting.{Setting}
 use Rattle.place_model.specs.Counts.{total, in_held, has_field, has_member, field_of, start_count}
 use Rattle.place_model.specs.Starts.{IsSoundStart, IsListOrNone, IsHashOrNone, IsScoresOrNone, elements_of}
-use Rattle.place_model.proofs.Settings.{lawful_setting}
 use Rattle.place_theorem.proofs.Whole.{total-empty}
-
--- ---- texts
-
--- envelopes that are their tags
-if_tag : Bytes → Option Bytes
-if_tag v = if nat_le (length v) 1024 then Some v else None
-
-tagged_is : (v t : Bytes) → if_tag v ≡ Some t → nat_le (length t) 1024 ≡ true
-unfolding if_tag
-tagged_is v t e = go (nat_le (length v) 1024) refl e
-  where
-    go : (b : Bool) → nat_le (length v) 1024 ≡ b → (if b then Some v else None) ≡ Some t → nat_le (length t) 1024 ≡ true
-    go true i f = let z : v ≡ t = cc f in subst (λ x. nat_le (length x) 1024 ≡ true) z i
-    go false i f = absurd (cc f)
-
-parts : (s n s' n' : ℕ) → true ≡ true → ◌≡◌ {A = Bytes} (s ∷ n ∷ []) (s' ∷ n' ∷ []) → (s ≡ s') × (n ≡ n')
-parts s n s' n' h e = (cc e, cc e)
-
-carried_is : (u v : Bytes) → Some u ≡ Some v → v ≡ u
-carried_is u v e = cc e
-
-abbrev toy : Texts
-toy = record {
-  tag = λ s n. s ∷ n ∷ [];
-  is_tag = λ t. nat_le (length t) 1024;
-  tag_of = if_tag;
-  way_of = λ v. None;
-  entry_of = λ v. v;
-  way_in = λ u. None;
-  carried = λ u. Some u;
-  body_of = λ v. v;
-  body_in = λ u. u;
-}
-
-toy_texts : IsTexts toy
-toy_texts = record {
-  tag_parts = parts;
-  tag_is = λ s n a b. refl;
-  tag_short = λ t e. e;
-  tag_text = tagged_is;
-  entry_body = λ v. refl;
-  carried_body = carried_is;
-}
-
-pub some_setting : (l : Layout) → is_layout l ≡ true → (τ : Texts) × IsLawful (setting_of l τ)
-some_setting l lawful = (toy, lawful_setting l toy lawful toy_texts)
-
--- ---- the empty start
 
 none : (k : Bytes) → get (empty {X = Held} {R = bytes_cmp}) k ≡ None
 none k = get-empty bytes_cmp k
@@ -70,6 +19,7 @@ none k = get-empty bytes_cmp k
 abbrev one_if : Bytes → Option Held → ℕ
 one_if t o = if has_field (value_of o) t then 1 else 0
 
+-- with no key all that a sound start has holds
 pub empty_start : (σ : Setting) → IsSoundStart σ empty []
 empty_start σ = record {
   lists = λ k q. subst IsListOrNone (sym (ap value_of (none k))) tt;
