@@ -244,10 +244,14 @@ abbrev pub told_by : Setting → List (Bytes × Held) → List (ℕ × (Bytes ×
 told_by σ [] = []
 told_by σ (e ∷ es) = told_under σ (σ.split e.0) e.1 ++ told_by σ es
 
+-- the message in the hand of a client that is gone, or of one that isn't
+abbrev pub hand_if : Bool → Seat → Option ℕ
+hand_if gone seat = if seat.stopped then (if gone then seat.hand else None) else (if gone then None else seat.hand)
+
 -- the messages in the hands of clients that are gone, or that aren't, in the order of connections
 abbrev pub hands : Bool → List (ℕ × Seat) → List (ℕ × ℕ)
 hands gone [] = []
-hands gone (e ∷ es) = (if e.1.stopped then (if gone then map (λ n. (n, e.0)) (listed e.1.hand) else []) else (if gone then [] else map (λ n. (n, e.0)) (listed e.1.hand))) ++ hands gone es
+hands gone (e ∷ es) = map (λ n. (n, e.0)) (listed (hand_if gone e.1)) ++ hands gone es
 
 -- ---- places
 
