@@ -16,3 +16,4 @@ pub mod Whereabouts
 pub mod Messages
 pub mod Layers
 pub mod Seats
+pub mod Numbers

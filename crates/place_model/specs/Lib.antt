@@ -29,3 +29,4 @@ pub mod Shown
 pub mod EnvelopeTexts
 pub mod Accepted
 pub mod Gathered
+pub mod GatheredLaws

@@ -1,5 +1,6 @@
 //! What the definitions of keys, lookups and tokens keep, for every key layout.
 ghost use Rattle.place_model.specs.KeyLaws.{KeyTells, SplitTells, OnlyKeysSplit, OthersApart, PopsTell, StepsTell, RoutesTell, MembersTell, TokenTells};
+ghost use Rattle.place_model.specs.GatheredLaws.{PlacesGathered};
 ghost use Rattle.place_model.specs.SettingLaws.{LayoutsServe};
 
 // A queue's key tells the queue and its step, and the split of a key gives them for such a key alone.
@@ -34,4 +35,9 @@ pub fn tokens()
 // With texts that keep their facts, each lawful layout gives a lawful setting.
 pub fn layouts_serve()
     ensures { LayoutsServe }
+{}
+
+// What was gathered from a history tells the place of each message.
+pub fn places_gathered()
+    ensures { PlacesGathered }
 {}
