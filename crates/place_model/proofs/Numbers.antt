@@ -1,5 +1,5 @@
 -- A tag's number and its text tell each other.
-use Rattle.std.proofs.Common.{◌≡◌, ℕ, ◌^◌, ◌<◌, ◌==◌, List, Bool, true, false, if◌then◌else◌, refl, sym, ap, subst, ◌∙◌, Option, None, Some, option_and_then}
+use Rattle.std.proofs.Common.{◌≡◌, ℕ, ◌^◌, ◌<◌, List, Bool, true, false, if◌then◌else◌, refl, sym, ap, subst, ◌∙◌, Option, None, Some, option_and_then}
 use Rattle.std.specs.Int.{w128, from_be_bytes}
 use Rattle.std.specs.Str.{bytes_eq}
 use Rattle.std.proofs.lemmas.Slice.Eq.{bytes_eq-Decides}
@@ -9,7 +9,7 @@ use Rattle.envelope.proofs.TagTexts.{tag_of_text-tag_text}
 use Rattle.place_model.specs.EnvelopeTexts.{plain_setting}
 use Rattle.place_model.specs.GatheredLaws.{PlacesGathered}
 use Rattle.place_model.specs.Names.{Bytes, same}
-use Rattle.place_model.proofs.Basics.{eqb-refl, eqb_true, false_true, none_some, same-refl, same_true}
+use Rattle.place_model.proofs.Basics.{eqb-refl, eqb_true, false_true, same-refl, same_true}
 use Rattle.place_model.proofs.Gathers.{is_number}
 use Rattle.place_model.proofs.NameFaults.{both_ways}
 use Rattle.place_model.proofs.Whereabouts.{place_is}

@@ -3,7 +3,6 @@ use Rattle.std.proofs.Common.{◌≡◌, ℕ, zero, suc, ◌+◌, List, [], ◌�
 use Rattle.std.proofs.lemmas.Cmp.{nat_cmp_total}
 use Rattle.std.proofs.lemmas.Grind.{common_steps}
 use Rattle.std.specs.Ordering.{nat_cmp, eq_by_cmp, is_eq}
-use Rattle.std.specs.declared.cmp.Ordering.{Ordering}
 use Rattle.std.specs.FinMap.{FinMap, empty, entries, entries-from_sorted, entries_sorted, from_sorted, get, get-empty, get-entries, get-from_sorted, get-insert, insert, nat_cmp-IsAntisymmetric, same_map}
 use Rattle.std.specs.FinMap.Entries.{below_all, find, is_sorted}
 use Rattle.store_tables.proofs.Maps.{bytes_total, bytes_anti}
@@ -19,10 +18,10 @@ use Rattle.place_model.specs.Histories.{Client, History, World, after, new_clien
 use Rattle.place_model.specs.Names.{Bytes, same}
 use Rattle.place_model.specs.PlaceOf.{by_counts, first_place, first_with, if_any, list_place, or_else, pick, place_of}
 use Rattle.place_model.specs.Seen.{seen, tag_weight}
-use Rattle.place_model.specs.Setting.{Setting, is_queue}
+use Rattle.place_model.specs.Setting.{Setting}
 use Rattle.place_model.specs.declared.heard.Heard.{Heard}
 use Rattle.place_model.specs.declared.place.Place.{Place}
-use Rattle.place_model.specs.declared.place.Place.TheVariants.{List as InList, Unacked, Hand, Ended, Lost, Copies, Never}
+use Rattle.place_model.specs.declared.place.Place.TheVariants.{Unacked, Hand, Ended, Lost, Copies, Never}
 use Rattle.place_model.specs.declared.seat.Seat.{Seat}
 use Rattle.place_model.specs.declared.walk.Walk.{Walk}
 use Rattle.place_model.proofs.Gathers.{is_number, positive, positive-plus, positive-times}

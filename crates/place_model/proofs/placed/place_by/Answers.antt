@@ -1,4 +1,4 @@
-use Rattle.std.proofs.Common.{◌≡◌, IfOk, ap, sym, ◌∙◌, subst, true, false, if◌then◌else◌, nat_le}
+use Rattle.std.proofs.Common.{◌≡◌, IfOk, ap, sym, ◌∙◌, subst, if◌then◌else◌, nat_le}
 use Rattle.place_model.specs.Gathered.{has, single_place, times}
 use Rattle.place_model.specs.PlaceOf.{by_counts}
 use Rattle.place_model.proofs.Whereabouts.{never_pushed, pushed_copied, pushed_once}
