@@ -1,8 +1,10 @@
 //! A schedule: its lines, why one is bad, and what a schedule determines.
-ghost use Rattle.std.specs.Prelude.{None, position, ◌==◌, ◌≡◌, ◌≤◌};
+ghost use Rattle.std.specs.Prelude.{None, drop, length, position, ◌+◌, ◌<◌, ◌==◌, ◌≡◌, ◌≤◌};
 ghost use Rattle.std.specs.Str.{is_utf8};
+ghost use Rattle.celery_node.specs.Endings.{end_of};
 ghost use Rattle.celery_node.specs.Schedule.{end_of_input, line_fault, run_within, schedule_run, text_run};
 
+use crate::ending::End;
 use std::str;
 
 /// The most bytes of an input, 64 MiB.
@@ -36,6 +38,18 @@ pub enum Ran {
     Bad(u64, Reason),
 }
 
+impl Ran {
+    /// How a run over such a schedule ends.
+    pub fn end(self) -> End
+        ensures { result ≡ end_of self }
+    {
+        match self {
+            Ran::Done => End::Reported,
+            Ran::Bad(line, reason) => End::BadLine(line, reason),
+        }
+    }
+}
+
 /// What the bytes of a schedule determine. Of an input past the limit, one byte more than the limit is enough.
 pub fn run_schedule(bytes: &[u8]) -> Ran
     ensures { result ≡ schedule_run bytes.now }
@@ -64,7 +78,7 @@ fn run_text(text: &[u8], is_cut: bool) -> Ran
         if let Some(reason) = line_fault(number, &rest[..end]) {
             return Ran::Bad(number, reason);
         }
-        rest = &rest[end + 1..];
+        rest = after_line(rest, end);
         number += 1;
     }
     run_last(number, rest, is_cut)
@@ -106,6 +120,14 @@ fn line_feed(bytes: &[u8]) -> Option<usize>
     bytes.iter().position(|b| *b == b'\n')
 }
 
+/// What stands behind the line feed at this place.
+fn after_line(bytes: &[u8], end: usize) -> &[u8]
+    requires { end < length bytes.now }
+    ensures { result.now ≡ drop (end + 1) bytes.now }
+{
+    &bytes[end + 1..]
+}
+
 /// Why the line of this number is bad.
 fn line_fault(number: u64, line: &[u8]) -> Option<Reason>
     ensures { result ≡ line_fault number line.now }
@@ -127,5 +149,5 @@ fn line_fault(number: u64, line: &[u8]) -> Option<Reason>
 fn is_text(bytes: &[u8]) -> bool
     ensures { result ≡ is_utf8 bytes.now }
 {
-    str::from_utf8(bytes).is_ok()
+    matches!(str::from_utf8(bytes), Ok(_))
 }

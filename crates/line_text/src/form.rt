@@ -1,4 +1,6 @@
 //! The quoted form of bytes, and the forms of words and values over any form of bytes.
+//!
+//! Each call appends to a vector. Where memory ends amid a text, a part of it may have been appended.
 ghost use Rattle.std.specs.Prelude.{◌≡◌, ◌∷◌, ◌++◌, ◌<◌, List, OnOk, ℕ};
 ghost use Rattle.line_text.specs.Forms.{escaped, hex_digit, quoted, value_form, value_text, words_text};
 
@@ -28,8 +30,8 @@ impl Form for QuotedForm {
     }
 }
 
-/// Appends the quoted form of bytes: `"`, each byte from space to `~` as itself, `"` and `\` behind a `\`, each other
-/// byte as `\x` and two lower-case hexadecimal digits, and `"`.
+/// Appends the quoted form of bytes: `"`, each byte from space to `~` as itself, but `"` and `\` behind
+/// a `\`, each other byte as `\x` and two lower-case hexadecimal digits, and `"`.
 pub fn quoted(out: &mut Vec<u8>, bytes: &[u8]) -> Result<(), AllocError>
     ensures { OnOk result (out.new.items ≡ out.old.items ++ quoted bytes.now) }
 {
@@ -71,8 +73,8 @@ pub fn quoted_words(alloc: Global, out: &mut Vec<u8>, words: &[Bytes]) -> Result
     words_text(alloc, &QuotedForm, out, words)
 }
 
-/// Appends the value form: `+`, `-` or `$` and the quoted text, `:` and the integer, `$-`, `*-`, or `*[`, the items with
-/// a comma and a space between them, and `]`.
+/// Appends the value form: `+`, `-` or `$` and the quoted bytes, `:` and the integer, `$-`, `*-`, or
+/// `*[`, the items with a comma and a space between them, and `]`.
 pub fn value_form(alloc: Global, out: &mut Vec<u8>, value: &Value) -> Result<(), AllocError>
     ensures { OnOk result (out.new.items ≡ out.old.items ++ value_form value.now) }
 {
@@ -86,7 +88,8 @@ pub fn words_text<F: Form>(
     out: &mut Vec<u8>,
     words: &[Bytes],
 ) -> Result<(), AllocError>
-    ensures { OnOk result (out.new.items ≡ out.old.items ++ words_text (F.form form.now) words.now) }
+    ensures { OnOk result
+        (out.new.items ≡ out.old.items ++ words_text (F.form form.now) words.now) }
 {
     for word in words {
         form.write(alloc, out, word.as_slice())?;
@@ -102,7 +105,8 @@ pub fn value_text<F: Form>(
     out: &mut Vec<u8>,
     value: &Value,
 ) -> Result<(), AllocError>
-    ensures { OnOk result (out.new.items ≡ out.old.items ++ value_text (F.form form.now) value.now) }
+    ensures { OnOk result
+        (out.new.items ≡ out.old.items ++ value_text (F.form form.now) value.now) }
 {
     match value {
         Value::Status(text) => text_after(alloc, form, out, b'+', text.as_slice())?,

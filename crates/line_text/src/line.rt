@@ -79,9 +79,11 @@ fn line_feed(text: &[u8]) -> Option<usize>
     text.iter().position(|b| *b == b'\n')
 }
 
-/// The number of the line in which the byte at this index stands, from 1; a line feed stands in the line that it ends.
+/// The number of the line in which the byte at this index stands, from 1; a line feed stands in the
+/// line that it ends.
 ///
-/// Of an input that is too long, and was read up to one byte past its limit, the line at the limit is the bad one.
+/// Of an input that is too long, and was read up to one byte past its limit, the bad line is the one at
+/// the index that is the limit.
 pub fn line_number_at(text: &[u8], index: usize) -> u64
     requires { index ≤ length text.now }
     ensures { result ≡ line_number_at text.now index }
@@ -97,7 +99,7 @@ fn line_feeds(text: &[u8]) -> usize
     text.iter().filter(|b| **b == b'\n').count()
 }
 
-/// A line as text. It is `Long` where it has more bytes than the limit, and else `Text` where it isn't UTF-8.
+/// A line as text: `Long` where it has more bytes than the limit, else `Text` where it isn't UTF-8.
 pub fn line_text(limit: usize, line: &[u8]) -> Result<&str, Reason>
     ensures { MatchResult result
         (λ text. (text_fault limit line.now ≡ None) × (text.now ≡ line.now))

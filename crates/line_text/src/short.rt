@@ -1,4 +1,6 @@
 //! The short form of words and values, as a report has them.
+//!
+//! Each call appends to a vector. Where memory ends amid a text, a part of it may have been appended.
 ghost use Rattle.std.specs.Prelude.{◌≡◌, ◌++◌, List, OnOk, IfOk, ℕ};
 ghost use Rattle.std.specs.List.{list_all};
 ghost use Rattle.line_text.specs.Short.{is_bare, is_plain, shaped, short_value, short_word, short_words, star, tag_short};
@@ -41,15 +43,17 @@ pub trait Legend {
         ensures { IfOk result (λ found. found ≡ shape self.now bytes.now) };
 }
 
-/// Appends the short form of a word: `env(7:1)` or `entry(7:1)`, with a star after it where marked, `tag(7:1)`, the bare
-/// word where it has 1 to 255 bytes, all of them letters, digits or `_ . : / -`, and else the quoted form.
+/// Appends the short form of a word: `env(7:1)` or `entry(7:1)`, with a star after it where marked,
+/// `tag(7:1)`, the bare word where it has 1 to 255 bytes, all of them letters, digits or `_ . : / -`,
+/// and else the quoted form.
 pub fn short_word<L: Legend>(
     alloc: Global,
     legend: &L,
     out: &mut Vec<u8>,
     word: &[u8],
 ) -> Result<(), AllocError>
-    ensures { OnOk result (out.new.items ≡ out.old.items ++ short_word (L.shape legend.now) word.now) }
+    ensures { OnOk result
+        (out.new.items ≡ out.old.items ++ short_word (L.shape legend.now) word.now) }
 {
     let shape = legend.shape(alloc, word)?;
     shaped(alloc, out, shape, word)
@@ -62,7 +66,8 @@ pub fn short_words<L: Legend>(
     out: &mut Vec<u8>,
     words: &[Bytes],
 ) -> Result<(), AllocError>
-    ensures { OnOk result (out.new.items ≡ out.old.items ++ short_words (L.shape legend.now) words.now) }
+    ensures { OnOk result
+        (out.new.items ≡ out.old.items ++ short_words (L.shape legend.now) words.now) }
 {
     words_text(alloc, &ShortForm { legend }, out, words)
 }
@@ -74,7 +79,8 @@ pub fn short_value<L: Legend>(
     out: &mut Vec<u8>,
     value: &Value,
 ) -> Result<(), AllocError>
-    ensures { OnOk result (out.new.items ≡ out.old.items ++ short_value (L.shape legend.now) value.now) }
+    ensures { OnOk result
+        (out.new.items ≡ out.old.items ++ short_value (L.shape legend.now) value.now) }
 {
     value_text(alloc, &ShortForm { legend }, out, value)
 }

@@ -13,7 +13,8 @@ pub fn words<'a>(alloc: Global, line: &'a str) -> Result<Vec<&'a str>, AllocErro
     line.split(' ').collect(alloc)
 }
 
-/// The line after its first `count` words and the space after them, as it stands; None where it has no more words.
+/// The line after its first `count` words and the space after them, as it stands; None where it has no
+/// more words.
 ///
 /// An argument that may hold spaces, as JSON, is the rest of its line.
 pub fn rest_after(count: usize, line: &str) -> Option<&str>

@@ -1,6 +1,6 @@
 -- When a fault or an end may be answered: only where a count rose in that call.
 use Rattle.std.specs.Io.KnownBytes.{Appends}
-use Rattle.std.specs.Prelude.{IfOk, List, OnErr, OnOk, Option, Result, length, ℕ, ◌++◌, ◌<◌, ◌≡◌, ◌≤◌, ◌⊎◌}
+use Rattle.std.specs.Prelude.{IfOk, List, OnErr, OnOk, Option, Result, length, ℕ, ◌++◌, ◌<◌, ◌≡◌, ◌≤◌}
 use Rattle.links.specs.Counts.{raised}
 
 -- a count rose, or stands at the end of its type

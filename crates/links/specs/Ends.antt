@@ -11,6 +11,7 @@ pub record IsWhole (limit : ℕ) (before now : SourceView) (bytes : List ℕ) : 
   pub consumed : Consumes before.left now.left bytes
   pub end : IsAtEnd now.left
   pub told : Rose before.ends now.ends
+  pub later : before.ends ≤ now.ends
   pub within : length bytes ≤ limit
   pub kept : now.faults ≡ before.faults
 

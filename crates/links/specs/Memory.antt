@@ -1,5 +1,5 @@
 -- A source and a sink in memory, and what one call does to them.
-use Rattle.std.specs.Prelude.{Bool, List, drop, if◌then◌else◌, length, min, nat_eq, nat_lt, not, take, ℕ, ◌&&◌, ◌++◌, ◌-◌, ◌||◌, ◌≡◌, ◌≤◌}
+use Rattle.std.specs.Prelude.{Bool, List, drop, if◌then◌else◌, length, min, nat_eq, nat_lt, take, ℕ, ◌&&◌, ◌++◌, ◌-◌, ◌||◌}
 use Rattle.links.specs.Counts.{is_failing, raised}
 
 -- a source in memory: the bytes that are left, the longest piece, which calls fail, and its counts

@@ -1,10 +1,11 @@
 -- What the store knows of connections: watched keys and their marks, channels and pending messages.
-use Rattle.std.specs.Prelude.{ℕ, ◌+◌, Bool, false, not, ◌||◌, ◌&&◌, List, [], ◌∷◌, ◌++◌, map, filter, length, nat_lt, bytes_eq, Option, None, Some, if◌then◌else◌}
+use Rattle.std.specs.Prelude.{ℕ, ◌+◌, Bool, false, not, ◌||◌, ◌&&◌, List, [], ◌∷◌, ◌++◌, map, filter, count_by, length, nat_lt, bytes_eq, Option, None, Some, if◌then◌else◌}
 use Rattle.std.specs.List.{list_any}
 use Rattle.std.specs.Ordering.{nat_cmp}
 use Rattle.std.specs.FinMap.{FinMap, get, entries, from_entries}
 use Rattle.mini_store.specs.Words.{Bytes}
 use Rattle.mini_store.specs.Replies.{message}
+use Rattle.mini_store.specs.Keys.{Keys, is_due}
 use Rattle.mini_store.specs.Commands.{Around}
 use Rattle.mini_store.specs.declared.command.Command.{Command}
 use Rattle.mini_store.specs.declared.command.Command.TheVariants.{Publish}
@@ -43,14 +44,17 @@ touch ks c = record c { marked = c.marked || hit ks c.watched }
 unfoldable pub touched : List Bytes → Conns → Conns
 touched ks m = from_entries (map (λ e. (e.0, touch ks e.1)) (entries m))
 
+-- the connection after the keys that are due at this moment were dropped
+abbrev pub touch_due : ℕ → Keys → Conn → Conn
+touch_due at m c = record c { marked = c.marked || list_any (λ k. is_due at (get m k)) c.watched }
+
 -- a message on this channel reaches the connection: it is subscribed, and has fewer than 1,024 pending messages
 abbrev pub hears : Bytes → Conn → Bool
 hears channel c = list_any (bytes_eq channel) c.channels && nat_lt (length c.pending) 1024
 
 -- how many connections a message on this channel reaches
 abbrev pub hearing : Bytes → List (ℕ × Conn) → ℕ
-hearing channel [] = 0
-hearing channel (e ∷ es) = (if hears channel e.1 then 1 else 0) + hearing channel es
+hearing channel es = count_by (λ e. hears channel e.1) es
 
 -- what a command sees at this moment
 abbrev pub around : ℕ → Conns → Around

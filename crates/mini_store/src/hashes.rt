@@ -97,12 +97,7 @@ fn field_of(alloc: Global, hash: &Table<Bytes>, field: &Bytes) -> Result<Value, 
 }
 
 /// HGET.
-pub fn hget(
-    keys: &Keyspace,
-    alloc: Global,
-    key: &Bytes,
-    field: &Bytes,
-) -> Result<Value, AllocError>
+pub fn hget(keys: &Keyspace, alloc: Global, key: &Bytes, field: &Bytes) -> Result<Value, AllocError>
     ensures { IfOk result (λ v. v ≡ field_answer field.now (value_at keys.now key.now)) }
 {
     let Some(held) = keys.get(key) else {

@@ -1,8 +1,11 @@
 //! The keys with what they hold.
-ghost use Rattle.mini_store.specs.Keys.{put};
+ghost use Rattle.mini_store.specs.Keys.{is_due, is_over, live_at, put};
+ghost use Rattle.resp_wire.specs.Order.{bytes_cmp};
+ghost use Rattle.std.specs.BTreeMap.{IsOrdered};
 ghost use Rattle.std.specs.FinMap as map;
+ghost use Rattle.std.specs.List.{list_any};
 ghost use Rattle.std.specs.Option.{option_copied};
-ghost use Rattle.std.specs.Prelude.{◌≡◌, IfErr, IfOk, None, OnErr, OnOk, Some, if◌then◌else◌, is_some, nat_eq};
+ghost use Rattle.std.specs.Prelude.{◌≡◌, IfErr, IfOk, None, OnErr, OnOk, Some, filter, if◌then◌else◌, is_some, nat_eq, not};
 
 use crate::{Held, Stored};
 use resp_wire::Bytes;
@@ -10,6 +13,7 @@ use std::alloc::{AllocError, Global};
 use std::collections::BTreeMap;
 use std::marker::Model;
 use std::mem;
+use store_tables::Deque;
 
 /// The keys in byte order with what they hold, seen by contracts as a finite map.
 #[derive(Debug, Drop)]
@@ -103,4 +107,46 @@ impl Keyspace {
         }
         self.put(key, value)
     }
+}
+
+impl Keyspace {
+    /// Whether the key is present and its expiry is reached.
+    pub fn is_due(&self, key: &Bytes, at: u64) -> bool
+        ensures { result ≡ is_due at (map.get self.now key.now) }
+    {
+        let Some(held) = self.get(key) else {
+            return false;
+        };
+        is_over(at, held.expiry)
+    }
+
+    /// Whether one of the keys is present and its expiry is reached.
+    pub fn has_due(&self, keys: &Deque<Bytes>, at: u64) -> bool
+        ensures { result ≡ list_any (λ k. is_due at (map.get self.now k)) keys.now }
+    {
+        keys.iter().any(|key| self.is_due(key, at))
+    }
+
+    /// Drops each key whose expiry is reached.
+    pub fn drop_due(&mut self, at: u64)
+        ensures { self.new ≡ live_at at self.old }
+    {
+        drop_all_due(&mut self.kept, at);
+    }
+}
+
+fn is_over(at: u64, expiry: Option<u64>) -> bool
+    ensures { result ≡ is_over at expiry }
+{
+    match expiry {
+        Some(moment) => moment <= at,
+        None => false,
+    }
+}
+
+fn drop_all_due(kept: &mut BTreeMap<Bytes, Held>, at: u64)
+    ensures live { kept.new.entries ≡ filter (λ e. not (is_over at e.1.expiry)) kept.old.entries }
+    ensures ordered { IsOrdered bytes_cmp kept.old }
+{
+    kept.retain(|_, held| !is_over(at, held.expiry));
 }

@@ -6,17 +6,20 @@
 
 mod command;
 mod connection;
+mod conns;
 mod effect;
-mod held;
 mod hashes;
+mod held;
 mod integer;
 mod keyspace;
 mod laws;
 mod lists;
 mod members;
 mod reply;
+mod run;
 mod sets;
 mod sorted_sets;
+mod store;
 mod texts;
 mod words;
 

@@ -68,11 +68,7 @@ fn drop_all(
 }
 
 /// DEL.
-pub fn del(
-    keys: &mut Keyspace,
-    alloc: Global,
-    names: Deque<Bytes>,
-) -> Result<Effect, AllocError>
+pub fn del(keys: &mut Keyspace, alloc: Global, names: Deque<Bytes>) -> Result<Effect, AllocError>
     ensures { IfOk result (λ e. out keys.new e.altered e.answer ≡ (let r = dropped keys.old names in out r.0 r.1 (number (length r.1)))) }
 {
     let altered = drop_all(keys, alloc, names)?;

@@ -12,7 +12,11 @@ use store_tables::Deque;
 fn upper_byte(byte: u8) -> u8
     ensures { result ≡ upper_byte byte }
 {
-    if 97 <= byte && byte <= 122 { byte - 32 } else { byte }
+    if 97 <= byte && byte <= 122 {
+        byte - 32
+    } else {
+        byte
+    }
 }
 
 // The text in capital letters.
@@ -137,13 +141,23 @@ fn set_of(alloc: Global, args: &[Bytes]) -> Result<Command, AllocError>
             if option.as_slice() != b"EX".as_slice() {
                 return Ok(faulty(Fault::Syntax));
             }
-            Ok(lasting(key.copy(alloc)?, text.copy(alloc)?, false, seconds(life.as_slice())))
+            Ok(lasting(
+                key.copy(alloc)?,
+                text.copy(alloc)?,
+                false,
+                seconds(life.as_slice()),
+            ))
         }
         [key, text, first, second, life] => {
             if first.as_slice() != b"NX".as_slice() || second.as_slice() != b"EX".as_slice() {
                 return Ok(faulty(Fault::Syntax));
             }
-            Ok(lasting(key.copy(alloc)?, text.copy(alloc)?, true, seconds(life.as_slice())))
+            Ok(lasting(
+                key.copy(alloc)?,
+                text.copy(alloc)?,
+                true,
+                seconds(life.as_slice()),
+            ))
         }
         [] | [_] | [_, _, _, _, _, _, ..] => Ok(faulty(Fault::Arity)),
     }
@@ -248,11 +262,7 @@ fn limited(
 }
 
 // Commands on texts and on keys of any kind.
-fn key_command(
-    alloc: Global,
-    name: &[u8],
-    args: &[Bytes],
-) -> Result<Option<Command>, AllocError>
+fn key_command(alloc: Global, name: &[u8], args: &[Bytes]) -> Result<Option<Command>, AllocError>
     ensures { IfOk result (λ command. command ≡ key_command name.now args.now) }
 {
     if name == b"GET".as_slice() {
@@ -280,11 +290,7 @@ fn key_command(
 }
 
 // Commands on lists.
-fn list_command(
-    alloc: Global,
-    name: &[u8],
-    args: &[Bytes],
-) -> Result<Option<Command>, AllocError>
+fn list_command(alloc: Global, name: &[u8], args: &[Bytes]) -> Result<Option<Command>, AllocError>
     ensures { IfOk result (λ command. command ≡ list_command name.now args.now) }
 {
     if name == b"LPUSH".as_slice() {
@@ -318,11 +324,7 @@ fn list_command(
 }
 
 // Commands on sets.
-fn set_command(
-    alloc: Global,
-    name: &[u8],
-    args: &[Bytes],
-) -> Result<Option<Command>, AllocError>
+fn set_command(alloc: Global, name: &[u8], args: &[Bytes]) -> Result<Option<Command>, AllocError>
     ensures { IfOk result (λ command. command ≡ set_command name.now args.now) }
 {
     if name == b"SADD".as_slice() {
@@ -347,11 +349,7 @@ fn set_command(
 }
 
 // Commands on hashes.
-fn hash_command(
-    alloc: Global,
-    name: &[u8],
-    args: &[Bytes],
-) -> Result<Option<Command>, AllocError>
+fn hash_command(alloc: Global, name: &[u8], args: &[Bytes]) -> Result<Option<Command>, AllocError>
     ensures { IfOk result (λ command. command ≡ hash_command name.now args.now) }
 {
     if name == b"HSET".as_slice() {

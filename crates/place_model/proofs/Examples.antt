@@ -51,3 +51,18 @@ lookups = (refl, refl, refl)
 
 texts : (token 7 1 ≡ codes "7:1") × (difference 5 7 ≡ codes "-2") × (difference 7 5 ≡ codes "2")
 texts = (rw (decimal_digit 7 (omega arith), decimal_digit 1 (omega arith)) refl, rw (decimal_digit 2 (omega arith)) refl, rw (decimal_digit 2 (omega arith)) refl)
+
+-- one word and then any number of words
+star_and_hash : (matches (codes "a.*.#") (codes "a.b") ≡ true) × (matches (codes "a.*.#") (codes "a.b.c.d") ≡ true) × (matches (codes "a.*.#") (codes "a") ≡ false)
+    × (lookup (codes "a.b") (member (codes "x") (codes "a.*.#") (codes "q2") ∷ member (codes "y") (codes "#") (codes "q1") ∷ member (codes "x") (codes "a.*") (codes "q2") ∷ []) ≡ codes "q1" ∷ codes "q2" ∷ [])
+unfolding same matches binding_of
+star_and_hash = (refl, refl, refl, refl)
+
+-- two queues at the four steps: all queues at step 0 first
+steps_first : pop_keys plain (codes "a" ∷ codes "b" ∷ []) ≡ codes "a" ∷ codes "b" ∷ (codes "a" ++ (6 ∷ 22 ∷ 51 ∷ [])) ∷ (codes "b" ++ (6 ∷ 22 ∷ 51 ∷ [])) ∷ (codes "a" ++ (6 ∷ 22 ∷ 54 ∷ [])) ∷ (codes "b" ++ (6 ∷ 22 ∷ 54 ∷ [])) ∷ (codes "a" ++ (6 ∷ 22 ∷ 57 ∷ [])) ∷ (codes "b" ++ (6 ∷ 22 ∷ 57 ∷ [])) ∷ []
+steps_first = refl
+
+-- a prefix of letters, digits and _ . : -, and not - alone
+prefixes : (is_layout (record { prefix = codes "-"; steps = 0 ∷ [] }) ≡ false) × (is_layout (record { prefix = codes "a-b_c.d:1"; steps = 0 ∷ 9 ∷ [] }) ≡ true) × (is_layout (record { prefix = codes "a/b"; steps = 0 ∷ [] }) ≡ false)
+unfolding same
+prefixes = (refl, refl, refl)

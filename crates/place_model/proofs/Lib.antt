@@ -6,6 +6,7 @@ pub mod Steps
 pub mod Routes
 pub mod Texts
 pub mod Settings
+pub mod EnvelopeFacts
 pub mod Examples
 pub mod NameFaults
 pub mod Cuts

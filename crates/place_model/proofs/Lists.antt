@@ -1,5 +1,5 @@
 -- Lists of keys of queues.
-use Rattle.std.proofs.Common.{◌≡◌, inl, inr, ℕ, List, [], ◌∷◌, ◌++◌, Bool, true, refl}
+use Rattle.std.proofs.Common.{length, ap, suc, ◌*◌, arith, length-append, ◌≡◌, inl, inr, ℕ, List, [], ◌∷◌, ◌++◌, Bool, true, refl}
 use Rattle.place_model.specs.Names.{Bytes, is_name}
 use Rattle.place_model.specs.Layouts.{Layout, HasStep}
 use Rattle.place_model.specs.QueueKeys.{queue_key, is_queue_key, Each, IsAway, Differ, keys_at, keys_by, pop_keys}
@@ -29,3 +29,19 @@ away_at l s q (x ∷ qs) h n e a = (λ i. a.0 (key_parts l q s x s n e.0 h h i).
 pub at_differ : (l : Layout) (s : ℕ) (qs : List Bytes) → HasStep l.steps s → Each is_name qs → Differ qs → Differ (keys_at l s qs)
 at_differ l s [] h e d = tt
 at_differ l s (q ∷ qs) h e d = (away_at l s q qs h e.0 e.1 d.0, at_differ l s qs h e.1 d.1)
+
+length-keys_at : (l : Layout) (s : ℕ) (qs : List Bytes) → length (keys_at l s qs) ≡ length qs
+length-keys_at l s [] = refl
+length-keys_at l s (q ∷ qs) = ap (λ n. suc n) (length-keys_at l s qs)
+
+length-keys_by : (l : Layout) (ss : List ℕ) (qs : List Bytes) → length (keys_by l ss qs) ≡ length ss * length qs
+length-keys_by l [] qs = omega arith
+length-keys_by l (s ∷ ss) qs =
+    let a = length-append (keys_at l s qs) (keys_by l ss qs) in
+    let b = length-keys_at l s qs in
+    let c = length-keys_by l ss qs in
+    omega (arith, a, b, c)
+
+-- a pop has a key for each of its queues at each step
+pub length-pop_keys : (l : Layout) (qs : List Bytes) → length (pop_keys l qs) ≡ length l.steps * length qs
+length-pop_keys l qs = length-keys_by l l.steps qs

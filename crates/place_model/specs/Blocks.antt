@@ -56,7 +56,7 @@ pub data IsBlock (σ : Setting) (s n p : ℕ) : Kind → List Call → Type 0 wh
   Pop : (names : List Bytes) (l : List Call) → IsPopBlock σ names l → IsBlock σ s n p Other l
   End : (t : Bytes) (l : List Call) → IsEndBlock σ t l → IsBlock σ s n p Other l
   Return : (t : Bytes) (side : Side) (end : ReturnEnd) (l : List Call) → IsReturnBlock σ t side end l → IsBlock σ s n p Other l
-  Pass : (v : ℕ) (end : PassEnd) (l : List Call) → v < 2 ^ 64 → IsPassBlock σ (token s (suc p)) v end l → IsBlock σ s n p Passing l
+  Pass : (v : ℕ) (end : PassEnd) (l : List Call) → v < 2 ^ 32 → IsPassBlock σ (token s (suc p)) v end l → IsBlock σ s n p Passing l
   Neutral : (words : Words) (l : List Call) → IsNeutralBlock σ words l → IsBlock σ s n p Other l
 
 -- the blocks of a client, one after the other, with its counters

@@ -8,7 +8,7 @@ use Rattle.envelope.specs.Envelopes.{envelope_at, parts_in, priority_of}
 use Rattle.envelope.specs.Tags.{is_tag, tag}
 use Rattle.place_model.specs.Names.{Bytes}
 use Rattle.place_model.specs.Layouts.{plain}
-use Rattle.place_model.specs.Setting.{Setting, Texts, Way, setting_of}
+use Rattle.place_model.specs.Setting.{IsTexts, Setting, Texts, Way, setting_of}
 
 -- where an envelope's tree goes
 abbrev pub way_said : Data → Way
@@ -43,3 +43,7 @@ texts = record {
 -- the keys without a prefix and the four steps of Kombu, with these texts
 abbrev pub plain_setting : Setting
 plain_setting = setting_of plain texts
+
+-- the texts keep the facts that the proofs need
+abbrev pub EnvelopesServe : Type 0
+EnvelopesServe = IsTexts texts

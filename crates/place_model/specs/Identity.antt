@@ -16,9 +16,9 @@ use Rattle.place_model.specs.Counts.{entry_at}
 use Rattle.place_model.specs.Starts.{elements_at}
 
 -- an envelope with this tag, which is b but for its two marks, stands in the list of a queue or in the table
-pub data Stands (σ : Setting) (m : Keys) (t b : Bytes) : Type 0 where
-  In_a_list : (k v : Bytes) → is_queue σ k ≡ true → Among v (elements_at m k) → σ.tag_of v ≡ Some t → σ.body_of v ≡ b → Stands σ m t b
-  In_the_table : (u : Bytes) → entry_at σ m t ≡ Some u → σ.body_in u ≡ b → Stands σ m t b
+pub data HasEnvelope (σ : Setting) (m : Keys) (t b : Bytes) : Type 0 where
+  In_a_list : (k v : Bytes) → is_queue σ k ≡ true → Among v (elements_at m k) → σ.tag_of v ≡ Some t → σ.body_of v ≡ b → HasEnvelope σ m t b
+  In_the_table : (u : Bytes) → entry_at σ m t ≡ Some u → σ.body_in u ≡ b → HasEnvelope σ m t b
 
 -- the call published it
 pub record IsPush (σ : Setting) (t b : Bytes) (command : Command) (answer : Value) : Type 0 where
@@ -42,4 +42,4 @@ IsPublished σ w t b = (c : ℕ) × (cl : Client) × (get w.clients c ≡ Some c
 
 -- it stood in the start, or a client published it
 abbrev pub HasOrigin : {N : Type 0} → Setting → History N → Bytes → Bytes → Type 0
-HasOrigin σ h t b = Stands σ h.start t b ⊎ IsPublished σ (after h) t b
+HasOrigin σ h t b = HasEnvelope σ h.start t b ⊎ IsPublished σ (after h) t b

@@ -1,5 +1,5 @@
 -- What holds of keys, lookups and tokens.
-use Rattle.std.specs.Prelude.{◌≡◌, ℕ, ◌^◌, ◌<◌, true, false, List, Some}
+use Rattle.std.specs.Prelude.{length, ◌*◌, ◌≡◌, ℕ, ◌^◌, ◌<◌, true, false, List, Some}
 use Rattle.place_model.specs.Names.{Bytes, same, all_free, is_name}
 use Rattle.place_model.specs.Layouts.{Layout, is_layout, HasStep, step_of}
 use Rattle.place_model.specs.QueueKeys.{queue_key, unacked_key, index_key, mutex_key, binding_key, split_key, is_queue_key, is_reply_key, pop_keys, Each, Differ}
@@ -31,6 +31,10 @@ OthersApart = (l : Layout) → (is_queue_key l (unacked_key l) ≡ false) × (is
 -- the keys of a pop are queues'
 abbrev pub PopsTell : Type 0
 PopsTell = (l : Layout) (qs : List Bytes) → Each is_name qs → Each (is_queue_key l) (pop_keys l qs)
+
+-- a pop has a key for each of its queues at each step: with four steps, 1,023 queues have 4,092 keys
+abbrev pub PopsCount : Type 0
+PopsCount = (l : Layout) (qs : List Bytes) → length (pop_keys l qs) ≡ length l.steps * length qs
 
 -- a priority has a step of a lawful layout
 abbrev pub StepsTell : Type 0

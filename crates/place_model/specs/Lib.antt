@@ -24,9 +24,9 @@ pub mod Identity
 pub mod Passes
 pub mod SettingLaws
 pub mod Scripts
+pub mod EnvelopeTexts
 pub mod NameFaults
 pub mod Shown
-pub mod EnvelopeTexts
 pub mod Accepted
 pub mod Gathered
 pub mod GatheredLaws

@@ -1,5 +1,5 @@
 -- What a pass reads, and what becomes of it.
-use Rattle.std.specs.Prelude.{◌≡◌, ℕ, ◌+◌, ℤ, List, [], ◌∷◌, Option, Some}
+use Rattle.std.specs.Prelude.{nat_le, ◌-◌, pos, negsuc, if◌then◌else◌, ◌≡◌, ℕ, ◌+◌, ℤ, List, [], ◌∷◌, Option, Some, ◌<◌, ◌^◌, length}
 use Rattle.mini_store.specs.Keys.{value_at}
 use Rattle.mini_store.specs.Store.{settled}
 use Rattle.mini_store.specs.SortedSets.{ranks}
@@ -9,7 +9,8 @@ use Rattle.place_model.specs.Names.{Bytes}
 use Rattle.place_model.specs.Setting.{Setting}
 use Rattle.place_model.specs.ReturnBlocks.{ReturnEnd, Moved, Gone, Stayed}
 use Rattle.place_model.specs.PassBlocks.{tags_among}
-use Rattle.place_model.specs.Histories.{World}
+use Rattle.place_model.specs.Histories.{World, History, IsHistoryPrefix, after}
+use Rattle.place_model.specs.Calls.{Call}
 
 -- the members with scores between these bounds of what stands at a key, the highest first
 abbrev pub ranks_of : ℤ → ℤ → ℕ → ℕ → Option Stored → List Bytes
@@ -21,7 +22,15 @@ pub record ReadsTags (σ : Setting) (w : World) (at : ℕ) (high low : ℤ) (ski
   pub members : ms ≡ ranks_of high low skip most (value_at (settled w.store at).keys σ.index)
   pub tags : tags_among σ ms ≡ ms
 
--- how many returns ended so
+-- a number less another
+abbrev pub less : ℕ → ℕ → ℤ
+less a b = if nat_le b a then pos (a - b) else negsuc (b - a - 1)
+
+-- the ten oldest messages of the table that were taken at least v seconds before this moment, the youngest of them first
+abbrev pub due_members : Setting → World → ℕ → ℕ → List Bytes
+due_members σ w at v = ranks_of (less at v) (pos 0) 0 10 (value_at (settled w.store at).keys σ.index)
+
+-- how many returns moved their message
 abbrev pub moved_count : List ReturnEnd → ℕ
 moved_count [] = 0
 moved_count (Moved ∷ ends) = 1 + moved_count ends
@@ -38,3 +47,15 @@ abbrev pub stayed_count : List ReturnEnd → ℕ
 stayed_count [] = 0
 stayed_count (Stayed ∷ ends) = 1 + stayed_count ends
 stayed_count (other ∷ ends) = stayed_count ends
+
+-- the calls came before the moment 2 ^ 63, so that their moments are integers of 64 bits
+abbrev pub AreEarly : List Call → Type 0
+AreEarly [] = Unit {0}
+AreEarly (x ∷ xs) = (x.at < 2 ^ 63) × AreEarly xs
+
+-- the ends of a pass's returns account for what it read: at some moment after a prefix of the history it read the due messages, and its returns moved each of them, found it gone, or let it stay
+pub record AccountsForAll {N : Type 0} (σ : Setting) (h : History N) (v : ℕ) (ends : List ReturnEnd) : Type 0 where
+  pub before : History N
+  pub is_before : IsHistoryPrefix before h
+  pub at : ℕ
+  pub counted : moved_count ends + gone_count ends + stayed_count ends ≡ length (due_members σ (after before) at v)

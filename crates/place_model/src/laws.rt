@@ -1,5 +1,6 @@
 //! What the definitions of keys, lookups and tokens keep, for every key layout.
-ghost use Rattle.place_model.specs.KeyLaws.{KeyTells, SplitTells, OnlyKeysSplit, OthersApart, PopsTell, StepsTell, RoutesTell, MembersTell, TokenTells};
+ghost use Rattle.place_model.specs.KeyLaws.{KeyTells, SplitTells, OnlyKeysSplit, OthersApart, PopsCount, PopsTell, StepsTell, RoutesTell, MembersTell, TokenTells};
+ghost use Rattle.place_model.specs.EnvelopeTexts.{EnvelopesServe};
 ghost use Rattle.place_model.specs.GatheredLaws.{PlacesGathered};
 ghost use Rattle.place_model.specs.SettingLaws.{LayoutsServe};
 
@@ -15,9 +16,10 @@ pub fn others_apart()
     ensures { OthersApart }
 {}
 
-// The keys of a pop are queues', and each priority has a step.
+// The keys of a pop are queues', one for each queue at each step, and each priority has a step.
 pub fn pops()
     ensures keys { PopsTell }
+    ensures count { PopsCount }
     ensures steps { StepsTell }
 {}
 
@@ -32,9 +34,10 @@ pub fn tokens()
     ensures { TokenTells }
 {}
 
-// With texts that keep their facts, each lawful layout gives a lawful setting.
+// With texts that keep their facts, each lawful layout gives a lawful setting, and the texts of envelopes keep them.
 pub fn layouts_serve()
-    ensures { LayoutsServe }
+    ensures layouts { LayoutsServe }
+    ensures envelopes { EnvelopesServe }
 {}
 
 // What was gathered from a history tells the place of each message.

@@ -1,6 +1,6 @@
 -- What each step of the machine does.
 use Rattle.std.proofs.Common.{◌++◌, Bool, List, None, Option, Some, [], ap, arith, cond, false, inl, inr, is_some, length, nat_lt, pos, refl, subst, sym, true, unwrap_or, ℕ, ℤ, ◌∙◌, ◌∷◌, ◌≡◌, ◌⊎◌}
-use Rattle.std.specs.FinMap.{get, insert, keys}
+use Rattle.std.specs.FinMap.{get, insert}
 use Rattle.resp_wire.specs.declared.value.Value.{Value}
 use Rattle.resp_wire.specs.declared.value.Value.TheVariants.{Array, Bulk, Error, NullArray, Status}
 use Rattle.mini_store.specs.Commands.{Around, is_queued, run}
@@ -15,12 +15,12 @@ use Rattle.mini_store.specs.declared.connection.Conn.{Conn}
 use Rattle.mini_store.specs.declared.connection.Queue.{Queue}
 use Rattle.mini_store.specs.declared.held.Stored.{Stored}
 use Rattle.mini_store.specs.declared.held.Stored.TheVariants.{Hash}
-use Rattle.store_laws.proofs.Changes.{Brpopped, brpop_done, held, lpush_done}
+use Rattle.store_laws.proofs.Changes.{Brpopped, brpop_done, lpush_done}
 use Rattle.store_laws.proofs.Connections.{run_one_conns}
 use Rattle.store_laws.proofs.Law.{ToldBy, framed}
 use Rattle.place_model.specs.Answers.{items_of, number_of, pair_of}
 use Rattle.place_model.specs.Counts.{count, entry_at, field_of, is_field}
-use Rattle.place_model.specs.Names.{Bytes, same}
+use Rattle.place_model.specs.Names.{Bytes}
 use Rattle.place_model.specs.Returns.{push_commands, take_out}
 use Rattle.place_model.specs.Seen.{Seen, asked_by, hand_by, hand_from, push_with, ran_with, seen, seen_by, since_by, tag_list, tag_weight}
 use Rattle.place_model.specs.Setting.{is_queue}
@@ -49,6 +49,7 @@ field_is t u None e = absurd (cc e)
 field_is t u (Some (Hash h)) e = bulk_is u (get h t) e
 field_is t u (Some other) e = absurd (cc e)
 
+-- such a command runs at once
 pub aside_plain : (at : ℕ) (s : State) (c : ℕ) (cn : Conn) (cm : Command) → is_aside cm ≡ true → plain at s c cn cm ≡ run_one at s cm
 aside_plain at s c cn Multi h = absurd (cc h)
 aside_plain at s c cn (Watch ks) h = absurd (cc h)
@@ -57,6 +58,7 @@ aside_plain at s c cn (Subscribe x) h = absurd (cc h)
 aside_plain at s c cn (Unsubscribe x) h = absurd (cc h)
 aside_plain at s c cn other h = refl
 
+-- a command that may be queued is, where there is room
 pub queued_inside : (at : ℕ) (s : State) (c : ℕ) (cn : Conn) (q : Queue) (cm : Command) → is_queued cm ≡ true → inside at s c cn q cm ≡ to_queue s c cn q cm true (nat_lt (length q.commands) 4096)
 queued_inside at s c cn q Exec h = absurd (cc h)
 queued_inside at s c cn q Discard h = absurd (cc h)
@@ -108,6 +110,7 @@ pub record Ready (σ : Full) (s : State) (c : ℕ) (sn : Seen) (cur : Cursor) (b
   pub talk_ok : (ch ≡ []) ⊎ (cur ≡ Idle)
   pub is : SeenIs cur sn
 
+-- the same as where the client stands
 abbrev pub stands_of : (σ : Full) (s : State) (c : ℕ) (sn : Seen) (cur : Cursor) (b : Bool) (ch : List Bytes) (ms : List Value) → Ready σ s c sn cur b ch ms → Stands σ s c cur sn
 stands_of σ s c sn cur b ch ms ok = record { marked = b; channels = ch; pending = ms; mine = ok.mine; mark_ok = ok.mark_ok; talk_ok = ok.talk_ok; is = ok.is }
 
@@ -178,6 +181,7 @@ module _ (σ : Full) (at : ℕ) (s : State) (c : ℕ) (sn : Seen) (kinds : Kinds
 
   -- ---- EXEC
 
+  -- the call is safe, whatever is answered
   abbrev pub SafeGoal : Cursor → Bool → List Bytes → List Value → Command → Value → Type 0
   SafeGoal from b ch ms cm reply = reply ≡ (serve at s c cm (conn_in from b ch ms)).1 → Safe σ s (serve at s c cm (conn_in from b ch ms)).0 c sn cm reply
 
@@ -270,6 +274,7 @@ module _ (σ : Full) (at : ℕ) (s : State) (c : ℕ) (sn : Seen) (kinds : Kinds
 
   -- ---- where the client then stands
 
+  -- the client then stands here
   abbrev pub StandsGoal : Cursor → Bool → List Bytes → List Value → Command → Value → Cursor → Type 0
   StandsGoal from b ch ms cm reply to = reply ≡ (serve at s c cm (conn_in from b ch ms)).1 → Stands σ (serve at s c cm (conn_in from b ch ms)).0 c to (seen_by σ.names sn cm reply)
 

@@ -10,10 +10,12 @@ use Rattle.place_model.specs.QueueKeys.{Each}
 use Rattle.place_model.specs.Seen.{tag_weight}
 use Rattle.place_model.specs.Setting.{IsLawful, Setting, is_queue}
 
+-- a setting, and that it is lawful
 pub record Full : Type 0 where
   pub names : Setting
   pub laws : IsLawful names
 
+-- the table and its index have different keys
 pub tables_apart : (σ : Full) → bytes_eq σ.names.unacked σ.names.index ≡ false
 unfolding same
 tables_apart σ = σ.laws.apart

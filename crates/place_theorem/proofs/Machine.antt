@@ -3,9 +3,9 @@ use Rattle.std.proofs.Common.{◌≡◌, ◌⊎◌, ℕ, suc, ◌<◌, ◌^◌, 
 use Rattle.std.specs.Prelude.{ℤ, pos}
 use Rattle.std.proofs.lemmas.List.{append-nil}
 use Rattle.resp_wire.specs.declared.value.Value.{Value}
-use Rattle.resp_wire.specs.declared.value.Value.TheVariants.{Integer, Bulk, NullBulk, Array, NullArray}
+use Rattle.resp_wire.specs.declared.value.Value.TheVariants.{Integer, Bulk, Array, NullArray}
 use Rattle.mini_store.specs.Integers.{integer_of, natural_of, seconds_of}
-use Rattle.mini_store.specs.Words.{Words, command_of, front, final, brpop_of, brpop_until, expire_of, range_of, zadd_of, faulty}
+use Rattle.mini_store.specs.Words.{Words, command_of, front, final, brpop_of, brpop_until, expire_of, range_of, zadd_of}
 use Rattle.mini_store.specs.Replies.{done, queued, pair, bulks}
 use Rattle.mini_store.specs.Commands.{is_queued}
 use Rattle.mini_store.specs.declared.command.Command.{Command}
@@ -13,9 +13,8 @@ use Rattle.mini_store.specs.declared.command.Command.TheVariants.{Lpush, Brpop, 
 use Rattle.store_laws.proofs.Law.{altering}
 use Rattle.place_model.specs.Names.{Bytes}
 use Rattle.place_model.specs.Texts.{difference, token}
-use Rattle.place_model.specs.QueueKeys.{Each}
 use Rattle.place_model.specs.Answers.{integers}
-use Rattle.place_model.specs.Setting.{Setting, is_queue, IsApart}
+use Rattle.place_model.specs.Setting.{is_queue, IsApart}
 use Rattle.place_model.specs.Calls.{Call, call, push_word, concat}
 use Rattle.place_model.specs.RouteBlocks.{IsDeclareBlock, Told, direct_calls, direct_keys, IsPublishBlock, Plain, Named, IsShortPublish, Asked}
 use Rattle.place_model.specs.TakeBlocks.{IsPop, brpop_words, IsPopBlock, Empty, Unreadable, Popped, IsEndBlock, Acknowledged}
@@ -28,10 +27,12 @@ use Rattle.place_model.specs.declared.block.Side.TheVariants.{Left, Right}
 use Rattle.place_theorem.proofs.Full.{Full, QueueKeys}
 use Rattle.place_theorem.proofs.Numerals.{integer_of-decimal}
 
+-- no place is read from any of these keys
 abbrev pub AllApart : Full → List Bytes → Type 0
 AllApart σ [] = Unit {0}
 AllApart σ (k ∷ ks) = IsApart σ.names k × AllApart σ ks
 
+-- commands that change nothing but their own keys, outside a transaction
 abbrev pub is_aside : Command → Bool
 is_aside (Lpush k vs) = true
 is_aside (Brpop ks) = true
@@ -54,6 +55,7 @@ is_aside other = false
 abbrev pub IsAside : Full → Command → Type 0
 IsAside σ c = AllApart σ (altering c) × (is_aside c ≡ true)
 
+-- commands on channels
 abbrev pub IsTalk : Command → Type 0
 IsTalk (Subscribe c) = Unit {0}
 IsTalk (Unsubscribe c) = Unit {0}
@@ -72,9 +74,11 @@ pub data Cursor : Type 0 where
   At : Option (List Command) → List Bytes → Option (Bytes × Bytes) → Option (Bytes × Bytes × Option Value) → Cursor
   Halted : Cursor
 
+-- between blocks
 abbrev pub Idle : Cursor
 Idle = At None [] None None
 
+-- one command with its reply
 pub data Step (σ : Full) : Cursor → Command → Value → Cursor → Type 0 where
   Passes_by : (w : List Bytes) (h : Option (Bytes × Bytes)) (c : Command) (x : Value) → IsAside σ c → Step σ (At None w h None) c x (At None w h None)
   Asks : (t u k : Bytes) (x : Value) → Step σ (At None (σ.names.unacked ∷ []) None (Some (t, u, None))) (Smembers k) x (At None (σ.names.unacked ∷ []) None (Some (t, u, Some x)))
@@ -93,10 +97,12 @@ pub data Step (σ : Full) : Cursor → Command → Value → Cursor → Type 0 w
   -- a reply that isn't listed: nothing follows it
   Refuses : (from to : Cursor) (c : Command) (listed reply : Value) → Step σ from c listed to → Step σ from c reply Halted
 
+-- all replies so far were listed
 abbrev pub Live : Cursor → Type 0
 Live Halted = ⊥
 Live other = Unit {0}
 
+-- nothing follows a reply that isn't listed
 pub step_live : (σ : Full) (from to : Cursor) (c : Command) (reply : Value) → Step σ from c reply to → Live from
 step_live σ from to c reply (Passes_by w h cm x a) = tt
 step_live σ from to c reply (Asks t u k x) = tt
@@ -114,14 +120,17 @@ step_live σ from to c reply (Reads t u) = tt
 step_live σ from to c reply (Leaves w r) = tt
 step_live σ from to c reply (Refuses f g cm listed x st) = step_live σ f g cm listed st
 
+-- calls in a row
 abbrev pub Runs : Full → Cursor → List Call → Cursor → Type 0
 Runs σ a [] b = a ≡ b
 Runs σ a (x ∷ xs) b = (mid : Cursor) × Step σ a (command_of x.words) x.answer mid × Runs σ mid xs b
 
+-- a run is parted where its calls are
 pub runs_split : (σ : Full) (a b : Cursor) (xs ys : List Call) → Runs σ a (xs ++ ys) b → (mid : Cursor) × Runs σ a xs mid × Runs σ mid ys b
 runs_split σ a b [] ys r = (a, refl, r)
 runs_split σ a b (x ∷ xs) ys r = let s = runs_split σ r.0 b xs ys r.2 in (s.0, (r.0, r.1, s.1), s.2)
 
+-- and joined
 pub runs_join : (σ : Full) (a b c : Cursor) (xs ys : List Call) → Runs σ a xs b → Runs σ b ys c → Runs σ a (xs ++ ys) c
 runs_join σ a b c [] ys r s = subst (λ x. Runs σ x ys c) (sym r) s
 runs_join σ a b c (x ∷ xs) ys r s = (r.0, r.1, runs_join σ r.0 b c xs ys r.2 s)
@@ -141,6 +150,7 @@ brpop_of-push k [] w = refl
 brpop_of-push k (x ∷ []) w = refl
 brpop_of-push k (x ∷ y ∷ ks) w = λ i. brpop_until (k ∷ front-push y ks x w i) (natural_of (final-push ks y w i))
 
+-- BRPOP with a time of one second
 pub reads_brpop : (k : Bytes) (ks : List Bytes) → command_of (brpop_words k ks) ≡ Brpop (k ∷ ks)
 unfolding command_of
 reads_brpop k ks = brpop_of-push k ks (codes "1")

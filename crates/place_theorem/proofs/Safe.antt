@@ -23,7 +23,6 @@ use Rattle.store_laws.proofs.Maps.{weight}
 use Rattle.store_laws.specs.Laws.{IsTouched}
 use Rattle.place_model.specs.Answers.{number_of, pair_of}
 use Rattle.place_model.specs.Counts.{copy_one, count, end_one, entry_at, field_of, has_field, has_member, in_held, in_value, list_count, sum_of, table_count}
-use Rattle.place_model.specs.Histories.{table}
 use Rattle.place_model.specs.Names.{Bytes, same}
 use Rattle.place_model.specs.QueueKeys.{IsAway}
 use Rattle.place_model.specs.Seen.{Seen, hand_by, hand_from, push_by, push_with, ran_by, seen, seen_by, tag_list, tag_weight}
@@ -36,34 +35,42 @@ use Rattle.store_tables.proofs.Maps.{bytes_anti, bytes_total}
 
 -- ---- where a client stands
 
+-- a whole queue with these commands
 abbrev pub queue_of : Option (List Command) → Option Queue
 queue_of None = None
 queue_of (Some cs) = Some (record { commands = cs; broken = false })
 
+-- the queue at a cursor
 abbrev pub queue_in : Cursor → Option Queue
 queue_in (At q w h r) = queue_of q
 queue_in Halted = None
 
+-- the watched keys there
 abbrev pub watched_in : Cursor → List Bytes
 watched_in (At q w h r) = w
 watched_in Halted = []
 
+-- the tag of what is in hand
 abbrev pub tag_held : Option (Bytes × Bytes) → Option Bytes
 tag_held None = None
 tag_held (Some h) = Some h.0
 
+-- the tag in hand at a cursor
 abbrev pub hand_in : Cursor → Option Bytes
 hand_in (At q w h r) = tag_held h
 hand_in Halted = None
 
+-- what is in hand there
 abbrev pub held_in : Cursor → Option (Bytes × Bytes)
 held_in (At q w h r) = h
 held_in Halted = None
 
+-- what was read there
 abbrev pub read_in : Cursor → Option (Bytes × Bytes × Option Value)
 read_in (At q w h r) = r
 read_in Halted = None
 
+-- the connection there, with its mark, channels and pending messages
 abbrev pub conn_in : Cursor → Bool → List Bytes → List Value → Conn
 conn_in cur b ch ms = record { queue = queue_in cur; watched = watched_in cur; marked = b; channels = ch; pending = ms }
 
@@ -88,6 +95,7 @@ AskedIs None x = Unit {0}
 AskedIs (Some (t, u, None)) x = Unit {0}
 AskedIs (Some (t, u, Some a)) x = x ≡ a
 
+-- what is read off the calls is what the cursor says
 pub record SeenIs (cur : Cursor) (sn : Seen) : Type 0 where
   pub hand : sn.hand ≡ hand_in cur
   pub since : SinceIs (queue_in cur) sn.since
@@ -105,9 +113,11 @@ pub record Stands (σ : Full) (s : State) (c : ℕ) (cur : Cursor) (sn : Seen) :
 
 -- ---- what a call leaves
 
+-- how often a tag stands in lists
 abbrev pub lists_of : Full → Keys → Bytes → ℕ
 lists_of σ m t = list_count σ.names m t
 
+-- 1 where it is in the table
 abbrev pub table_of : Full → Keys → Bytes → ℕ
 table_of σ m t = table_count σ.names m t
 
@@ -122,6 +132,7 @@ pub record Safe (σ : Full) (s s' : State) (c : ℕ) (sn : Seen) (cm : Command) 
       → lists_of σ s'.keys t + table_of σ s'.keys t + tag_weight t (hand_by σ.names sn.hand cm reply) + sum_of (end_one σ.names t) (ran_by sn.since cm reply)
       ≡ lists_of σ s.keys t + table_of σ s.keys t + tag_weight t sn.hand + count t (push_by σ.names cm reply)
 
+-- the call is safe, and its client lands where the machine says
 pub record Effect (σ : Full) (s s' : State) (c : ℕ) (to : Cursor) (sn : Seen) (cm : Command) (reply : Value) : Type 0 where
   pub safe : Safe σ s s' c sn cm reply
   pub lands : Live to → Stands σ s' c to (seen_by σ.names sn cm reply)
@@ -150,6 +161,7 @@ read_kept σ (Some r) w m m' b ks told ok = (ok.0, λ not_yet. go told not_yet)
     go (inl h) not_yet = let z : hit ks (σ.names.unacked ∷ []) ≡ false = subst (λ x. hit ks x ≡ false) ok.0 (or_right_false b _ not_yet) in absurd (cc (h, z))
     go (inr e) not_yet = ap (λ o. field_of (value_of o) r.0) e ∙ ok.1 (or_left_false b _ not_yet)
 
+-- marks stay right where keys are altered
 pub mark_kept : (σ : Full) (cur : Cursor) (m m' : Keys) (b : Bool) (ks : List Bytes) → ToldBy m σ.names.unacked ks m' → MarkOk σ cur m b → MarkOk σ cur m' (b || hit ks (watched_in cur))
 mark_kept σ cur m m' b ks told ok = record {
   free = λ e. (λ i. ok.free e i || hit ks (e i)) ∙ hit_none ks;
@@ -160,7 +172,7 @@ mark_kept σ cur m m' b ks told ok = record {
 pub touched_is : (cur : Cursor) (ks : List Bytes) (b : Bool) (ch : List Bytes) (ms : List Value) (cn cn' : Conn) → cn ≡ conn_in cur b ch ms → IsTouched ks cn cn' → cn' ≡ conn_in cur (b || hit ks (watched_in cur)) ch cn'.pending
 touched_is cur ks b ch ms cn cn' e t =
     conn_is cn' (queue_in cur) (watched_in cur) (b || hit ks (watched_in cur)) ch
-        (t.queue ∙ ap (λ x. x.queue) e) (t.watched ∙ ap (λ x. x.watched) e) (t.marked ∙ ap (λ x. x.marked || hit ks x.watched) e) (t.channels ∙ ap (λ x. x.channels) e)
+    (t.queue ∙ ap (λ x. x.queue) e) (t.watched ∙ ap (λ x. x.watched) e) (t.marked ∙ ap (λ x. x.marked || hit ks x.watched) e) (t.channels ∙ ap (λ x. x.channels) e)
 
 -- who isn't the caller, or is and only has its mark touched
 abbrev pub touched_stands : (σ : Full) (s s' : State) (ks : List Bytes) (d : ℕ) (cur : Cursor) (sn sn' : Seen) → ToldBy s.keys σ.names.unacked ks s'.keys → IsTouched ks (conn s.conns d) (conn s'.conns d) → SeenIs cur sn' → Stands σ s d cur sn → Stands σ s' d cur sn'
@@ -176,9 +188,11 @@ touched_stands σ s s' ks d cur sn sn' told t seen ok = record {
 
 -- ---- the keys that the places are read from
 
+-- a key that places are read from
 abbrev pub IsOurs : Full → Bytes → Type 0
 IsOurs σ k = (is_queue σ.names k ≡ true) ⊎ ((k ≡ σ.names.unacked) ⊎ (k ≡ σ.names.index))
 
+-- these keys are the same
 abbrev pub SameOurs : Full → Keys → Keys → Type 0
 SameOurs σ m m' = (k : Bytes) → IsOurs σ k → get m' k ≡ get m k
 
@@ -279,6 +293,7 @@ push_apart : (σ : Full) (k v : Bytes) (o : Option ℤ) → IsApart σ.names k �
 push_apart σ k v None far = refl
 push_apart σ k v (Some n) far = ap (λ b. if b then tag_list (σ.names.tag_of v) else []) far.0
 
+-- a command aside shows nothing that is counted
 pub aside_quiet : (σ : Full) (e : Around) (m : Keys) (sn : Seen) (cm : Command) (reply : Value) → IsAside σ cm → reply ≡ (run e m cm).answer → Quiet σ sn cm reply
 aside_quiet σ e m sn (Lpush k (v ∷ [])) reply far is = record { hand = refl; ran = refl; pushes = push_apart σ k v (number_of reply) far.0.0 }
 aside_quiet σ e m sn (Brpop ks) reply far is = record { hand = ap (λ r. hand_from σ.names sn.hand (pair_of r)) is ∙ brpop_apart σ m sn.hand ks far.0; ran = refl; pushes = refl }

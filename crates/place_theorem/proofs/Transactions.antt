@@ -4,20 +4,20 @@ use Rattle.std.specs.FinMap.{insert}
 use Rattle.resp_wire.specs.declared.value.Value.{Value}
 use Rattle.resp_wire.specs.declared.value.Value.TheVariants.{Array}
 use Rattle.mini_store.specs.Commands.{Around, run}
-use Rattle.mini_store.specs.Connections.{Conns, around, conn, hit, posted, told}
+use Rattle.mini_store.specs.Connections.{Conns, around, conn, hit, posted}
 use Rattle.mini_store.specs.Keys.{Keys, is_long, value_at, value_of}
 use Rattle.mini_store.specs.Replies.{number}
 use Rattle.mini_store.specs.Store.{State, run_all, run_queue, set_conn}
 use Rattle.mini_store.specs.declared.command.Command.{Command}
 use Rattle.mini_store.specs.declared.command.Command.TheVariants.{Del, Exec, Hdel, Hset, Zadd, Zrem}
 use Rattle.mini_store.specs.declared.connection.Conn.{Conn}
-use Rattle.store_laws.proofs.Changes.{Pushed, hdel_answer, hdel_done, held, hset_done, lpush_done, rpush_done, unacked_not_index, zadd_done, zrem_done}
+use Rattle.store_laws.proofs.Changes.{Pushed, hdel_answer, hdel_done, hset_done, lpush_done, rpush_done, unacked_not_index, zadd_done, zrem_done}
 use Rattle.store_laws.proofs.Connections.{hit_none, or_false, run_queue_conns, set_other, set_same}
 use Rattle.store_laws.proofs.Law.{run_all_told}
 use Rattle.store_laws.proofs.Table.{Turned, table_turned}
 use Rattle.store_laws.specs.Laws.{IsTouched}
 use Rattle.place_model.specs.Answers.{number_of}
-use Rattle.place_model.specs.Counts.{copy_one, end_one, has_field, has_member, is_field, one_if_more, one_if_none, sum_of, tagged}
+use Rattle.place_model.specs.Counts.{copy_one, end_one, has_field, has_member, is_field, one_if_more, one_if_none, sum_of}
 use Rattle.place_model.specs.Names.{Bytes, same}
 use Rattle.place_model.specs.Returns.{push_command, push_commands, take_out}
 use Rattle.place_model.specs.Seen.{Seen, deletes, hand_by, is_one, queued_push, queued_pushes, ran_by, ran_with, tag_weight}
@@ -34,12 +34,15 @@ both_self : (b : Bool) → (b && b) ≡ b
 both_self true = refl
 both_self false = refl
 
-table_is : (σ : Full) (m : Keys) → Alike σ m → (t : Bytes) → table_of σ m t ≡ cond (is_field σ.names m t) 1 0
+-- with a table like its index, the table alone counts
+pub table_is : (σ : Full) (m : Keys) → Alike σ m → (t : Bytes) → table_of σ m t ≡ cond (is_field σ.names m t) 1 0
 table_is σ m a t = ap (λ b. cond (is_field σ.names m t && b) 1 0) (sym (a t)) ∙ ap (λ b. cond b 1 0) (both_self (is_field σ.names m t))
 
+-- a tag weighs 1 at itself
 pub tag_self : (t : Bytes) → tag_weight t (Some t) ≡ 1
 tag_self t = ap (λ b. cond b 1 0) (itself t)
 
+-- and nothing at another
 pub tag_other : (t x : Bytes) → t ≢ x → tag_weight t (Some x) ≡ 0
 tag_other t x n = ap (λ b. cond b 1 0) (differ_false x t (λ e. n (sym e)))
 
@@ -47,10 +50,12 @@ tag_other t x n = ap (λ b. cond b 1 0) (differ_false x t (λ e. n (sym e)))
 pub kept_alike : (σ : Full) (m m' : Keys) → Alike σ m → value_at m' σ.names.unacked ≡ value_at m σ.names.unacked → value_at m' σ.names.index ≡ value_at m σ.names.index → Alike σ m'
 kept_alike σ m m' a u i t = ap (λ o. has_field o t) u ∙ a t ∙ sym (ap (λ o. has_member o t) i)
 
+-- then the table weighs the same
 pub kept_table : (σ : Full) (m m' : Keys) → value_at m' σ.names.unacked ≡ value_at m σ.names.unacked → value_at m' σ.names.index ≡ value_at m σ.names.index → (t : Bytes) → table_of σ m' t ≡ table_of σ m t
 kept_table σ m m' u i t = λ j. cond (has_field (u j) t && has_member (i j) t) 1 0
 
 module _ (σ : Full) (at : ℕ) (cs : Conns) (s : State) (c : ℕ) (sn : Seen) (kinds : Kinds σ s.keys) (alike : Alike σ s.keys) where
+  -- no message is lost or doubled by the transaction
   abbrev pub Moves : Keys → List Value → Type 0
   Moves m' rs = (t : Bytes) → table_of σ s.keys t + tag_weight t sn.hand ≤ 1 → sum_of (copy_one σ.names t) (record { commands = sn.since; answers = rs } ∷ []) ≡ 0
       → lists_of σ m' t + table_of σ m' t + 0 + sum_of (end_one σ.names t) (record { commands = sn.since; answers = rs } ∷ [])
@@ -147,6 +152,7 @@ module _ (σ : Full) (at : ℕ) (cs : Conns) (s : State) (c : ℕ) (sn : Seen) (
 
 -- ---- the pushes of a Return
 
+-- what a push at either side does
 pub push_done : (σ : Full) (e : Around) (m : Keys) (side : Side) (k v : Bytes) → Kinds σ m → is_queue σ.names k ≡ true → Pushed (keys_of σ) m k v (run e m (push_command side k v))
 push_done σ e m Left k v ks q = lpush_done (keys_of σ) e m k v ks q
 push_done σ e m Right k v ks q = rpush_done (keys_of σ) e m k v ks q
@@ -162,6 +168,7 @@ pub record AllPushed (σ : Full) (m m' : Keys) (cs : List Command) : Type 0 wher
   pub members : value_at m' σ.names.index ≡ value_at m σ.names.index
   pub gains : (x : Bytes) → lists_of σ m' x ≡ lists_of σ m x + queued_pushes σ.names x cs
 
+-- pushes in a row
 pub pushes_done : (σ : Full) (at : ℕ) (cs : Conns) (m : Keys) (side : Side) (v : Bytes) (qs : List Bytes) → Kinds σ m → QueueKeys σ qs → AllPushed σ m (run_all at m cs (push_commands side v qs)).keys (push_commands side v qs)
 pushes_done σ at cs m side v [] ks h = record { kinds = ks; table = refl; members = refl; gains = λ x. omega arith }
 pushes_done σ at cs m side v (q ∷ qs) ks h =
@@ -208,12 +215,15 @@ balance false p h (inl e) = absurd (cc e)
 balance false p h (inr e) = omega arith
 
 module _ (σ : Full) (at : ℕ) (cs : Conns) (s : State) (c : ℕ) (sn : Seen) (kinds : Kinds σ s.keys) (alike : Alike σ s.keys) (t : Bytes) (side : Side) (v : Bytes) (qs : List Bytes) (queues : QueueKeys σ qs) (tagged : (qs ≡ []) ⊎ (σ.names.tag_of v ≡ Some t)) where
+  -- the keys after the first two commands
   abbrev pub between : Keys
   between = (run (around at cs) (run (around at cs) s.keys (Zrem σ.names.index (t ∷ []))).keys (Hdel σ.names.unacked (t ∷ []))).keys
 
+  -- all its commands
   abbrev pub taken : List Command
   taken = take_out σ.names t (push_commands side v qs)
 
+  -- the keys in the end
   abbrev pub last : Keys
   last = (run_all at s.keys cs taken).keys
 
@@ -229,6 +239,7 @@ module _ (σ : Full) (at : ℕ) (cs : Conns) (s : State) (c : ℕ) (sn : Seen) (
   last_table : (x : Bytes) → table_of σ last x ≡ table_of σ between x
   last_table = kept_table σ between last all_pushed.table all_pushed.members
 
+  -- the answers
   abbrev pub rs : List Value
   rs = (run_all at s.keys cs taken).answers
 
@@ -239,6 +250,7 @@ module _ (σ : Full) (at : ℕ) (cs : Conns) (s : State) (c : ℕ) (sn : Seen) (
       ∙ ap (λ o. same t x && is_one o) (number_of-Integer (pos (cond (is_field σ.names s.keys t) 1 0 + 0)))
       ∙ ap (λ b. same t x && b) (one_or_none (is_field σ.names s.keys t))
 
+  -- how often it pushes a tag
   abbrev pub count_of : Bytes → ℕ
   count_of x = queued_pushes σ.names x (push_commands side v qs)
 

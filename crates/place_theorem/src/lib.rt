@@ -1,11 +1,8 @@
-//! The place theorem: laws of the definitions of `place_model`.
+//! The place theorem and its companions: laws of the definitions of `place_model`, for every lawful setting and any type
+//! of notes. The functions do nothing; each is named for what its clause says.
 #![tactic(auto)]
 
-ghost use Rattle.std.specs.Prelude.{◌≡◌, List as Listed};
-use place_model::Entry;
-ghost use Rattle.place_model.specs.declared.history.Entry.{Entry as Entries};
-
-// placeholder while the proofs are written
-pub fn nothing<N>()
-    ensures { (xs : Listed (Entries N)) → xs ≡ xs }
-{}
+mod identity;
+mod passes;
+mod places;
+mod settings;

@@ -1,5 +1,5 @@
 -- What a schedule determines: a history, its first bad line, or a history that was full.
-use Rattle.std.specs.Prelude.{◌≡◌, ℕ, suc, ◌+◌, Bool, true, false, nat_lt, if◌then◌else◌, bytes_eq, List, [], ◌∷◌, length, codes, Option, None, Some}
+use Rattle.std.specs.Prelude.{◌≡◌, ℕ, suc, ◌+◌, Bool, true, false, nat_lt, if◌then◌else◌, bytes_eq, List, [], ◌∷◌, length, take, codes, Option, None, Some}
 use Rattle.std.specs.FinMap.{get, empty}
 use Rattle.line_text.specs.Lines.{lines_of, text_fault}
 use Rattle.line_text.specs.Words.{words_of}
@@ -145,7 +145,7 @@ max_input = 67108864
 
 -- what a schedule determines; of a longer one than is lawful no more is read than one byte past the limit
 abbrev pub schedule_run : Craft → Bytes → Determined
-schedule_run κ bytes = header_on κ (nat_lt max_input (length bytes)) (lines_of bytes)
+schedule_run κ bytes = header_on κ (nat_lt max_input (length bytes)) (lines_of (take (max_input + 1) bytes))
 
 -- the history of a desk: it begins with an empty store
 abbrev pub history_of : Desk → History Heard

@@ -1,10 +1,13 @@
 //! A list that grows and shrinks at both ends.
+ghost use Rattle.std.specs.Iterator.Runs.{YieldsRefsInOrder};
 ghost use Rattle.std.specs.List.{list_any};
+ghost use Rattle.std.specs.VecDeque.Iter.{deque_iter_rest, deque_iter_steps};
 ghost use Rattle.std.specs.Prelude.{◌≡◌, [], ◌∷◌, ◌++◌, IfOk, IfSome, IfNone, filter, not, nat_lt, OnOk, OnErr, length, IsTrue, ◌↔◌, bytes_eq};
 
 use resp_wire::Bytes;
 use std::alloc::{AllocError, Global};
 use std::collections::VecDeque;
+use std::collections::vec_deque::Iter;
 use std::marker::Model;
 
 /// A list of values that grows and shrinks at both ends, seen by contracts as that list.
@@ -54,6 +57,14 @@ impl<T> Deque<T> {
 }
 
 impl<T: Drop> Deque<T> {
+    /// The values from the front on.
+    pub fn iter(&self) -> Iter<'_, T>
+        ensures rest { deque_iter_rest result ≡ self.now }
+        ensures runs { YieldsRefsInOrder (deque_iter_steps {X = T}) deque_iter_rest }
+    {
+        self.kept.iter()
+    }
+
     /// How many values there are.
     pub fn len(&self) -> usize
         ensures { result ≡ length self.now }
@@ -95,6 +106,13 @@ impl<T: Drop> Deque<T> {
 }
 
 impl Deque<Bytes> {
+    /// Whether one of these texts is among the values.
+    pub fn has_any(&self, texts: &Deque<Bytes>) -> bool
+        ensures { result ≡ list_any (λ text. list_any (bytes_eq text) self.now) texts.now }
+    {
+        texts.kept.iter().any(|text| self.has(text))
+    }
+
     /// Whether one of the texts has more bytes than this.
     pub fn has_longer(&self, most: usize) -> bool
         ensures { result ≡ list_any (λ one. nat_lt most (length one)) self.now }

@@ -1,6 +1,10 @@
 -- What `layouts_serve` ensures.
+use Rattle.place_model.proofs.EnvelopeFacts.{envelopes_serve as serve}
 use Rattle.place_model.proofs.Settings.{lawful_setting}
 use Rattle.place_model.proofs.laws.layouts_serve.Goals as goal
 
-pub returns : goal.returns
-returns c = lawful_setting
+pub returns-clause-layouts : goal.returns-clause-layouts
+returns-clause-layouts c = lawful_setting
+
+pub returns-clause-envelopes : goal.returns-clause-envelopes
+returns-clause-envelopes c = serve

@@ -1,4 +1,4 @@
-use Rattle.std.proofs.Common.{◌≡◌, arith, ◌≤◌, ◌+◌, length, take, drop, sym, ◌∙◌, ap}
+use Rattle.std.proofs.Common.{◌≡◌, arith, ◌≤◌, ◌+◌, length, take, drop, sym, ap}
 use Rattle.std.proofs.lemmas.Grind.{common_steps}
 use Rattle.links.proofs.Pieces.{read_piece, read_end}
 use Rattle.links.proofs.memory_source.MemorySourceSource.read.Goals as goal

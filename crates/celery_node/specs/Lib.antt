@@ -1,0 +1,4 @@
+pub mod Endings
+pub mod Schedule
+pub mod Text
+pub mod Words

@@ -1,0 +1,161 @@
+//! What each command does to the keys.
+ghost use Rattle.mini_store.specs.Commands.{is_queued, run, select_answer};
+ghost use Rattle.mini_store.specs.Connections.{around, delivered, hearing, posted};
+ghost use Rattle.mini_store.specs.Keys.{out};
+ghost use Rattle.mini_store.specs.Replies.{fault_text, number};
+ghost use Rattle.mini_store.specs.Texts.{until};
+ghost use Rattle.std.specs.FinMap.{entries};
+ghost use Rattle.std.specs.Prelude.{◌≡◌, ◌<◌, ◌^◌, [], IfOk, OnOk};
+
+use crate::conns::Connections;
+use crate::effect::{Effect, error, number, status};
+use crate::keyspace::Keyspace;
+use crate::{Command, Fault, hashes, lists, sets, sorted_sets, texts};
+use resp_wire::{Bytes, Value};
+use std::alloc::{AllocError, Global};
+
+/// The answer to a faulty spelling.
+pub fn fault_answer(alloc: Global, fault: Fault) -> Result<Value, AllocError>
+    ensures { IfOk result (λ v. v ≡ Value.Error (fault_text fault)) }
+{
+    match fault {
+        Fault::Name => error(alloc, b"ERR command".as_slice()),
+        Fault::Arity => error(alloc, b"ERR arity".as_slice()),
+        Fault::Syntax => error(alloc, b"ERR syntax".as_slice()),
+        Fault::Integer => error(alloc, b"ERR integer".as_slice()),
+    }
+}
+
+fn select_answer(alloc: Global, number: i64) -> Result<Value, AllocError>
+    ensures { IfOk result (λ v. v ≡ select_answer number) }
+{
+    if number <= 0 && 0 <= number {
+        return status(alloc, b"OK".as_slice());
+    }
+    error(alloc, b"ERR database".as_slice())
+}
+
+// The moment so many seconds later.
+fn until(at: u64, life: Option<u32>) -> Option<u64>
+    requires { at < 2 ^ 40 }
+    ensures { result ≡ until at life }
+{
+    let Some(seconds) = life else {
+        return None;
+    };
+    Some(at + u64::from(seconds))
+}
+
+/// Whether the command may stand between MULTI and EXEC.
+pub fn is_queued(command: &Command) -> bool
+    ensures { result ≡ is_queued command.now }
+{
+    match command {
+        Command::Ping
+        | Command::Set(_, _, _, _)
+        | Command::Del(_)
+        | Command::Expire(_, _)
+        | Command::Lpush(_, _)
+        | Command::Rpush(_, _)
+        | Command::Llen(_)
+        | Command::Hlen(_)
+        | Command::Zcard(_)
+        | Command::Sadd(_, _)
+        | Command::Srem(_, _)
+        | Command::Hset(_, _, _)
+        | Command::Hdel(_, _)
+        | Command::Zadd(_, _, _)
+        | Command::Zrem(_, _)
+        | Command::Publish(_, _) => true,
+        Command::Select(_)
+        | Command::Get(_)
+        | Command::Rpop(_)
+        | Command::Brpop(_)
+        | Command::Smembers(_)
+        | Command::Hget(_, _)
+        | Command::Zrevrangebyscore(_, _, _, _, _)
+        | Command::Watch(_)
+        | Command::Unwatch
+        | Command::Multi
+        | Command::Exec
+        | Command::Discard
+        | Command::Subscribe(_)
+        | Command::Unsubscribe(_)
+        | Command::Faulty(_, _) => false,
+    }
+}
+
+fn looked(alloc: Global, answer: Value) -> Result<Effect, AllocError>
+    ensures { IfOk result (λ e. (e.altered ≡ []) × (e.answer ≡ answer)) }
+{
+    Ok(Effect::none(alloc, answer))
+}
+
+/// Runs a command: what it does to the keys, and to the messages that connections have pending.
+pub fn run(
+    keys: &mut Keyspace,
+    conns: &mut Connections,
+    alloc: Global,
+    at: u64,
+    command: Command,
+) -> Result<Effect, AllocError>
+    requires { at < 2 ^ 40 }
+    ensures run { IfOk result (λ e. out keys.new e.altered e.answer ≡ run (around at conns.old) keys.old command) }
+    ensures posted { OnOk result (conns.new ≡ posted command conns.old) }
+{
+    match command {
+        Command::Ping => looked(alloc, status(alloc, b"PONG".as_slice())?),
+        Command::Select(number) => looked(alloc, select_answer(alloc, number)?),
+        Command::Get(key) => looked(alloc, texts::get(keys, alloc, &key)?),
+        Command::Set(key, text, absent, life) => {
+            texts::set(keys, alloc, key, text, until(at, life), absent)
+        }
+        Command::Del(names) => texts::del(keys, alloc, names),
+        Command::Expire(key, life) => texts::expire(keys, alloc, key, at + u64::from(life)),
+        Command::Lpush(key, values) => lists::lpush(keys, alloc, key, values),
+        Command::Rpush(key, values) => lists::rpush(keys, alloc, key, values),
+        Command::Rpop(key) => lists::rpop(keys, alloc, key),
+        Command::Brpop(names) => lists::brpop(keys, alloc, names),
+        Command::Llen(key) => looked(alloc, lists::len(keys, alloc, &key)?),
+        Command::Hlen(key) => looked(alloc, hashes::len(keys, alloc, &key)?),
+        Command::Zcard(key) => looked(alloc, sorted_sets::len(keys, alloc, &key)?),
+        Command::Sadd(key, names) => sets::sadd(keys, alloc, key, names),
+        Command::Srem(key, names) => sets::srem(keys, alloc, key, names),
+        Command::Smembers(key) => looked(alloc, sets::members(keys, alloc, &key)?),
+        Command::Hset(key, field, text) => hashes::hset(keys, alloc, key, field, text),
+        Command::Hget(key, field) => looked(alloc, hashes::hget(keys, alloc, &key, &field)?),
+        Command::Hdel(key, names) => hashes::hdel(keys, alloc, key, names),
+        Command::Zadd(key, score, name) => sorted_sets::zadd(keys, alloc, key, score, name),
+        Command::Zrem(key, names) => sorted_sets::zrem(keys, alloc, key, names),
+        Command::Zrevrangebyscore(key, high, low, skip, most) => {
+            looked(
+                alloc,
+                sorted_sets::range(keys, alloc, &key, high, low, skip, most)?,
+            )
+        }
+        Command::Publish(channel, text) => publish(conns, alloc, &channel, &text),
+        Command::Faulty(fault, _) => looked(alloc, fault_answer(alloc, fault)?),
+        Command::Watch(_)
+        | Command::Unwatch
+        | Command::Multi
+        | Command::Exec
+        | Command::Discard
+        | Command::Subscribe(_)
+        | Command::Unsubscribe(_) => looked(alloc, error(alloc, b"ERR outside".as_slice())?),
+    }
+}
+
+// PUBLISH.
+fn publish(
+    conns: &mut Connections,
+    alloc: Global,
+    channel: &Bytes,
+    text: &Bytes,
+) -> Result<Effect, AllocError>
+    ensures told { IfOk result (λ e. (e.altered ≡ []) × (e.answer ≡ number (hearing channel.now (entries conns.old)))) }
+    ensures posted { OnOk result (conns.new ≡ delivered channel.now text.now conns.old) }
+{
+    let reached = conns.hearing(channel);
+    conns.deliver(alloc, channel, text)?;
+    Ok(Effect::none(alloc, number(reached)?))
+}

@@ -1,0 +1,155 @@
+-- What a schedule determines is sound.
+use Rattle.std.proofs.Common.{◌≡◌, ℕ, ◌<◌, ◌≤◌, ◌+◌, ◌^◌, suc, refl, arith, List, [], ◌∷◌, Bool, true, false, Option, None, Some, if◌then◌else◌, length, take, codes}
+use Rattle.std.specs.Prelude.{nat_le, nat_lt, bytes_eq}
+use Rattle.std.specs.FinMap.{get}
+use Rattle.std.proofs.lemmas.Grind.{common_steps}
+use Rattle.line_text.specs.Lines.{lines_of, text_fault}
+use Rattle.line_text.specs.Words.{words_of}
+use Rattle.line_text.specs.declared.reason.Reason.{Reason}
+use Rattle.line_text.specs.declared.reason.Reason.TheVariants.{Header, Later}
+use Rattle.place_model.specs.Names.{Bytes}
+use Rattle.place_model.specs.Histories.{calls_of}
+use Rattle.place_model.specs.Setting.{Setting}
+use Rattle.place_model.specs.Scripts.{Script, Over, Off, Say, Plan}
+use Rattle.schedule_model.specs.Built.{waits}
+use Rattle.schedule_model.specs.Costs.{is_full}
+use Rattle.schedule_model.specs.Desk.{Desk, Book, Said, first_desk, with_book, begun, said_one, said_all, with_stop}
+use Rattle.schedule_model.specs.Faults.{Craft, first_reason, tests, is_off, is_gone, has_more, is_busy, has_number, has_seed, asked_tests, seed_of, counter_of}
+use Rattle.schedule_model.specs.Lines.{line_in}
+use Rattle.schedule_model.specs.Schedules.{Led, Went, Filled, Bad, plan_of, with_plan, heard, stepped, run_through, stopped, led, led_unless, led_by, text_led, line_led, header_led, Determined, Whole, led_on, last_led, lines_led, header_on, max_input, schedule_run}
+use Rattle.schedule_model.specs.declared.line.Asked.{Asked}
+use Rattle.schedule_model.specs.declared.line.Line.{Line}
+use Rattle.schedule_model.specs.declared.line.Line.TheVariants.{Client, At, Begin, Step, Run, Stop}
+use Rattle.schedule_laws.specs.Sound.{IsCraft, IsSoundlyDetermined}
+use Rattle.schedule_laws.proofs.PlanRows.{plan_row}
+use Rattle.schedule_laws.proofs.Kept.{DecidesFronts, begun_kept}
+use Rattle.schedule_laws.proofs.Worlds.{neither}
+use Rattle.schedule_laws.proofs.Desks.{Holds, first_holds, book_holds, HeardHolds, said_one_holds, said_all_holds, moment_holds, stop_holds, client_holds}
+use Rattle.schedule_laws.proofs.Spelled.{IfThere, IsAskedWithin, IsWithin, line_there}
+use Rattle.schedule_laws.proofs.Asking.{AreFaultless, faultless, lawful_plan}
+use Rattle.schedule_laws.proofs.Decided.{fronts_decided}
+use Rattle.schedule_laws.proofs.Sounds.{desk_sound}
+
+-- the desk of what a line led to holds, and is full where it says so
+abbrev LedHolds : Setting → Led → Type 0
+LedHolds σ (Went d) = Holds σ d
+LedHolds σ (Filled d) = Holds σ d × (is_full d.entries ≡ true)
+LedHolds σ (Bad r) = Unit {0}
+
+true_not : {A : Type 0} → true ≡ false → A
+true_not e = absurd (cc e)
+
+-- a client that isn't off and has nothing to say has no block
+over_of : (p : Script) → is_off p ≡ false → has_more p ≡ false → p ≡ Over
+over_of Over e f = refl
+over_of Off e f = true_not e
+over_of (Say w go) e f = true_not f
+
+heard_holds : (σ : Setting) (c : ℕ) (b : Book) (s : Said) → HeardHolds σ c b s → LedHolds σ (heard c b s)
+heard_holds σ c b s h = by s.room h.1 where
+  by : (room : Bool) → (room ≡ false → is_full s.desk.entries ≡ true) → LedHolds σ (if room then Went (with_book s.desk c (record b { left = s.left })) else Filled (with_book s.desk c (record b { left = s.left })))
+  by true f = h.0
+  by false f = (h.0, f refl)
+
+-- the book as it is, which is written again
+written : (σ : Setting) (d : Desk) (c : ℕ) (b : Book) → Holds σ d → get d.books c ≡ Some b → Holds σ (with_book d c (record b { left = b.left }))
+written σ d c b h book = book_holds σ d h c b b book refl refl (h.books c b book).kept
+
+step_holds : (σ : Setting) (d : Desk) (c : ℕ) → Holds σ d → (o : Option Book) → get d.books c ≡ o → is_gone o ≡ false → LedHolds σ (stepped d c o)
+step_holds σ d c h None book on = tt
+step_holds σ d c h (Some b) book on = heard_holds σ c b (said_one d c b.left) (said_one_holds σ c b (neither b.stopped (is_off b.left) on).0 b.left d (written σ d c b h book))
+
+run_holds : (σ : Setting) (d : Desk) (c : ℕ) → Holds σ d → (o : Option Book) → get d.books c ≡ o → is_gone o ≡ false → LedHolds σ (run_through d c o)
+run_holds σ d c h None book on = tt
+run_holds σ d c h (Some b) book on = heard_holds σ c b (said_all d c b.left) (said_all_holds σ c b (neither b.stopped (is_off b.left) on).0 b.left d (written σ d c b h book))
+
+stopped_holds : (σ : Setting) (d : Desk) (c : ℕ) → Holds σ d → (o : Option Book) → get d.books c ≡ o → is_gone o ≡ false → LedHolds σ (stopped d c o)
+stopped_holds σ d c h None book on = tt
+stopped_holds σ d c h (Some b) book on = by (is_full d.entries) refl where
+  by : (f : Bool) → is_full d.entries ≡ f → LedHolds σ (if f then Filled d else Went (with_stop d c b))
+  by true is = (h, is)
+  by false is = stop_holds σ d h c b book (neither b.stopped (is_off b.left) on).0
+
+begin_holds : (κ : Craft) (craft : IsCraft κ) (d : Desk) (c : ℕ) (a : Asked) → Holds κ.setting d → IsAskedWithin a → (o : Option Book) → get d.books c ≡ o → is_gone o ≡ false → is_busy o ≡ false
+    → AreFaultless (asked_tests κ (seed_of o) (counter_of o) a) → LedHolds κ.setting (with_plan κ d c o (plan_of κ (seed_of o) (counter_of o) a))
+begin_holds κ craft d c a h within None book on idle fine = tt
+begin_holds κ craft d c a h within (Some b) book on idle fine = by (plan_of κ b.seed (suc b.drawn) a) refl where
+  over : b.left ≡ Over
+  over = over_of b.left (neither b.stopped (is_off b.left) on).1 idle
+
+  by : (p : Option Plan) → plan_of κ b.seed (suc b.drawn) a ≡ p → LedHolds κ.setting (with_plan κ d c (Some b) p)
+  by None e = tt
+  by (Some plan) e = book_holds κ.setting d h c b (begun κ.setting b plan) book refl refl
+      (begun_kept κ.setting (calls_of c d.entries) b plan (h.books c b book).kept over
+      (plan_row κ.setting b.seed b.drawn b.passes plan (lawful_plan κ craft b.seed b.drawn a plan within fine e)))
+
+-- ---- lines
+
+below : (m : ℕ) → nat_le (2 ^ 40) m ≡ false → m < 2 ^ 40
+below m e = grind (arith, common_steps, e)
+
+not_before : (m n : ℕ) → nat_lt m n ≡ false → n ≤ m
+not_before m n e = grind (arith, common_steps, e)
+
+led_holds : (κ : Craft) (craft : IsCraft κ) (d : Desk) (l : Line) → Holds κ.setting d → IsWithin l → AreFaultless (tests κ d l) → LedHolds κ.setting (led κ d l)
+led_holds κ craft d (Client c s) h within fine = let f = neither (has_number c d.clients) (has_seed s d.clients) fine.1.0 in client_holds κ.setting d h c s f.0 f.1
+led_holds κ craft d (At m) h within fine = let f = neither (nat_le (2 ^ 40) m) (nat_lt m d.moment) fine.0 in moment_holds κ.setting d m h (below m f.0) (not_before m d.moment f.1)
+led_holds κ craft d (Begin c a) h within fine = begin_holds κ craft d c a h within (get d.books c) refl fine.1.0 fine.1.1.0 fine.1.1.1
+led_holds κ craft d (Step c) h within fine = step_holds κ.setting d c h (get d.books c) refl fine.1.0
+led_holds κ craft d (Run c) h within fine = run_holds κ.setting d c h (get d.books c) refl fine.1.0
+led_holds κ craft d (Stop c) h within fine = stopped_holds κ.setting d c h (get d.books c) refl fine.1.0
+
+unless_holds : (κ : Craft) (craft : IsCraft κ) (d : Desk) (l : Line) → Holds κ.setting d → IsWithin l → (o : Option Reason) → first_reason (tests κ d l) ≡ o → LedHolds κ.setting (led_unless κ d l o)
+unless_holds κ craft d l h within (Some r) e = tt
+unless_holds κ craft d l h within None e = led_holds κ craft d l h within (faultless (tests κ d l) e)
+
+by_holds : (κ : Craft) (craft : IsCraft κ) (d : Desk) → Holds κ.setting d → (o : Option Line) → IfThere IsWithin o → LedHolds κ.setting (led_by κ d o)
+by_holds κ craft d h None within = tt
+by_holds κ craft d h (Some l) within = unless_holds κ craft d l h within (first_reason (tests κ d l)) refl
+
+if_led : (σ : Setting) (b : Bool) (x y : Led) → LedHolds σ x → LedHolds σ y → LedHolds σ (if b then x else y)
+if_led σ true x y f g = f
+if_led σ false x y f g = g
+
+text_holds : (κ : Craft) (craft : IsCraft κ) (d : Desk) (line : Bytes) → Holds κ.setting d → (o : Option Reason) → LedHolds κ.setting (text_led κ d line o)
+text_holds κ craft d line h (Some r) = tt
+text_holds κ craft d line h None = if_led κ.setting (waits κ.built (words_of line)) (Bad Later) (led_by κ d (line_in (words_of line))) tt (by_holds κ craft d h (line_in (words_of line)) (line_there (words_of line)))
+
+-- each line keeps a desk
+line_holds : (κ : Craft) (craft : IsCraft κ) (d : Desk) (line : Bytes) → Holds κ.setting d → LedHolds κ.setting (line_led κ d line)
+line_holds κ craft d line h = text_holds κ craft d line h (text_fault 65536 line)
+
+header_holds : (σ : Setting) (line : Bytes) (o : Option Reason) → LedHolds σ (header_led line o)
+header_holds σ line (Some r) = tt
+header_holds σ line None = if_led σ (bytes_eq line (codes "celery-schedule 1")) (Went first_desk) (Bad Header) (first_holds σ) tt
+
+-- ---- a schedule
+
+module _ (σ : Setting) (decide : DecidesFronts σ) where
+  on_sound : (go : Desk → Determined) (n : ℕ) (r : Led) → LedHolds σ r → ((d : Desk) → Holds σ d → IsSoundlyDetermined σ (go d)) → IsSoundlyDetermined σ (led_on go n r)
+  on_sound go n (Went d) h f = f d h
+  on_sound go n (Filled d) h f = (d, desk_sound σ d h.0 decide, h.1, refl, refl)
+  on_sound go n (Bad r) h f = tt
+
+  last_holds : (cut : Bool) (r : Led) → LedHolds σ r → LedHolds σ (last_led cut r)
+  last_holds true r h = tt
+  last_holds false r h = h
+
+lines_sound : (κ : Craft) (craft : IsCraft κ) (decide : DecidesFronts κ.setting) (cut : Bool) (n : ℕ) (d : Desk) (ls : List Bytes) → Holds κ.setting d → IsSoundlyDetermined κ.setting (lines_led κ cut n d ls)
+lines_sound κ craft decide cut n d [] h = desk_sound κ.setting d h decide
+lines_sound κ craft decide cut n d (l ∷ []) h =
+    on_sound κ.setting decide Whole n (last_led cut (line_led κ d l)) (last_holds κ.setting decide cut (line_led κ d l) (line_holds κ craft d l h)) (λ e g. desk_sound κ.setting e g decide)
+lines_sound κ craft decide cut n d (l ∷ m ∷ ls) h =
+    on_sound κ.setting decide (λ e. lines_led κ cut (n + 1) e (m ∷ ls)) n (line_led κ d l) (line_holds κ craft d l h) (λ e g. lines_sound κ craft decide cut (n + 1) e (m ∷ ls) g)
+
+header_sound : (κ : Craft) (craft : IsCraft κ) (decide : DecidesFronts κ.setting) (cut : Bool) (ls : List Bytes) → IsSoundlyDetermined κ.setting (header_on κ cut ls)
+header_sound κ craft decide cut [] = tt
+header_sound κ craft decide cut (h ∷ []) =
+    on_sound κ.setting decide Whole 1 (last_led cut (header_led h (text_fault 65536 h))) (last_holds κ.setting decide cut (header_led h (text_fault 65536 h)) (header_holds κ.setting h (text_fault 65536 h)))
+    (λ e g. desk_sound κ.setting e g decide)
+header_sound κ craft decide cut (h ∷ l ∷ ls) =
+    on_sound κ.setting decide (λ d. lines_led κ cut 2 d (l ∷ ls)) 1 (header_led h (text_fault 65536 h)) (header_holds κ.setting h (text_fault 65536 h))
+    (λ e g. lines_sound κ craft decide cut 2 e (l ∷ ls) g)
+
+pub schedule_sound : (κ : Craft) → IsCraft κ → (bytes : Bytes) → IsSoundlyDetermined κ.setting (schedule_run κ bytes)
+schedule_sound κ craft bytes = header_sound κ craft (fronts_decided κ.setting craft.exchange_at craft.lawful craft.readable) (nat_lt max_input (length bytes)) (lines_of (take (max_input + 1) bytes))

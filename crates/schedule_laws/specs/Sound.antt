@@ -1,0 +1,62 @@
+-- Soundness of what a schedule determines.
+use Rattle.std.specs.Prelude.{◌≡◌, ℕ, ◌^◌, ◌<◌, ◌≤◌, true, List, [], ◌∷◌, length, Option, Some}
+use Rattle.place_model.specs.Names.{Bytes, is_name}
+use Rattle.place_model.specs.Layouts.{Layout, is_layout}
+use Rattle.place_model.specs.Setting.{Setting, Texts, IsTexts, IsLawful, if_named, setting_of}
+use Rattle.place_model.specs.Starts.{IsSound}
+use Rattle.place_model.specs.declared.history.Entry.{Entry}
+use Rattle.place_model.specs.declared.history.Entry.TheVariants.{Call as Called, Heard, Stop}
+use Rattle.manner_laws.specs.Cursor.{IsReadable}
+use Rattle.manner_laws.specs.LayoutKeys.{TellsShortExchanges}
+use Rattle.schedule_model.specs.Costs.{is_full, total_cost}
+use Rattle.schedule_model.specs.Desk.{Desk}
+use Rattle.schedule_model.specs.Faults.{Craft}
+use Rattle.schedule_model.specs.Schedules.{Determined, Whole, Full, Bad_line, schedule_run, history_of}
+
+-- the envelope v tells what was asked: a tag's seed and counter, an exchange, and with the empty exchange one key
+pub record IsSealed (σ : Setting) (s n : ℕ) (x k v : Bytes) : Type 0 where
+  pub tag : σ.tag_of v ≡ Some (σ.tag s n)
+  pub exchange : σ.exchange_of v ≡ if_named x
+  pub key : x ≡ [] → is_name k ≡ true → (q : Bytes) × (σ.keys_for v [] ≡ q ∷ [])
+
+-- the names and texts are lawful, keys tell what they were made of, sealed envelopes tell what was asked, and as many queues as a line may name can be popped
+pub record IsCraft (κ : Craft) : Type 0 where
+  pub lawful : IsLawful κ.setting
+  pub exchange_at : Bytes → Option Bytes
+  pub readable : IsReadable κ.setting exchange_at
+  pub seals : (s n : ℕ) (x k : Bytes) (p : ℕ) (t j v : Bytes) → κ.sealed s n x k p t j ≡ Some v → IsSealed κ.setting s n x k v
+  pub pops : (q : Bytes) (qs : List Bytes) → length (q ∷ qs) ≤ 1023 → (k : Bytes) × (ks : List Bytes) × (κ.setting.pop_keys (q ∷ qs) ≡ k ∷ ks) × (length (k ∷ ks) ≤ 4094)
+
+-- the moments of the calls never fall, from the first moment to the last
+abbrev pub RisesTo : {N : Type 0} → ℕ → List (Entry N) → ℕ → Type 0
+RisesTo m [] n = m ≤ n
+RisesTo m (Called c at words reply ∷ es) n = (m ≤ at) × RisesTo at es n
+RisesTo m (Heard c note ∷ es) n = RisesTo m es n
+RisesTo m (Stop c ∷ es) n = RisesTo m es n
+
+-- the history of a desk is sound, and its moments never fall, up to a present one below 2^40
+pub record IsSoundDesk (σ : Setting) (d : Desk) : Type 0 where
+  pub history : IsSound σ (history_of d)
+  pub moments : RisesTo 0 d.entries d.moment
+  pub present : d.moment < 2 ^ 40
+
+-- a whole history is sound, and so is one that was full, which has these many entries and this cost
+abbrev pub IsSoundlyDetermined : Setting → Determined → Type 0
+IsSoundlyDetermined σ (Whole d) = IsSoundDesk σ d
+IsSoundlyDetermined σ (Full n cost) = (d : Desk) × IsSoundDesk σ d × (is_full d.entries ≡ true) × (length d.entries ≡ n) × (total_cost d.entries ≡ cost)
+IsSoundlyDetermined σ (Bad_line n reason) = Unit {0}
+
+-- what each schedule determines is sound
+abbrev pub SchedulesSound : Type 0
+SchedulesSound = (κ : Craft) → IsCraft κ → (bytes : Bytes) → IsSoundlyDetermined κ.setting (schedule_run κ bytes)
+
+-- ---- crafts of layouts
+
+-- sealed envelopes tell the tag of the seed and the counter, and go where was asked
+abbrev pub SealsTell : Texts → Craft → Type 0
+SealsTell τ κ = (s n : ℕ) (x k : Bytes) (p : ℕ) (t j v : Bytes) → κ.sealed s n x k p t j ≡ Some v
+    → (τ.tag_of v ≡ Some (τ.tag s n)) × ((held : ℕ) × (τ.way_of v ≡ Some (record { exchange = x; routing_key = k; priority = held })))
+
+-- a lawful layout of at most four steps makes a craft, with texts that keep their facts and envelopes that tell what was asked
+abbrev pub LayoutsMakeCrafts : Type 0
+LayoutsMakeCrafts = (l : Layout) (τ : Texts) (κ : Craft) → is_layout l ≡ true → length l.steps ≤ 4 → κ.setting ≡ setting_of l τ → IsTexts τ → TellsShortExchanges τ → SealsTell τ κ → IsCraft κ
