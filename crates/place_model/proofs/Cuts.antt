@@ -1,10 +1,10 @@
 -- Where a key is cut into the name of its queue and the mark of its step.
-use Rattle.std.proofs.Common.{◌≡◌, ℕ, suc, ◌+◌, ◌-◌, ◌<◌, ◌≤◌, List, [], ◌∷◌, ◌++◌, length, take, drop, get_or, Bool, true, false, not, cond, ◌==◌, if◌then◌else◌, nat_lt, refl, sym, ap, subst, ◌∙◌, arith, position, Option, None, Some, option_and_then, append_assoc, append-nil, length-append}
+use Rattle.std.proofs.Common.{◌≡◌, ℕ, suc, ◌+◌, ◌<◌, ◌≤◌, List, [], ◌∷◌, ◌++◌, length, take, drop, get_or, Bool, true, false, not, cond, ◌==◌, if◌then◌else◌, refl, sym, ap, subst, ◌∙◌, arith, position, Option, None, Some, option_and_then, append_assoc, append-nil, length-append}
 use Rattle.std.specs.List.{position_or_len}
 use Rattle.std.proofs.lemmas.Grind.{common_steps}
 use Rattle.place_model.specs.Names.{Bytes}
 use Rattle.place_model.specs.Layouts.{Layout, plain}
-use Rattle.place_model.specs.QueueKeys.{if_name, keys_at, marked_step, mark_part, name_part, pop_keys, queue_key, split_key}
+use Rattle.place_model.specs.QueueKeys.{if_name, keys_at, marked_step, mark_part, name_part, queue_key, split_key}
 use Rattle.place_model.proofs.Splits.{name_and_mark}
 
 -- the first 06 stands where the name ends

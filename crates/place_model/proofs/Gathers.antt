@@ -1,19 +1,15 @@
 -- What a walk gathers by the numbers of tags is what the definitions count by their texts.
-use Rattle.std.proofs.Common.{◌≡◌, ◌≢◌, ◌⊎◌, inl, inr, ℕ, zero, suc, ◌+◌, ◌-◌, ◌≤◌, List, [], ◌∷◌, ◌++◌, Bool, true, false, not, cond, ◌&&◌, ◌||◌, ◌==◌, if◌then◌else◌, nat_le, refl, sym, ap, subst, ◌∙◌, arith, filter, map, Option, None, Some, option_and_then, option_map, append_assoc, add-zero}
-use Rattle.std.proofs.lemmas.Grind.{common_steps}
+use Rattle.std.proofs.Common.{◌≡◌, ℕ, zero, suc, ◌+◌, List, [], ◌∷◌, ◌++◌, Bool, true, false, cond, ◌&&◌, ◌||◌, ◌==◌, if◌then◌else◌, refl, sym, ap, ◌∙◌, arith, filter, map, Option, None, Some}
 use Rattle.resp_wire.specs.declared.value.Value.{Value}
 use Rattle.mini_store.specs.declared.command.Command.{Command}
-use Rattle.mini_store.specs.declared.command.Command.TheVariants.{Lpush, Rpush, Brpop, Multi, Exec, Hdel}
-use Rattle.envelope.specs.Tags.{tag_of_text}
-use Rattle.place_model.specs.Answers.{items_of, number_of, pair_of}
-use Rattle.place_model.specs.Calls.{Call, call}
-use Rattle.place_model.specs.Counts.{copy_one, count, end_one, one_if_more, one_if_none, sum_of}
-use Rattle.place_model.specs.Gathered.{act_of, acts_after, copied_by, copied_in, copied_with, ended_by, ended_in, ended_with, hand_after, hand_with, has, kind_of, listed, number, push_act, push_at, push_of, push_told, pushed, take_act, take_at, taken, taken_by, times}
-use Rattle.place_model.specs.Names.{Bytes, same}
-use Rattle.place_model.specs.Seen.{Ran, Seen, deletes, deletes_one, hand_by, hand_from, is_one, nothing_seen, push_by, push_weight_at, push_with, queued_push, queued_pushes, ran_by, ran_with, seen, seen_by, seen_from, since_by, tag_list, tag_weight}
+use Rattle.mini_store.specs.declared.command.Command.TheVariants.{Brpop, Multi, Exec}
+use Rattle.place_model.specs.Answers.{pair_of}
+use Rattle.place_model.specs.Calls.{Call}
+use Rattle.place_model.specs.Counts.{count, sum_of}
+use Rattle.place_model.specs.Gathered.{act_of, acts_after, hand_after, hand_with, has, kind_of, number, times}
+use Rattle.place_model.specs.Names.{Bytes}
+use Rattle.place_model.specs.Seen.{Seen, hand_by, hand_from, nothing_seen, seen, seen_by, seen_from, since_by}
 use Rattle.place_model.specs.Setting.{Setting, is_queue}
-use Rattle.place_model.specs.declared.seat.Act.{Act}
-use Rattle.place_model.specs.declared.seat.Act.TheVariants.{Push, Take, Nothing}
 use Rattle.place_model.proofs.Basics.{eqb_true}
 
 -- ---- numbers and lists

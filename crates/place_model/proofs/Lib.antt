@@ -13,7 +13,8 @@ pub mod Cuts
 pub mod Gathers
 pub mod Weighs
 pub mod Walks
-pub mod Placed
+pub mod Whereabouts
 pub mod Messages
 pub mod Layers
 pub mod Seats
+pub mod Numbers

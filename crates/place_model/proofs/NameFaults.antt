@@ -1,5 +1,5 @@
 -- A text is a lawful name exactly where it has no fault.
-use Rattle.std.proofs.Common.{◌≡◌, ℕ, suc, ◌+◌, ◌<◌, List, [], ◌∷◌, ◌++◌, length, reverse, Bool, true, false, not, cond, ◌&&◌, ◌||◌, ◌==◌, if◌then◌else◌, nat_lt, refl, sym, ap, subst, ◌∙◌, arith, position, Option, None, Some, is_none, take, drop, ◌-◌}
+use Rattle.std.proofs.Common.{◌≡◌, ℕ, suc, ◌+◌, [], ◌∷◌, ◌++◌, length, reverse, Bool, true, false, not, cond, ◌&&◌, ◌==◌, if◌then◌else◌, nat_lt, refl, sym, ap, subst, ◌∙◌, arith, Option, None, Some, is_none, take, drop, ◌-◌}
 use Rattle.std.specs.Bool.{nat_eq}
 use Rattle.std.specs.Cmp.Lexicographic.{pointwise}
 use Rattle.std.specs.List.{position_or_len}
@@ -7,11 +7,11 @@ use Rattle.std.proofs.lemmas.Grind.{common_steps}
 use Rattle.std.proofs.lemmas.Bool.Decides.{Decides-eqb}
 use Rattle.std.proofs.lemmas.List.{reverse-append}
 use Rattle.std.proofs.lemmas.Slice.Eq.{starts_is, ends_is}
-use Rattle.place_model.specs.Names.{Bytes, same, has_front, has_end, is_free, all_free, has_length, is_reserved, is_name}
+use Rattle.place_model.specs.Names.{Bytes, same, has_front, has_end, is_free, all_free, is_reserved, is_name}
 use Rattle.place_model.specs.NameFaults.{parting_place, byte_fault, name_fault, told}
 use Rattle.place_model.specs.declared.queue_name.NameFault.{NameFault}
-use Rattle.place_model.specs.declared.queue_name.NameFault.TheVariants.{Empty, Long, Byte, Reserved, Memory}
-use Rattle.place_model.proofs.Basics.{and_true, eqb_true, false_true, has_front-front}
+use Rattle.place_model.specs.declared.queue_name.NameFault.TheVariants.{Empty, Long, Byte, Reserved}
+use Rattle.place_model.proofs.Basics.{eqb_true, false_true, has_front-front}
 
 -- two tests that imply each other are the same
 pub both_ways : (a b : Bool) → (a ≡ true → b ≡ true) → (b ≡ true → a ≡ true) → a ≡ b

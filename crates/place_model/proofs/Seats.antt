@@ -1,5 +1,5 @@
 -- What a walk has after a client's seat was taken out and put back.
-use Rattle.std.proofs.Common.{◌≡◌, ◌≤◌, ◌⊎◌, inl, inr, ◌++◌, List, [], ◌∷◌, ℕ, Option, None, Some, Result, Ok, Err, OnOk, sym, ap, ◌∙◌, refl, true, not, filter, length, drop, arith, append-nil}
+use Rattle.std.proofs.Common.{◌≡◌, ◌≤◌, ◌⊎◌, inl, inr, ◌++◌, List, [], ◌∷◌, ℕ, None, Some, Result, Ok, Err, OnOk, sym, ap, ◌∙◌, refl, true, not, filter, length, drop, arith, append-nil}
 use Rattle.std.proofs.lemmas.Grind.{common_steps}
 use Rattle.std.proofs.lemmas.Cmp.{nat_cmp_total}
 use Rattle.std.specs.Ordering.{nat_cmp}

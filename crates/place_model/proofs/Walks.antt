@@ -1,26 +1,21 @@
 -- A walk over a history's entries gathers what is counted after the history.
-use Rattle.std.proofs.Common.{◌≡◌, ◌≢◌, ◌⊎◌, inl, inr, ℕ, zero, suc, ◌+◌, List, [], ◌∷◌, ◌++◌, Bool, true, false, not, cond, ◌&&◌, ◌||◌, ◌==◌, if◌then◌else◌, refl, sym, ap, subst, ◌∙◌, arith, map, Option, None, Some, option_map, T}
+use Rattle.std.proofs.Common.{◌≡◌, ◌≢◌, ◌⊎◌, inl, inr, ℕ, ◌+◌, List, [], ◌∷◌, ◌++◌, Bool, true, false, cond, ◌&&◌, ◌||◌, refl, sym, ap, subst, ◌∙◌, arith, map, Option, None, Some, option_map, T}
 use Rattle.std.proofs.lemmas.Cmp.{nat_cmp_total}
-use Rattle.std.specs.Ordering.{nat_cmp, eq_by_cmp, is_eq, is_lt}
+use Rattle.std.specs.Ordering.{nat_cmp, is_eq, is_lt}
 use Rattle.std.specs.declared.cmp.Ordering.{Ordering}
 use Rattle.std.specs.declared.cmp.Ordering.TheVariants.{Less, Equal, Greater}
-use Rattle.std.specs.Cmp.{IsTotalOrder}
-use Rattle.std.specs.FinMap.{FinMap, IsAntisymmetric, empty, entries, entries-from_sorted, entries-insert, entries_sorted, from_sorted, get, get-empty, get-entries, get-from_sorted, get-insert, insert, nat_cmp-IsAntisymmetric, same_map}
+use Rattle.std.specs.FinMap.{FinMap, empty, entries, entries-from_sorted, entries-insert, entries_sorted, from_sorted, get, get-empty, get-entries, get-from_sorted, insert, nat_cmp-IsAntisymmetric, same_map}
 use Rattle.std.specs.FinMap.Entries.{below_all, by_order, find, is_sorted, put}
 use Rattle.store_tables.proofs.Lookups.{decided, get-insert_other, get-insert_same}
-use Rattle.resp_wire.specs.declared.value.Value.{Value}
-use Rattle.mini_store.specs.Keys.{Keys}
 use Rattle.mini_store.specs.Store.{State, apply_of, gone_of}
-use Rattle.mini_store.specs.Words.{Words, command_of}
-use Rattle.mini_store.specs.declared.command.Command.{Command}
-use Rattle.mini_store.specs.declared.reply.Reply.{Reply}
+use Rattle.mini_store.specs.Words.{command_of}
 use Rattle.envelope.specs.Tags.{tag_of_text}
 use Rattle.place_model.specs.Calls.{Call, call}
 use Rattle.place_model.specs.Counts.{copy_one, copy_weight, count, end_one, end_weight, over_clients, push_weight, sum_of, total}
-use Rattle.place_model.specs.Gathered.{act_of, acts_after, copied_by, ended_by, hand_after, has, kind_of, listed, number, push_of, seat_after, seat_of, times, walk_called, walk_stopped, walked, walked_all}
-use Rattle.place_model.specs.Histories.{Client, World, after_entries, conn_of, new_client, next, next_of, start_from, table, with_client}
+use Rattle.place_model.specs.Gathered.{act_of, copied_by, ended_by, hand_after, has, kind_of, listed, number, push_of, seat_after, seat_of, times, walk_called, walk_stopped, walked, walked_all}
+use Rattle.place_model.specs.Histories.{Client, World, after_entries, conn_of, next, next_of, with_client}
 use Rattle.place_model.specs.Names.{Bytes, same}
-use Rattle.place_model.specs.Seen.{Seen, nothing_seen, push_by, ran_by, seen, seen_by}
+use Rattle.place_model.specs.Seen.{Seen, push_by, ran_by, seen, seen_by}
 use Rattle.place_model.specs.Setting.{Setting}
 use Rattle.place_model.specs.declared.heard.Heard.{Heard}
 use Rattle.place_model.specs.declared.history.Entry.{Entry}

@@ -1,19 +1,19 @@
 -- What a tag's number counts is what its text counts.
-use Rattle.std.proofs.Common.{◌≡◌, ◌≢◌, ◌⊎◌, inl, inr, ℕ, zero, suc, ◌+◌, List, [], ◌∷◌, ◌++◌, Bool, true, false, not, cond, ◌&&◌, ◌||◌, ◌==◌, if◌then◌else◌, nat_le, refl, sym, ap, subst, ◌∙◌, arith, filter, map, Option, None, Some, option_and_then}
+use Rattle.std.proofs.Common.{◌≡◌, ℕ, zero, suc, ◌+◌, List, [], ◌∷◌, Bool, true, false, not, ◌&&◌, ◌||◌, ◌==◌, if◌then◌else◌, nat_le, refl, sym, ap, ◌∙◌, arith, map, Option, None, Some}
 use Rattle.std.proofs.lemmas.Grind.{common_steps}
 use Rattle.resp_wire.specs.declared.value.Value.{Value}
 use Rattle.mini_store.specs.declared.command.Command.{Command}
-use Rattle.mini_store.specs.declared.command.Command.TheVariants.{Lpush, Rpush, Brpop, Multi, Exec, Hdel}
+use Rattle.mini_store.specs.declared.command.Command.TheVariants.{Lpush, Rpush, Exec, Hdel}
 use Rattle.envelope.specs.Tags.{tag_of_text}
 use Rattle.place_model.specs.Answers.{items_of, number_of}
 use Rattle.place_model.specs.Counts.{copy_one, count, end_one, one_if_more, one_if_none, sum_of}
 use Rattle.place_model.specs.Gathered.{act_of, copied_by, copied_in, copied_with, ended_by, ended_in, ended_with, has, kind_of, listed, number, push_act, push_at, push_of, push_told, pushed, take_act, take_at, taken, taken_by, times}
 use Rattle.place_model.specs.Names.{Bytes, same}
-use Rattle.place_model.specs.Seen.{Ran, deletes, deletes_one, is_one, push_by, push_weight_at, push_with, queued_push, queued_pushes, ran_by, ran_with, tag_list, tag_weight}
+use Rattle.place_model.specs.Seen.{deletes, deletes_one, is_one, push_by, push_weight_at, push_with, queued_push, queued_pushes, ran_by, ran_with, tag_list, tag_weight}
 use Rattle.place_model.specs.Setting.{Setting, is_queue}
 use Rattle.place_model.specs.declared.seat.Act.{Act}
 use Rattle.place_model.specs.declared.seat.Act.TheVariants.{Push, Take, Nothing}
-use Rattle.place_model.proofs.Gathers.{is_number, positive, positive-plus, positive-times, has-append, has-filter, times-append}
+use Rattle.place_model.proofs.Gathers.{is_number, positive, positive-times, has-append, has-filter}
 
 one_of : (b : Bool) → (if b then 1 else 0) ≡ (if b then 1 else 0) + 0
 one_of true = refl

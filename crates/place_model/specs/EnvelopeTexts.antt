@@ -1,5 +1,5 @@
 -- What the bytes of tags, envelopes and entries of the table tell, as Celery's envelopes have it, and the setting of the keys without a prefix.
-use Rattle.std.specs.Prelude.{ℕ, Option, option_map}
+use Rattle.std.specs.Prelude.{Option, option_map}
 use Rattle.std.specs.Result.{result_ok}
 use Rattle.serde_json.specs.Data.{Data}
 use Rattle.envelope.specs.Bodies.{body_in, body_of, carried, entry_of, tag_of_bytes}

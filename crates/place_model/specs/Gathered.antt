@@ -1,5 +1,5 @@
 -- What a walk over a history's entries gathers, by the numbers of tags: of each client what is in its hand and what its commands since MULTI do to messages, and which messages were pushed, ended and copied.
-use Rattle.std.specs.Prelude.{ℕ, zero, suc, ℤ, ◌+◌, Bool, true, false, not, ◌&&◌, ◌||◌, ◌==◌, nat_le, if◌then◌else◌, List, [], ◌∷◌, ◌++◌, filter, map, Option, None, Some, option_and_then}
+use Rattle.std.specs.Prelude.{ℕ, ℤ, ◌+◌, Bool, true, false, not, ◌||◌, ◌==◌, nat_le, if◌then◌else◌, List, [], ◌∷◌, ◌++◌, filter, map, Option, None, Some, option_and_then}
 use Rattle.std.specs.Ordering.{nat_cmp}
 use Rattle.std.specs.FinMap.{FinMap, empty, entries, get, insert}
 use Rattle.resp_wire.specs.declared.value.Value.{Value}
@@ -244,10 +244,14 @@ abbrev pub told_by : Setting → List (Bytes × Held) → List (ℕ × (Bytes ×
 told_by σ [] = []
 told_by σ (e ∷ es) = told_under σ (σ.split e.0) e.1 ++ told_by σ es
 
+-- the message in the hand of a client that is gone, or of one that isn't
+abbrev pub hand_if : Bool → Seat → Option ℕ
+hand_if gone seat = if seat.stopped then (if gone then seat.hand else None) else (if gone then None else seat.hand)
+
 -- the messages in the hands of clients that are gone, or that aren't, in the order of connections
 abbrev pub hands : Bool → List (ℕ × Seat) → List (ℕ × ℕ)
 hands gone [] = []
-hands gone (e ∷ es) = (if e.1.stopped then (if gone then map (λ n. (n, e.0)) (listed e.1.hand) else []) else (if gone then [] else map (λ n. (n, e.0)) (listed e.1.hand))) ++ hands gone es
+hands gone (e ∷ es) = map (λ n. (n, e.0)) (listed (hand_if gone e.1)) ++ hands gone es
 
 -- ---- places
 

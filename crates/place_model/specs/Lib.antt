@@ -29,3 +29,4 @@ pub mod NameFaults
 pub mod Shown
 pub mod Accepted
 pub mod Gathered
+pub mod GatheredLaws

@@ -1,5 +1,5 @@
 -- Why a text is no lawful name of a queue, by the first reason that holds.
-use Rattle.std.specs.Prelude.{◌≡◌, ℕ, Bool, not, nat_lt, if◌then◌else◌, List, [], ◌∷◌, length, position, Option, None, Some}
+use Rattle.std.specs.Prelude.{ℕ, not, nat_lt, if◌then◌else◌, [], ◌∷◌, length, position, Option, None, Some}
 use Rattle.place_model.specs.Names.{Bytes, is_free, is_reserved}
 use Rattle.place_model.specs.declared.queue_name.NameFault.{NameFault}
 use Rattle.place_model.specs.declared.queue_name.NameFault.TheVariants.{Empty, Long, Byte, Reserved, Memory}

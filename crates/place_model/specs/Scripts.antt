@@ -1,5 +1,5 @@
 -- What a client says in a block, as a script: each next command, by the answers so far.
-use Rattle.std.specs.Prelude.{◌≡◌, ℕ, zero, suc, Bool, true, false, if◌then◌else◌, bytes_eq, List, [], ◌∷◌, ◌++◌, codes, decimal, Option, None, Some, option_and_then}
+use Rattle.std.specs.Prelude.{◌≡◌, ℕ, zero, suc, Bool, true, false, if◌then◌else◌, bytes_eq, List, [], ◌∷◌, codes, decimal, Option, None, Some, option_and_then}
 use Rattle.resp_wire.specs.Layer.{layer}
 use Rattle.resp_wire.specs.declared.value.Value.TheOpen.{Value-F}
 use Rattle.resp_wire.specs.declared.value.Value.{Value}

@@ -1,6 +1,7 @@
 //! What the definitions of keys, lookups and tokens keep, for every key layout.
 ghost use Rattle.place_model.specs.KeyLaws.{KeyTells, SplitTells, OnlyKeysSplit, OthersApart, PopsCount, PopsTell, StepsTell, RoutesTell, MembersTell, TokenTells};
 ghost use Rattle.place_model.specs.EnvelopeTexts.{EnvelopesServe};
+ghost use Rattle.place_model.specs.GatheredLaws.{PlacesGathered};
 ghost use Rattle.place_model.specs.SettingLaws.{LayoutsServe};
 
 // A queue's key tells the queue and its step, and the split of a key gives them for such a key alone.
@@ -37,4 +38,9 @@ pub fn tokens()
 pub fn layouts_serve()
     ensures layouts { LayoutsServe }
     ensures envelopes { EnvelopesServe }
+{}
+
+// What was gathered from a history tells the place of each message.
+pub fn places_gathered()
+    ensures { PlacesGathered }
 {}

@@ -3,12 +3,14 @@
 
 mod answer;
 mod block;
+mod hands;
 mod heard;
 mod history;
 mod keys;
 mod laws;
 mod numbered;
 mod place;
+mod placed;
 mod queue_name;
 mod seat;
 mod told;

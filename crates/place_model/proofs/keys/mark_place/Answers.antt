@@ -1,4 +1,4 @@
-use Rattle.std.proofs.Common.{◌≡◌, ap, ◌∙◌, sym, take, drop, length}
+use Rattle.std.proofs.Common.{ap, ◌∙◌, sym, take, drop}
 use Rattle.place_model.proofs.Cuts.{name_taken, mark_left, place_is, no_place}
 use Rattle.place_model.proofs.keys.mark_place.Goals as goal
 

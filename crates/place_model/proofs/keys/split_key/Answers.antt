@@ -1,4 +1,4 @@
-use Rattle.std.proofs.Common.{◌≡◌, ◌∙◌, sym, subst, Some, None, MatchOption, Option, ℕ, List, take}
+use Rattle.std.proofs.Common.{◌≡◌, ◌∙◌, sym, subst, Some, None, MatchOption, Option, ℕ, take}
 use Rattle.place_model.specs.Names.{Bytes}
 use Rattle.place_model.specs.Layouts.{plain}
 use Rattle.place_model.specs.QueueKeys.{if_name, split_key}

@@ -1,5 +1,4 @@
-use Rattle.std.proofs.Common.{◌≡◌, ◌++◌, ◌≤◌, ◌⊎◌, inl, inr, length}
-use Rattle.place_model.specs.Gathered.{ended_in}
+use Rattle.std.proofs.Common.{◌≤◌, ◌⊎◌, inl, inr, length}
 use Rattle.place_model.proofs.Seats.{ended_all}
 use Rattle.place_model.proofs.transaction.add_ended_in.Goals.{then-loop-at-test+else-at-answers, else-loop-at-test}
 use Rattle.place_model.proofs.transaction.add_ended_in.Goals as goal

@@ -1,4 +1,4 @@
-use Rattle.std.proofs.Common.{◌≡◌, Some, None, is_none, sym, ap, ◌∙◌}
+use Rattle.std.proofs.Common.{is_none, sym, ap, ◌∙◌}
 use Rattle.place_model.specs.Names.{is_name}
 use Rattle.place_model.proofs.NameFaults.{lawful_none, fault_told}
 use Rattle.place_model.proofs.queue_name.QueueName.new.Goals as goal
