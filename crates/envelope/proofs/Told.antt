@@ -1,15 +1,20 @@
 -- What a tree says as an envelope, member by member.
-use Rattle.std.proofs.Common.{◌≡◌, ℕ, List, true, codes, Option, Some, None, option_and_then, Result, Ok, refl, ap, ◌∙◌}
+use Rattle.std.proofs.Common.{◌≡◌, ◌≤◌, ℕ, List, length, Bool, true, false, codes, if◌then◌else◌, Option, Some, None, option_and_then, Result, Ok, Err, refl, sym, ap, subst, ◌∙◌}
+use Rattle.std.specs.Prelude.{IsUtf8}
+use Rattle.std.specs.Str.{is_utf8}
+use Rattle.std.proofs.lemmas.Str.{IsUtf8-from_is_utf8}
+use Rattle.base64.specs.Engines.{standard}
+use Rattle.base64.specs.GeneralPurpose.{decoded_of}
 use Rattle.serde_json.specs.Data.{Data}
 use Rattle.serde_json.specs.Find.{get}
 use Rattle.envelope.specs.declared.fault.Field.TheVariants as field
 use Rattle.envelope.specs.declared.fault.EnvelopeFault.{EnvelopeFault}
 use Rattle.envelope.specs.declared.fault.EnvelopeFault.TheVariants.{TooLong, Missing, Compressed, BadBody}
-use Rattle.envelope.specs.Envelopes.{Parts, parts_of, properties_said, info_said, content_of, are_short}
+use Rattle.envelope.specs.Envelopes.{Parts, said_by, parts_of, properties_said, info_said, content_of, if_text, are_short}
 use Rattle.envelope.specs.Members.{text_at, object_at, is_word, is_word_any_case, is_nothing}
 use Rattle.envelope.specs.Reading.{◌>>=◌, needed, wanted}
 use Rattle.envelope.specs.Tags.{tag_of_text}
-use Rattle.envelope.proofs.Said.{bind_ok, wanted_is, needed_is}
+use Rattle.envelope.proofs.Said.{bind_ok, wanted_is, needed_is, said_is}
 
 same_parts : (a b : Parts) → ◌≡◌ {A = Result Parts EnvelopeFault} (Ok a) (Ok b) → a ≡ b
 same_parts a b e = cc
@@ -125,3 +130,21 @@ pub told_from : (d : Data) (p : Parts) → IsTold d p → parts_of d ≡ Ok p
 unfolding parts_of
 told_from d p h =
     rw (h.body_is, h.encoding, h.kind, h.headers_is, h.properties_is, properties_from h.body h.properties h.said h.inner, h.plain, h.content_is, h.short, h.tag_is, h.exchange_is, h.routing_key_is) refl
+
+-- ---- what is said is text
+
+text_only : (v c : List ℕ) → if_text v ≡ Some c → IsUtf8 c
+text_only v c e = go (is_utf8 v) refl e
+  where
+    go : (t : Bool) → is_utf8 v ≡ t → (if t then Some v else None) ≡ Some c → IsUtf8 c
+    go true i f = let s : v ≡ c = cc in subst IsUtf8 s (IsUtf8-from_is_utf8 v i)
+    go false i f = cc
+
+content_text : (o : Option (List ℕ)) (c : List ℕ) → option_and_then if_text o ≡ Some c → IsUtf8 c
+content_text None c e = cc
+content_text (Some v) c e = text_only v c e
+
+-- the content of an envelope is UTF-8
+pub said_text : (d : Data) (p : Parts) → said_by d ≡ Ok p → IsUtf8 p.content
+unfolding content_of
+said_text d p e = let h = told_by d p (said_is d p e).parts in content_text (decoded_of standard h.body) p.content h.content_is

@@ -10,7 +10,7 @@ ghost use Rattle.envelope.specs.declared.fault.EnvelopeFault.TheVariants.{NotJso
 use crate::envelope::Envelope;
 use crate::fault::EnvelopeFault;
 use crate::find::want;
-use crate::reading::{envelope_in, fit_names, json};
+use crate::reading::{fit_names, json, of_tree};
 use resp_wire::Bytes;
 use serde_json::{Value, json};
 use std::alloc::{AllocError, Global};
@@ -42,7 +42,7 @@ pub fn read_entry(alloc: Global, bytes: &[u8]) -> Result<UnackedEntry, EnvelopeF
     want(bytes.len() <= MAX_ENTRY, EnvelopeFault::TooLong)?;
     let value = json(alloc, bytes)?;
     let items = needed_items(&value)?;
-    let envelope = envelope_in(alloc, items.tree.clone()?)?;
+    let envelope = of_tree(alloc, items.tree.clone()?)?;
     want(
         fit_names(items.exchange, items.routing_key),
         EnvelopeFault::TooLong,

@@ -1,5 +1,5 @@
 //! A message in its envelope.
-ghost use Rattle.std.specs.Prelude.{◌≡◌, Ok, IfOk, length};
+ghost use Rattle.std.specs.Prelude.{◌≡◌, Ok, IfOk, IsUtf8, length};
 ghost use Rattle.serde_json.specs.View.{view as data_of};
 ghost use Rattle.serde_json.specs.Written.{compact_text};
 ghost use Rattle.envelope.specs.Envelopes.{envelope_at, parts_in, priority_of, said_by};
@@ -76,7 +76,8 @@ impl Envelope {
 
     /// The content of the body, which is UTF-8.
     pub fn content(&self) -> &[u8]
-        ensures { result.now ≡ (parts_in (data_of self.now)).content }
+        ensures value { result.now ≡ (parts_in (data_of self.now)).content }
+        ensures text { IsUtf8 result.now }
     {
         self.found.content.as_slice()
     }
@@ -90,16 +91,18 @@ impl Envelope {
 
     /// The exchange, at most 255 bytes of UTF-8; empty where the message went to its queue directly.
     pub fn exchange(&self) -> &[u8]
-        ensures { result.now ≡ (parts_in (data_of self.now)).exchange }
+        ensures value { result.now ≡ (parts_in (data_of self.now)).exchange }
+        ensures text { IsUtf8 result.now }
     {
-        self.found.exchange.as_bytes()
+        self.found.exchange.as_str().as_bytes()
     }
 
     /// The routing key, at most 255 bytes of UTF-8.
     pub fn routing_key(&self) -> &[u8]
-        ensures { result.now ≡ (parts_in (data_of self.now)).routing_key }
+        ensures value { result.now ≡ (parts_in (data_of self.now)).routing_key }
+        ensures text { IsUtf8 result.now }
     {
-        self.found.routing_key.as_bytes()
+        self.found.routing_key.as_str().as_bytes()
     }
 
     /// The priority, held within 0 to 9; 0 where the properties tell no whole number.

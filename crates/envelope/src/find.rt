@@ -10,14 +10,14 @@ use crate::fault::{EnvelopeFault, Field};
 use serde_json::Value;
 
 /// The text at a name.
-pub(crate) fn text<'a>(value: &'a Value, name: &str) -> Option<&'a str>
+pub fn text<'a>(value: &'a Value, name: &str) -> Option<&'a str>
     ensures { option_map (λ s. s.now) result ≡ text_at name.now (view value.now) }
 {
     value.get(name)?.as_str()
 }
 
 /// The object at a name.
-pub(crate) fn object<'a>(value: &'a Value, name: &str) -> Option<&'a Value>
+pub fn object<'a>(value: &'a Value, name: &str) -> Option<&'a Value>
     ensures { option_map (λ v. view v.now) result ≡ object_at name.now (view value.now) }
 {
     let member = value.get(name)?;
@@ -79,7 +79,7 @@ pub(crate) fn is_word_any_case_at(value: &Value, name: &str, word: &str) -> bool
 }
 
 /// Whether a member is absent or null.
-pub(crate) fn is_nothing_at(value: &Value, name: &str) -> bool
+pub fn is_nothing_at(value: &Value, name: &str) -> bool
     ensures { result ≡ is_nothing (get name.now (view value.now)) }
 {
     match value.get(name) {

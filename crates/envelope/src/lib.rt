@@ -4,21 +4,24 @@
 mod entry;
 mod envelope;
 mod fault;
-mod find;
+pub mod find;
 mod laws;
 mod marks;
 mod reading;
 mod sealing;
 mod seed;
 mod tag;
-mod walk;
+pub mod walk;
 
 pub use entry::{UnackedEntry, read_entry, write_entry};
 pub use envelope::{Envelope, Tree, write};
 pub use fault::{EnvelopeFault, Field};
 pub use laws::{bodies_stay, envelopes_read, marks_stay, tags_tell, texts_read_back};
 pub use marks::redelivered;
-pub use reading::read;
+pub use reading::{of_tree, read};
 pub use sealing::{Draft, seal};
 pub use seed::Seed;
 pub use tag::Tag;
+
+#[cfg(test)]
+mod tests;

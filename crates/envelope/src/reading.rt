@@ -11,7 +11,7 @@ ghost use Rattle.envelope.specs.Tags.{tag_of_text};
 ghost use Rattle.envelope.specs.declared.fault.EnvelopeFault.TheVariants.{BadBody, Missing, NotJson};
 ghost use Rattle.envelope.specs.declared.fault.Field.TheVariants as field;
 
-use crate::envelope::{Envelope, Found};
+use crate::envelope::{Envelope, Found, Tree};
 use crate::fault::{EnvelopeFault, Field};
 use crate::find::{
     is_nothing_at, is_word_any_case_at, is_word_at, needed_object, needed_text, text, want,
@@ -49,7 +49,7 @@ pub fn read(alloc: Global, bytes: &[u8]) -> Result<Envelope, EnvelopeFault>
     ensures { Gives data_of result (envelope_at bytes.now) }
 {
     let tree = tree_of(alloc, bytes)?;
-    envelope_in(alloc, tree)
+    of_tree(alloc, tree)
 }
 
 /// The tree of the bytes.
@@ -75,9 +75,12 @@ pub(crate) fn json(alloc: Global, bytes: &[u8]) -> Result<Value, EnvelopeFault>
     }
 }
 
-/// The envelope of a tree.
+/// The envelope of a JSON tree, as where a tree was changed.
+///
+/// # Errors
+/// As `read`, from `TooDeep` on.
 #[tactic(auto, unfolding(crate::specs::Envelopes::envelope_of, crate::specs::Envelopes::said_by))]
-pub(crate) fn envelope_in(alloc: Global, tree: Value) -> Result<Envelope, EnvelopeFault>
+pub fn of_tree(alloc: Global, tree: Tree) -> Result<Envelope, EnvelopeFault>
     ensures { Gives data_of result (envelope_of (data_of tree)) }
 {
     want(nests_within(&tree, MAX_LEVELS), EnvelopeFault::TooDeep)?;

@@ -9,7 +9,7 @@ ghost use Rattle.envelope.specs.Sealed.{seal_of, sealed_info, sealed_properties,
 
 use crate::envelope::{Envelope, Tree};
 use crate::fault::EnvelopeFault;
-use crate::reading::envelope_in;
+use crate::reading::of_tree;
 use crate::tag::Tag;
 use base64::engine::general_purpose::STANDARD;
 use resp_wire::Bytes;
@@ -52,7 +52,7 @@ pub fn seal(alloc: Global, draft: &Draft, tag: Tag) -> Result<Envelope, Envelope
     let body = body_of(alloc, draft.content.as_slice())?;
     let text = tag.text();
     let tree = drafted_tree(alloc, draft, body.as_str(), text_of(&text))?;
-    envelope_in(alloc, tree)
+    of_tree(alloc, tree)
 }
 
 /// The body of a content, its base64.

@@ -1,4 +1,4 @@
-//! What a tree has at any depth.
+//! What a JSON tree has at any depth.
 ghost use Rattle.std.specs.Prelude.{◌≡◌, nat_le};
 ghost use Rattle.serde_json.specs.Data.{depth, items_depth, members_depth};
 ghost use Rattle.serde_json.specs.Written.{has_float, items_have_float, members_have_float};
@@ -6,9 +6,9 @@ ghost use Rattle.serde_json.specs.View.{view, items_view, members_view};
 
 use serde_json::{Map, Value};
 
-/// Whether arrays and objects nest at most so deep.
+/// Whether arrays and objects nest at most `limit` deep; a value that is neither nests 0 deep.
 #[cycle(nests)]
-pub(crate) fn nests_within(value: &Value, limit: u32) -> bool
+pub fn nests_within(value: &Value, limit: u32) -> bool
     ensures { result ≡ nat_le (depth (view value.now)) limit }
 {
     match value {
@@ -42,9 +42,9 @@ fn members_nest(members: &Map<String, Value>, limit: u32) -> bool
     true
 }
 
-/// Whether a number is held as a float.
+/// Whether a number is held as a float: one that is no whole number from -2^63 to 2^64 - 1.
 #[cycle(floats)]
-pub(crate) fn holds_float(value: &Value) -> bool
+pub fn holds_float(value: &Value) -> bool
     ensures { result ≡ has_float (view value.now) }
 {
     match value {

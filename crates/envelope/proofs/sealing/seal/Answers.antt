@@ -30,4 +30,4 @@ returns c =
     let back : content_of (encode_of standard content) ≡ if_text content = ap (λ (x : List ℕ). content_of (encode_of standard x)) (sym same) ∙ c.in_ok-body.ensures.back ∙ ap if_text same in
     let is : data_of c.in_ok-tree.tree ≡ sealed c.args.draft.now c.args.tag.0 = c.in_ok-tree.ensures ∙ made c.args.draft.now c.args.tag.0 c.as_str.result.now c.text_of.result.now body (c.text_of.ensures ∙ c.text-text.ensures.value) in
     let reads : tag_of_text (tag_text c.args.tag.0) ≡ Some c.args.tag.0 = ap tag_of_text (sym c.text-text.ensures.value) ∙ c.text-text.ensures.read in
-    subst (λ r. Gives data_of c.envelope_in.result r) (ap envelope_of is ∙ sealed_is c.args.draft.now c.args.tag.0 back reads) c.envelope_in.ensures
+    subst (λ r. Gives data_of c.of_tree.result r) (ap envelope_of is ∙ sealed_is c.args.draft.now c.args.tag.0 back reads) c.of_tree.ensures
