@@ -7,3 +7,5 @@ pub mod Routes
 pub mod Texts
 pub mod Settings
 pub mod Examples
+pub mod NameFaults
+pub mod Cuts

@@ -24,3 +24,5 @@ pub mod Identity
 pub mod Passes
 pub mod SettingLaws
 pub mod Scripts
+pub mod NameFaults
+pub mod Shown

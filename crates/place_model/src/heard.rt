@@ -19,25 +19,15 @@ pub enum Heard {
     /// Its task was taken to be run.
     Took(Tag),
     /// Its task ended.
-    Finished {
-        tag: Tag,
-        outcome: Outcome,
-    },
+    Finished { tag: Tag, outcome: Outcome },
     /// Its task expired before it was run; moments are in microseconds since 1970.
-    Expired {
-        tag: Tag,
-        expires: i64,
-        now: i64,
-    },
+    Expired { tag: Tag, expires: i64, now: i64 },
     /// Its task was revoked before it was run.
     Revoked(Tag),
     /// It carries no task that is known.
     Rejected(Tag),
     /// Its task is to run at a later moment, in microseconds since 1970.
-    Held {
-        tag: Tag,
-        eta: i64,
-    },
+    Held { tag: Tag, eta: i64 },
     /// What was popped is no envelope.
     Unreadable,
 }

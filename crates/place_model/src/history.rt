@@ -1,6 +1,14 @@
-//! Entries of a history.
+//! Histories: what a store's clients called, noted and left.
+ghost use Rattle.std.specs.Prelude.{◌≡◌, [], ◌∷◌, OnOk, OnErr};
+ghost use Rattle.std.specs.FinMap.{empty};
+ghost use Rattle.place_model.specs.Histories.{and_then, conn_of, connections, seeds};
+ghost use Rattle.place_model.specs.QueueKeys.{IsAway};
+ghost use Rattle.place_model.specs.Shown.{IsRunning, and_client, history_of, seed_of};
+
+use crate::Heard;
 use mini_store::Reply;
-use resp_wire::Words;
+use resp_wire::{List, Words};
+use std::alloc::{AllocError, Global};
 
 /// An entry of a history: a call of a connection, a note of its client, or its end. `N` is the type of notes.
 #[derive(Debug, Drop)]
@@ -21,4 +29,69 @@ pub enum Entry<N> {
     Stop {
         conn: u32,
     },
+}
+
+/// A history of a store: its clients, each a connection with the seed of its tags, and the entries in order. The store
+/// begins with no key.
+#[derive(Debug, Drop)]
+pub struct History {
+    clients: List<(u32, u64)>,
+    entries: List<Entry<Heard>>,
+}
+
+impl History {
+    /// No clients and no entries; takes no memory.
+    pub fn new() -> History
+        ensures { history_of result ≡ record { start = empty; used = []; clients = []; entries = [] } }
+    {
+        History {
+            clients: List::new(),
+            entries: List::new(),
+        }
+    }
+
+    /// Adds a client by its connection and its seed; without memory nothing changes.
+    pub fn client(&mut self, alloc: Global, conn: u32, seed: u64) -> Result<(), AllocError>
+        requires conn { IsAway conn (connections (history_of self.old).clients) }
+        requires seed { IsAway seed (seeds (history_of self.old).clients) }
+        ensures ok { OnOk result (history_of self.new ≡ and_client (history_of self.old) conn seed) }
+        ensures err { OnErr result (self.new ≡ self.old) }
+    {
+        Ok(self.clients.push(alloc, (conn, seed))?)
+    }
+
+    /// Adds an entry of a client that isn't gone; without memory nothing changes.
+    pub fn add(&mut self, alloc: Global, entry: Entry<Heard>) -> Result<(), AllocError>
+        requires { IsRunning (history_of self.old) (conn_of entry) }
+        ensures ok { OnOk result (history_of self.new ≡ and_then (history_of self.old) (entry ∷ [])) }
+        ensures err { OnErr result (self.new ≡ self.old) }
+    {
+        Ok(self.entries.push(alloc, entry)?)
+    }
+
+    /// The entries in order.
+    pub fn entries(&self) -> &[Entry<Heard>]
+        ensures { result.now ≡ (history_of self.now).entries }
+    {
+        self.entries.as_slice()
+    }
+
+    /// The connections with their seeds, in the order in which they were added.
+    pub fn clients(&self) -> &[(u32, u64)]
+        ensures { result.now ≡ (history_of self.now).clients }
+    {
+        self.clients.as_slice()
+    }
+
+    /// The seed of a connection. None where it isn't in the table.
+    pub fn seed_of(&self, conn: u32) -> Option<u64>
+        ensures { result ≡ seed_of conn (history_of self.now).clients }
+    {
+        for (number, seed) in self.clients.as_slice() {
+            if *number == conn {
+                return Some(*seed);
+            }
+        }
+        None
+    }
 }

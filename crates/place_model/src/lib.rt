@@ -4,10 +4,14 @@
 mod block;
 mod heard;
 mod history;
+mod keys;
 mod laws;
 mod place;
+mod queue_name;
 
 pub use block::Side;
 pub use heard::{Heard, Outcome};
-pub use history::Entry;
+pub use history::{Entry, History};
+pub use keys::{pop_keys, queue_key, split_key, step_of};
 pub use place::Place;
+pub use queue_name::{NameFault, QueueName, is_name, is_reserved};
