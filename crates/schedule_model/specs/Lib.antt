@@ -5,3 +5,4 @@ pub mod Faults
 pub mod Lines
 pub mod Reports
 pub mod Schedules
+pub mod Drafts
