@@ -1,3 +1,12 @@
 pub mod Steps
 pub mod Made
 pub mod Ways
+pub mod Tests
+pub mod Asked
+pub mod Seconds
+pub mod Allowed
+pub mod Values
+pub mod Told
+pub mod Judged
+pub mod LayoutReads
+pub mod Examples

@@ -16,9 +16,9 @@ use Rattle.place_model.specs.PassBlocks.{PassEnd, Held, Stuck, Done, IsReturns, 
 use Rattle.place_model.specs.Blocks.{Answered as Answered_block, Kind, Drawing, Passing, Other, drawn, passed, IsBlock, Declare, Undeclare, Publish, Publish_short, Pop, End, Return, Pass, Neutral, AreBlocks}
 use Rattle.place_model.specs.declared.block.Side.{Side}
 use Rattle.place_model.specs.declared.block.Side.TheVariants.{Left, Right}
-use Rattle.manner_laws.specs.Spots.{Job, Open, Alone, Of_pass, tag_in, MayPush, settled, Spot, Free, Listed, Pushing, Popped, Pop_begun, Pop_indexed, End_begun, End_removed, Filled, Looking, Waiting, Watched, Leaving, Asking, Ready, Begun, Removed, Putting, Locked, Turning, Release_watched, Release_own, Release_begun, Release_deleted, Release_foreign, pushing, finished, gave_up, routed, Ask, Count, Consent, Place, Counts, Anything, Bindings, Message, Entry, Routes, Move, Lock, Due, Holder, Release}
-use Rattle.manner_laws.specs.Machine.{Begins, Declares, Undeclares, Publishes, Lists, Pops, Ends, Returns, Passes, Concerns_none, Asks, Starts, Starts_next, Pushes_first, Pushes, Pop_begins, Pop_indexes, Pop_sets, End_removes, End_deletes, Executes, Names, Tries, Reads, Leaves, Looks_up, Takes, Removes, Deletes, Puts, Moves, Looks, Turns, Lets_go, Inspects, Release_begins, Release_deletes, Release_ends, Leaves_foreign, Tells, Goes, Runs}
-use Rattle.manner_laws.proofs.Steps.{on_count, on_consent, on_place, on_counts, on_anything, on_bindings, on_message, on_entry, on_routes, on_move, on_lock, on_due, on_holder, on_release}
+use Rattle.manner_laws.specs.Spots.{Job, Open, Alone, Of_pass, tag_in, MayPush, settled, Spot, Free, Listed, Pushing, Popped, Pop_begun, Pop_indexed, End_begun, End_removed, Filled, Looking, Waiting, Watched, Leaving, Asking, Ready, Begun, Removed, Putting, Locked, Turning, Release_watched, Release_own, Release_begun, Release_deleted, Release_foreign, pushing, finished, gave_up, routed, Ask, Entry}
+use Rattle.manner_laws.specs.Machine.{Begins, Declares, Undeclares, Publishes, Lists, Pops, Ends, Returns, Passes, Concerns_none, Asks, Starts, Starts_next, Pushes_first, Pushes, Pop_begins, Pop_indexes, Pop_sets, End_removes, End_deletes, Executes, Names, Tries, Reads, Leaves, Looks_up, Takes, Removes, Deletes, Puts, Moves, Looks, Turns, Lets_go, Inspects, Release_begins, Release_deletes, Release_ends, Leaves_foreign, Tells, Runs}
+use Rattle.manner_laws.proofs.Steps.{on_count, on_consent, on_queueing, on_counts, on_anything, on_bindings, on_message, on_entry, on_routes, on_move, on_lock, on_due, on_holder, on_release}
 
 pub runs_join : (σ : Setting) (s : ℕ) (a b c : Spot) (xs ys : List Call) → Runs σ s a xs b → Runs σ s b ys c → Runs σ s a (xs ++ ys) c
 runs_join σ s a b c [] ys r q = subst (λ x. Runs σ s x ys c) (sym r) q
@@ -312,12 +312,12 @@ module _ (σ : Setting) (s : ℕ) where
       let x = pushed n p v ks l h in
       ((a, k, z) ∷ x.0, x.1, ap (λ y. k ∷ y) x.2, ap (λ y. call a (codes "LPUSH" ∷ k ∷ v ∷ []) (Integer z) ∷ y) x.3, x.4)) r c' tells
   before c a words q r c' l (Pop_begins n p b v t) tells = on_consent σ s (Next c a words l) (Pop_begun n p v t) (λ h d names k ks q pop tag. h d a names k ks q pop tag) r c' tells
-  before c a words q r c' l (Pop_indexes n p b v t lt) tells = on_place σ s (Next c a words l) (Pop_indexed n p v t) (λ h d e names k ks q pop tag. h d e a names k ks q pop tag lt) r c' tells
-  before c a words q r c' l (Pop_sets n p b v t) tells = on_place σ s (Next c a words l) (Filled n p) (λ h d e f names k ks q pop tag lt.
+  before c a words q r c' l (Pop_indexes n p b v t lt) tells = on_queueing σ s (Next c a words l) (Pop_indexed n p v t) (λ h d e names k ks q pop tag. h d e a names k ks q pop tag lt) r c' tells
+  before c a words q r c' l (Pop_sets n p b v t) tells = on_queueing σ s (Next c a words l) (Filled n p) (λ h d e f names k ks q pop tag lt.
       subst (λ z. Rest σ s n p (call d (brpop_words k ks) (pair q v) ∷ call e (codes "MULTI" ∷ []) done ∷ call f (codes "ZADD" ∷ σ.index ∷ decimal f ∷ t ∷ []) queued ∷ call a (codes "HSET" ∷ σ.unacked ∷ t ∷ σ.entry_of v ∷ []) queued ∷ z)) h.4
       (block_then σ s n p Other _ h.3 (Pop names _ (Popped_block d e f a h.0 k ks q v t h.1 h.2 pop tag lt)) h.5)) r c' tells
-  before c a words q r c' l (End_removes n p b t is) tells = on_place σ s (Next c a words l) (End_removed n p t) (λ h d. h d a is) r c' tells
-  before c a words q r c' l (End_deletes n p b t) tells = on_place σ s (Next c a words l) (Filled n p) (λ h d e is.
+  before c a words q r c' l (End_removes n p b t is) tells = on_queueing σ s (Next c a words l) (End_removed n p t) (λ h d. h d a is) r c' tells
+  before c a words q r c' l (End_deletes n p b t) tells = on_queueing σ s (Next c a words l) (Filled n p) (λ h d e is.
       subst (λ z. Rest σ s n p (call d (codes "MULTI" ∷ []) done ∷ call e (codes "ZREM" ∷ σ.index ∷ t ∷ []) queued ∷ call a (codes "HDEL" ∷ σ.unacked ∷ t ∷ []) queued ∷ z)) h.4
       (block_then σ s n p Other _ h.3 (End t _ (Acknowledged d e a h.0 h.1 h.2 is)) h.5)) r c' tells
   before c a words q r c' l (Executes n p b) tells = on_counts σ s (Next c a words l) (Free n p) (λ x y h. (a, x, y, l, refl, h)) r c' tells
@@ -328,9 +328,9 @@ module _ (σ : Setting) (s : ℕ) where
   before c a words q r c' l (Looks_up n p b j k u v e) tells = on_routes σ s (Next c a words l) n p j k u v (λ ms h d f carries some.
       subst (λ o. JobRest σ s n p j k (reading σ (tag_in j) d f (Bulk u) (asking σ o a ms l))) some (went n p j k d f a u v ms l (σ.keys_in u ms) carries refl h)) r c' tells
   before c a words q r c' l (Takes n p b j k v x xs) tells = on_consent σ s (Next c a words l) (Begun n p j k v x xs) (λ h. (a, l, refl, h)) r c' tells
-  before c a words q r c' l (Removes n p b j k v x xs) tells = on_place σ s (Next c a words l) (Removed n p j k v x xs) (λ h. (a, l, refl, h)) r c' tells
-  before c a words q r c' l (Deletes n p b j k v x xs) tells = on_place σ s (Next c a words l) (Putting n p j k v (x ∷ xs)) (λ h. (a, l, refl, h)) r c' tells
-  before c a words q r c' l (Puts n p b j k v x xs side may) tells = on_place σ s (Next c a words l) (Putting n p (settled j side) k v xs) (λ h. put_before n p j k v x xs side a l may h) r c' tells
+  before c a words q r c' l (Removes n p b j k v x xs) tells = on_queueing σ s (Next c a words l) (Removed n p j k v x xs) (λ h. (a, l, refl, h)) r c' tells
+  before c a words q r c' l (Deletes n p b j k v x xs) tells = on_queueing σ s (Next c a words l) (Putting n p j k v (x ∷ xs)) (λ h. (a, l, refl, h)) r c' tells
+  before c a words q r c' l (Puts n p b j k v x xs side may) tells = on_queueing σ s (Next c a words l) (Putting n p (settled j side) k v xs) (λ h. put_before n p j k v x xs side a l may h) r c' tells
   before c a words q r c' l (Moves n p b j k v) tells =
       let side = some_side j in
       on_move σ s (Next c a words l) n p j k
@@ -352,7 +352,7 @@ module _ (σ : Setting) (s : ℕ) where
       (λ h d. (_, h.1, Foreign_release d a h.0 NullBulk (inr refl), h.3, ap (λ z. call d (codes "WATCH" ∷ σ.mutex ∷ []) done ∷ call a (codes "GET" ∷ σ.mutex ∷ []) NullBulk ∷ z) h.2))
       r c' tells
   before c a words q r c' l (Release_begins n p b) tells = on_consent σ s (Next c a words l) (Release_begun n p) (λ h d e. h d e a) r c' tells
-  before c a words q r c' l (Release_deletes n p b) tells = on_place σ s (Next c a words l) (Release_deleted n p) (λ h d e f. h d e f a) r c' tells
+  before c a words q r c' l (Release_deletes n p b) tells = on_queueing σ s (Next c a words l) (Release_deleted n p) (λ h d e f. h d e f a) r c' tells
   before c a words q r c' l (Release_ends n p b) tells =
       on_release σ s (Next c a words l) n p
       (λ rs h d e f g. (_, l, Own_release d e f g a (Array rs) (inl (rs, refl)), h, refl))

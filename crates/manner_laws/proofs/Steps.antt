@@ -1,5 +1,5 @@
 -- What can follow each thing that is asked.
-use Rattle.std.proofs.Common.{◌≡◌, ℕ, ℤ, suc, ◌<◌, List, [], ◌∷◌, Bool, false, Some, None}
+use Rattle.std.proofs.Common.{◌≡◌, ℕ, ℤ, suc, ◌<◌, List, [], ◌∷◌, false, Some, None}
 use Rattle.resp_wire.specs.declared.value.Value.{Value}
 use Rattle.resp_wire.specs.declared.value.Value.TheVariants.{Integer, Bulk, NullBulk, Array, NullArray}
 use Rattle.mini_store.specs.Replies.{done, queued, pair, bulks}
@@ -8,11 +8,11 @@ use Rattle.place_model.specs.Names.{Bytes}
 use Rattle.place_model.specs.Texts.{token}
 use Rattle.place_model.specs.Answers.{integers, is_error}
 use Rattle.place_model.specs.Setting.{Setting}
-use Rattle.place_model.specs.Calls.{Call, call}
+use Rattle.place_model.specs.Calls.{call}
 use Rattle.place_model.specs.ReturnBlocks.{Carries}
 use Rattle.place_model.specs.PassBlocks.{tags_among}
-use Rattle.manner_laws.specs.Spots.{Job, tag_in, Spot, Free, Listed, Popped, Waiting, Leaving, Asking, Locked, Turning, Release_own, Release_foreign, finished, gave_up, routed, Ask, Count, Consent, Place, Counts, Anything, Bindings, Message, Entry, Routes, Move, Lock, Due, Holder, Release}
-use Rattle.manner_laws.specs.Machine.{Asks, Tells, Counted, Consented, Placed, Counted_both, Answered, Bound, Nothing_there, Unreadable, Readable, Missing, Useless, Unnamed, Named, Looked_up, Moved, Failed, Contended, Taken, Given, Members, Own, Foreign, Nobody, Released, Altered, Goes}
+use Rattle.manner_laws.specs.Spots.{Job, tag_in, Spot, Free, Listed, Popped, Waiting, Leaving, Asking, Locked, Turning, Release_own, Release_foreign, finished, gave_up, routed, Ask, Count, Consent, Queueing, Counts, Anything, Bindings, Message, Entry, Routes, Move, Lock, Due, Holder, Release}
+use Rattle.manner_laws.specs.Machine.{Asks, Tells, Counted, Consented, Was_queued, Counted_both, Answered, Bound, Nothing_there, Unreadable, Readable, Missing, Useless, Unnamed, Named, Looked_up, Moved, Failed, Contended, Taken, Given, Members, Own, Foreign, Nobody, Released, Altered, Goes}
 
 module _ (σ : Setting) (s : ℕ) where
   pub by : {c mid : Spot} {a : ℕ} {w : Words} {q : Ask} {r : Value} → Asks σ s c a w q → Tells σ s q r mid → Goes σ s c (call a w r) mid
@@ -24,8 +24,8 @@ module _ (σ : Setting) (s : ℕ) where
   pub on_consent : (P : Value → Spot → Type 0) (c : Spot) → P done c → (r : Value) (c' : Spot) → Tells σ s (Consent c) r c' → P r c'
   on_consent P c f r c' (Consented d) = f
 
-  pub on_place : (P : Value → Spot → Type 0) (c : Spot) → P queued c → (r : Value) (c' : Spot) → Tells σ s (Place c) r c' → P r c'
-  on_place P c f r c' (Placed d) = f
+  pub on_queueing : (P : Value → Spot → Type 0) (c : Spot) → P queued c → (r : Value) (c' : Spot) → Tells σ s (Queueing c) r c' → P r c'
+  on_queueing P c f r c' (Was_queued d) = f
 
   pub on_counts : (P : Value → Spot → Type 0) (c : Spot) → ((x y : ℤ) → P (integers (x ∷ y ∷ [])) c) → (r : Value) (c' : Spot) → Tells σ s (Counts c) r c' → P r c'
   on_counts P c f r c' (Counted_both d x y) = f x y

@@ -1,24 +1,24 @@
 -- Blocks run through the exact machine, and from each spot there is a way to a start.
-use Rattle.std.proofs.Common.{arith, ◌≡◌, ◌⊎◌, inl, inr, ℕ, ℤ, suc, ◌<◌, List, [], ◌∷◌, ◌++◌, Bool, true, false, refl, sym, ap, subst, ◌∙◌, None, Some, Option, codes}
+use Rattle.std.proofs.Common.{arith, ◌≡◌, ◌⊎◌, inl, inr, ℕ, ℤ, suc, ◌^◌, ◌<◌, List, [], ◌∷◌, ◌++◌, Bool, true, false, refl, sym, subst, ◌∙◌, None, Some, Option, codes}
 use Rattle.resp_wire.specs.declared.value.Value.{Value}
-use Rattle.resp_wire.specs.declared.value.Value.TheVariants.{Status, Integer, Bulk, NullBulk, Array, NullArray}
+use Rattle.resp_wire.specs.declared.value.Value.TheVariants.{Bulk, NullBulk, Array, NullArray}
 use Rattle.resp_wire.specs.Layer.{layer}
-use Rattle.mini_store.specs.Replies.{done, queued, bulks}
+use Rattle.mini_store.specs.Replies.{done}
 use Rattle.mini_store.specs.Words.{Words}
 use Rattle.place_model.specs.Names.{Bytes}
 use Rattle.place_model.specs.Texts.{token}
 use Rattle.place_model.specs.Answers.{integers, is_error}
 use Rattle.place_model.specs.Setting.{Setting, IsLawful}
-use Rattle.place_model.specs.Calls.{Call, call, push_word, concat}
-use Rattle.place_model.specs.RouteBlocks.{IsDeclareBlock, IsPublishBlock, IsShortPublish, Told, direct_calls, direct_keys, Plain, Named as Named_block, is_exchange, Asked}
+use Rattle.place_model.specs.Calls.{Call, call, concat}
+use Rattle.place_model.specs.RouteBlocks.{IsDeclareBlock, IsPublishBlock, IsShortPublish, Told, direct_calls, direct_keys, Plain, Named as Named_block, Asked}
 use Rattle.place_model.specs.TakeBlocks.{IsPopBlock, Empty, Unreadable as Unreadable_block, Popped as Popped_block, IsEndBlock, Acknowledged}
-use Rattle.place_model.specs.ReturnBlocks.{ReturnEnd, Moved as Was_moved, Gone, Stayed, Contended as Was_contended, goes_on, queued_calls, queued_keys, reading, asking, leaving, taking, Carries, Try, whole_try, IsTry, IsTries, Missing as Missing_tries, Useless as Useless_tries, Nowhere, Whole, Eighth, Again}
+use Rattle.place_model.specs.ReturnBlocks.{ReturnEnd, Contended as Was_contended, goes_on, queued_calls, queued_keys, reading, asking, leaving, taking, Carries, Try, whole_try, IsTry, IsTries, Missing as Missing_tries, Useless as Useless_tries, Nowhere, Whole, Eighth, Again}
 use Rattle.place_model.specs.PassBlocks.{PassEnd, IsReturns, All_returned, Returned, Returned_until, Ended_early, IsRelease, Own as Own_release, Foreign as Foreign_release, IsPassBlock, tags_among, Is_held, Ran}
-use Rattle.place_model.specs.Blocks.{Pings, IsNeutralBlock, Answered as Answered_block, Kind, Drawing, Passing, Other, drawn, passed, IsBlock, Declare, Undeclare, Publish, Publish_short, Pop, End, Return, Pass, Neutral, AreBlocks, IsFrontOfBlocks, IsMannered}
+use Rattle.place_model.specs.Blocks.{Pings, IsNeutralBlock, Answered as Answered_block, Kind, drawn, passed, IsBlock, Declare, Undeclare, Publish, Publish_short, Pop, End, Return, Pass, Neutral, AreBlocks, IsFrontOfBlocks, IsMannered}
 use Rattle.place_model.specs.declared.block.Side.{Side}
 use Rattle.place_model.specs.declared.block.Side.TheVariants.{Left, Right}
 use Rattle.manner_laws.specs.Spots.{Job, Open, Alone, Of_pass, tag_in, MayPush, settled, Spot, Free, Listed, Pushing, Popped, Pop_begun, Pop_indexed, End_begun, End_removed, Filled, Looking, Waiting, Watched, Leaving, Asking, Ready, Begun, Removed, Putting, Locked, Turning, Release_watched, Release_own, Release_begun, Release_deleted, Release_foreign, pushing, finished, gave_up, routed, Ask, Consent, Entry}
-use Rattle.manner_laws.specs.Machine.{Begins, Declares, Undeclares, Publishes, Lists, Pops, Ends, Returns, Passes, Concerns_none, Asks, Starts, Starts_next, Pushes_first, Pushes, Pop_begins, Pop_indexes, Pop_sets, End_removes, End_deletes, Executes, Names, Tries, Reads, Leaves, Looks_up, Takes, Removes, Deletes, Puts, Moves, Looks, Turns, Lets_go, Inspects, Release_begins, Release_deletes, Release_ends, Leaves_foreign, Tells, Counted, Consented, Placed, Counted_both, Answered, Bound, Nothing_there, Unreadable, Readable, Missing, Useless, Unnamed, Named, Looked_up, Moved, Failed, Contended, Taken, Given, Members, Own, Foreign, Nobody, Released, Altered, Goes, Runs, RunsThrough, RunsOff, TellsExchanges}
+use Rattle.manner_laws.specs.Machine.{Begins, Declares, Undeclares, Publishes, Lists, Pops, Ends, Returns, Passes, Concerns_none, Asks, Starts, Starts_next, Pushes_first, Pushes, Pop_begins, Pop_indexes, Pop_sets, End_removes, End_deletes, Executes, Names, Tries, Reads, Leaves, Looks_up, Takes, Removes, Deletes, Puts, Moves, Looks, Turns, Lets_go, Inspects, Release_begins, Release_deletes, Release_ends, Leaves_foreign, Tells, Counted, Consented, Was_queued, Counted_both, Answered, Bound, Nothing_there, Unreadable, Readable, Missing, Useless, Unnamed, Named, Looked_up, Moved, Failed, Contended, Taken, Given, Members, Own, Foreign, Nobody, Released, Altered, Goes, Runs, RunsThrough, RunsOff, TellsExchanges}
 use Rattle.std.specs.Prelude.{pos}
 use Rattle.manner_laws.proofs.Steps.{by}
 use Rattle.manner_laws.proofs.Made.{runs_join, runs_split, good}
@@ -58,7 +58,7 @@ settled_may (Alone own t) side may = may
 settled_may (Of_pass t ts) side may = may
 
 -- OK is no error
-done_right : is_error done ≡ false
+pub done_right : is_error done ≡ false
 unfolding layer
 done_right = refl
 
@@ -90,7 +90,7 @@ module _ (σ : Setting) (s : ℕ) where
   put_runs n p j k v side b rest [] may same run = run
   put_runs n p j k v side b rest (q ∷ qs) may same run = (
     Putting n p (settled j side) k v (queued_keys qs),
-    by σ s (Puts n p q.0 j k v q.1 (queued_keys qs) side may) (Placed _),
+    by σ s (Puts n p q.0 j k v q.1 (queued_keys qs) side may) (Was_queued _),
     subst (λ z. Runs σ s (Putting n p z k v (queued_keys qs)) (queued_calls side v qs rest) b) (sym same) (put_runs n p j k v side b rest qs may same run),
   )
 
@@ -104,13 +104,13 @@ module _ (σ : Setting) (s : ℕ) where
         by σ s (Takes n p y.d j k y.envelope q qs) (Consented _),
         (
           Removed n p j k y.envelope q qs,
-          by σ s (Removes n p y.e j k y.envelope q qs) (Placed _),
+          by σ s (Removes n p y.e j k y.envelope q qs) (Was_queued _),
           (
             Putting n p j k y.envelope (q ∷ qs),
-            by σ s (Deletes n p y.f j k y.envelope q qs) (Placed _),
+            by σ s (Deletes n p y.f j k y.envelope q qs) (Was_queued _),
             (
               Putting n p (settled j side) k y.envelope qs,
-              by σ s (Puts n p y.first.0 j k y.envelope q qs side may) (Placed _),
+              by σ s (Puts n p y.first.0 j k y.envelope q qs side may) (Was_queued _),
               put_runs n p (settled j side) k y.envelope side b _ y.others (settled_may j side may) (settled_still j side) run,
             ),
           ),
@@ -232,7 +232,7 @@ module _ (σ : Setting) (s : ℕ) where
 
   release_runs : (n p : ℕ) (l : List Call) → IsRelease σ (token s (suc p)) l → Runs σ s (Turning n p []) l (Free n (suc p))
   release_runs n p l (Own_release a b c d e r any) =
-      (Release_watched n p, by σ s (Lets_go n p a) (Consented _), (Release_own n p, by σ s (Inspects n p b) (Own n p), (Release_begun n p, by σ s (Release_begins n p c) (Consented _), (Release_deleted n p, by σ s (Release_deletes n p d) (Placed _), (Free n (suc p), by σ s (Release_ends n p e) (ends any), refl)))))
+      (Release_watched n p, by σ s (Lets_go n p a) (Consented _), (Release_own n p, by σ s (Inspects n p b) (Own n p), (Release_begun n p, by σ s (Release_begins n p c) (Consented _), (Release_deleted n p, by σ s (Release_deletes n p d) (Was_queued _), (Free n (suc p), by σ s (Release_ends n p e) (ends any), refl)))))
     where
       ends : ((rs : List Value) × (r ≡ Array rs)) ⊎ (r ≡ NullArray) → Tells σ s (Rattle.manner_laws.specs.Spots.Release n p) r (Free n (suc p))
       ends (inl h) = subst (λ z. Tells σ s (Rattle.manner_laws.specs.Spots.Release n p) z (Free n (suc p))) (sym h.1) (Released n p h.0)
@@ -273,7 +273,7 @@ module _ (σ : Setting) (s : ℕ) where
     (
       Popped n p v t,
       by σ s (start at (Pops names k ks pop)) (Readable n p q v t tag),
-      (Pop_begun n p v t, by σ s (Pop_begins n p b v t) (Consented _), (Pop_indexed n p v t, by σ s (Pop_indexes n p d v t lt) (Placed _), (Filled n p, by σ s (Pop_sets n p e v t) (Placed _), (Free n p, by σ s (Executes n p f) (Counted_both _ x y), refl)))),
+      (Pop_begun n p v t, by σ s (Pop_begins n p b v t) (Consented _), (Pop_indexed n p v t, by σ s (Pop_indexes n p d v t lt) (Was_queued _), (Filled n p, by σ s (Pop_sets n p e v t) (Was_queued _), (Free n p, by σ s (Executes n p f) (Counted_both _ x y), refl)))),
     ),
   )
 
@@ -284,7 +284,7 @@ module _ (σ : Setting) (s : ℕ) where
     (
       End_begun n p,
       by σ s (start at Ends) (Consented _),
-      (End_removed n p t, by σ s (End_removes n p b t is) (Placed _), (Filled n p, by σ s (End_deletes n p d t) (Placed _), (Free n p, by σ s (Executes n p e) (Counted_both _ x y), refl))),
+      (End_removed n p t, by σ s (End_removes n p b t is) (Was_queued _), (Filled n p, by σ s (End_deletes n p d t) (Was_queued _), (Free n p, by σ s (Executes n p e) (Counted_both _ x y), refl))),
     ),
   )
 
@@ -296,7 +296,7 @@ module _ (σ : Setting) (s : ℕ) where
         subst (λ z. Runs σ s c l z) (alone_end n p t (goes_on end)) (subst (λ z. Runs σ s c z (ended n p (Open t) (goes_on end))) r.4 (Looking n p, by σ s (start at Returns) (Consented _), (r.5.0, by σ s (Names n p r.1 t is) r.5.1, r.5.2))),
       )
 
-  pass_runs : IsLawful σ → (c : Spot) (n p v : ℕ) (end : PassEnd) (l : List Call) → v < 18446744073709551616 → IsStart c n p → IsPassBlock σ (token s (suc p)) v end l → BlockRuns c l n (suc p)
+  pass_runs : IsLawful σ → (c : Spot) (n p v : ℕ) (end : PassEnd) (l : List Call) → v < 2 ^ 64 → IsStart c n p → IsPassBlock σ (token s (suc p)) v end l → BlockRuns c l n (suc p)
   pass_runs laws c n p v end l lt at (Is_held a) = (Free n (suc p), Here n (suc p), (Free n (suc p), by σ s (start at Passes) (Taken n p), refl))
   pass_runs laws c n p v end l lt at (Ran a b ms e k k' h free) = (
     Free n (suc p),
@@ -375,13 +375,13 @@ module _ (σ : Setting) (s : ℕ) where
 
   at_putting : (n p : ℕ) (k : ℕ) (v : Bytes) (ks : List Bytes) (j : Job) → EndsSoon (Putting n p j k v ks)
   at_putting n p k v [] j = next _ _ _ (by σ s (Moves n p 0 j k v) (Moved n p j k [])) (at_finished n p j)
-  at_putting n p k v (q ∷ qs) j = let side = a_side j in next _ _ _ (by σ s (Puts n p 0 j k v q qs side.0 side.1) (Placed _)) (at_putting n p k v qs (settled j side.0))
+  at_putting n p k v (q ∷ qs) j = let side = a_side j in next _ _ _ (by σ s (Puts n p 0 j k v q qs side.0 side.1) (Was_queued _)) (at_putting n p k v qs (settled j side.0))
 
   at_removed : (n p : ℕ) (j : Job) (k : ℕ) (v q : Bytes) (qs : List Bytes) → EndsSoon (Removed n p j k v q qs)
-  at_removed n p j k v q qs = next _ _ _ (by σ s (Deletes n p 0 j k v q qs) (Placed _)) (at_putting n p k v (q ∷ qs) j)
+  at_removed n p j k v q qs = next _ _ _ (by σ s (Deletes n p 0 j k v q qs) (Was_queued _)) (at_putting n p k v (q ∷ qs) j)
 
   at_begun : (n p : ℕ) (j : Job) (k : ℕ) (v q : Bytes) (qs : List Bytes) → EndsSoon (Begun n p j k v q qs)
-  at_begun n p j k v q qs = next _ _ _ (by σ s (Removes n p 0 j k v q qs) (Placed _)) (at_removed n p j k v q qs)
+  at_begun n p j k v q qs = next _ _ _ (by σ s (Removes n p 0 j k v q qs) (Was_queued _)) (at_removed n p j k v q qs)
 
   at_routed : (n p : ℕ) (j : Job) (k : ℕ) (v : Bytes) (ks : List Bytes) → EndsSoon (routed n p j k v ks)
   at_routed n p j k v [] = at_leaving n p j
@@ -394,19 +394,19 @@ module _ (σ : Setting) (s : ℕ) where
   at_filled n p = next _ _ _ (by σ s (Executes n p 0) (Counted_both _ (pos 0) (pos 0))) (at_free n p)
 
   at_pop_indexed : (n p : ℕ) (v t : Bytes) → EndsSoon (Pop_indexed n p v t)
-  at_pop_indexed n p v t = next _ _ _ (by σ s (Pop_sets n p 0 v t) (Placed _)) (at_filled n p)
+  at_pop_indexed n p v t = next _ _ _ (by σ s (Pop_sets n p 0 v t) (Was_queued _)) (at_filled n p)
 
   at_pop_begun : (n p : ℕ) (v t : Bytes) → EndsSoon (Pop_begun n p v t)
-  at_pop_begun n p v t = next _ _ _ (by σ s (Pop_indexes n p 0 v t (omega arith)) (Placed _)) (at_pop_indexed n p v t)
+  at_pop_begun n p v t = next _ _ _ (by σ s (Pop_indexes n p 0 v t (omega arith)) (Was_queued _)) (at_pop_indexed n p v t)
 
   at_end_removed : (n p : ℕ) (t : Bytes) → EndsSoon (End_removed n p t)
-  at_end_removed n p t = next _ _ _ (by σ s (End_deletes n p 0 t) (Placed _)) (at_filled n p)
+  at_end_removed n p t = next _ _ _ (by σ s (End_deletes n p 0 t) (Was_queued _)) (at_filled n p)
 
   at_release_deleted : (n p : ℕ) → EndsSoon (Release_deleted n p)
   at_release_deleted n p = next _ _ _ (by σ s (Release_ends n p 0) (Altered n p)) (at_free n (suc p))
 
   at_release_begun : (n p : ℕ) → EndsSoon (Release_begun n p)
-  at_release_begun n p = next _ _ _ (by σ s (Release_deletes n p 0) (Placed _)) (at_release_deleted n p)
+  at_release_begun n p = next _ _ _ (by σ s (Release_deletes n p 0) (Was_queued _)) (at_release_deleted n p)
 
   ends_soon : IsLawful σ → (c : Spot) → EndsSoon c
   ends_soon laws (Free n p) = at_free n p
@@ -415,7 +415,7 @@ module _ (σ : Setting) (s : ℕ) where
   ends_soon laws (Popped n p v t) = next _ _ _ (by σ s (Pop_begins n p 0 v t) (Consented _)) (at_pop_begun n p v t)
   ends_soon laws (Pop_begun n p v t) = at_pop_begun n p v t
   ends_soon laws (Pop_indexed n p v t) = at_pop_indexed n p v t
-  ends_soon laws (End_begun n p) = next _ _ _ (by σ s (End_removes n p 0 (σ.tag 0 0) (laws.tag_is 0 0 (omega arith) (omega arith))) (Placed _)) (at_end_removed n p (σ.tag 0 0))
+  ends_soon laws (End_begun n p) = next _ _ _ (by σ s (End_removes n p 0 (σ.tag 0 0) (laws.tag_is 0 0 (omega arith) (omega arith))) (Was_queued _)) (at_end_removed n p (σ.tag 0 0))
   ends_soon laws (End_removed n p t) = at_end_removed n p t
   ends_soon laws (Filled n p) = at_filled n p
   ends_soon laws (Looking n p) = next _ _ _ (by σ s (Names n p 0 (σ.tag 0 0) (laws.tag_is 0 0 (omega arith) (omega arith))) (Missing n p (Open (σ.tag 0 0)) 0)) (at_leaving n p (Open (σ.tag 0 0)))

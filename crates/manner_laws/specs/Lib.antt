@@ -1,2 +1,4 @@
 pub mod Spots
 pub mod Machine
+pub mod Cursor
+pub mod LayoutKeys

@@ -1,5 +1,5 @@
 -- The blocks as an exact machine of one call at a time: what words ask at a spot, and where their answer leads.
-use Rattle.std.specs.Prelude.{◌≡◌, ℕ, ℤ, ◌^◌, suc, true, false, ◌<◌, List, [], ◌∷◌, ◌++◌, codes, decimal, Option, Some, None}
+use Rattle.std.specs.Prelude.{◌≡◌, ℕ, ℤ, ◌^◌, suc, true, false, ◌<◌, List, [], ◌∷◌, ◌++◌, codes, decimal, Some, None}
 use Rattle.resp_wire.specs.declared.value.Value.{Value}
 use Rattle.resp_wire.specs.declared.value.Value.TheVariants.{Integer, Bulk, NullBulk, Array, NullArray}
 use Rattle.mini_store.specs.Words.{Words}
@@ -16,7 +16,7 @@ use Rattle.place_model.specs.ReturnBlocks.{Carries}
 use Rattle.place_model.specs.PassBlocks.{tags_among, lock_words, due_words}
 use Rattle.place_model.specs.Blocks.{IsNeutral}
 use Rattle.place_model.specs.declared.block.Side.{Side}
-use Rattle.manner_laws.specs.Spots.{Job, Open, Of_pass, tag_in, MayPush, settled, Spot, Free, Listed, Pushing, Popped, Pop_begun, Pop_indexed, End_begun, End_removed, Filled, Looking, Waiting, Watched, Leaving, Asking, Ready, Begun, Removed, Putting, Locked, Turning, Release_watched, Release_own, Release_begun, Release_deleted, Release_foreign, pushing, finished, gave_up, routed, Ask, Count, Consent, Place, Counts, Anything, Bindings, Message, Entry, Routes, Move, Lock, Due, Holder, Release}
+use Rattle.manner_laws.specs.Spots.{Job, Open, Of_pass, tag_in, MayPush, settled, Spot, Free, Listed, Pushing, Popped, Pop_begun, Pop_indexed, End_begun, End_removed, Filled, Looking, Waiting, Watched, Leaving, Asking, Ready, Begun, Removed, Putting, Locked, Turning, Release_watched, Release_own, Release_begun, Release_deleted, Release_foreign, pushing, finished, gave_up, routed, Ask, Count, Consent, Queueing, Counts, Anything, Bindings, Message, Entry, Routes, Move, Lock, Due, Holder, Release}
 
 -- words that begin a block of a client of seed s that drew n tags and made p passes, and what they ask
 pub data Begins (σ : Setting) (s n p : ℕ) : Words → Ask → Type 0 where
@@ -40,10 +40,10 @@ pub data Asks (σ : Setting) (s : ℕ) : Spot → ℕ → Words → Ask → Type
       → Asks σ s (Listed n p e ms) a (codes "LPUSH" ∷ k ∷ v ∷ []) (Count (pushing n p v ks))
   Pushes : (n p a : ℕ) (v k : Bytes) (ks : List Bytes) → Asks σ s (Pushing n p v k ks) a (codes "LPUSH" ∷ k ∷ v ∷ []) (Count (pushing n p v ks))
   Pop_begins : (n p a : ℕ) (v t : Bytes) → Asks σ s (Popped n p v t) a (codes "MULTI" ∷ []) (Consent (Pop_begun n p v t))
-  Pop_indexes : (n p a : ℕ) (v t : Bytes) → a < 2 ^ 40 → Asks σ s (Pop_begun n p v t) a (codes "ZADD" ∷ σ.index ∷ decimal a ∷ t ∷ []) (Place (Pop_indexed n p v t))
-  Pop_sets : (n p a : ℕ) (v t : Bytes) → Asks σ s (Pop_indexed n p v t) a (codes "HSET" ∷ σ.unacked ∷ t ∷ σ.entry_of v ∷ []) (Place (Filled n p))
-  End_removes : (n p a : ℕ) (t : Bytes) → σ.is_tag t ≡ true → Asks σ s (End_begun n p) a (codes "ZREM" ∷ σ.index ∷ t ∷ []) (Place (End_removed n p t))
-  End_deletes : (n p a : ℕ) (t : Bytes) → Asks σ s (End_removed n p t) a (codes "HDEL" ∷ σ.unacked ∷ t ∷ []) (Place (Filled n p))
+  Pop_indexes : (n p a : ℕ) (v t : Bytes) → a < 2 ^ 40 → Asks σ s (Pop_begun n p v t) a (codes "ZADD" ∷ σ.index ∷ decimal a ∷ t ∷ []) (Queueing (Pop_indexed n p v t))
+  Pop_sets : (n p a : ℕ) (v t : Bytes) → Asks σ s (Pop_indexed n p v t) a (codes "HSET" ∷ σ.unacked ∷ t ∷ σ.entry_of v ∷ []) (Queueing (Filled n p))
+  End_removes : (n p a : ℕ) (t : Bytes) → σ.is_tag t ≡ true → Asks σ s (End_begun n p) a (codes "ZREM" ∷ σ.index ∷ t ∷ []) (Queueing (End_removed n p t))
+  End_deletes : (n p a : ℕ) (t : Bytes) → Asks σ s (End_removed n p t) a (codes "HDEL" ∷ σ.unacked ∷ t ∷ []) (Queueing (Filled n p))
   Executes : (n p a : ℕ) → Asks σ s (Filled n p) a (codes "EXEC" ∷ []) (Counts (Free n p))
   -- a return shows its tag, and its side at the first push
   Names : (n p a : ℕ) (t : Bytes) → σ.is_tag t ≡ true → Asks σ s (Looking n p) a (codes "HGET" ∷ σ.unacked ∷ t ∷ []) (Entry n p (Open t) 0)
@@ -52,16 +52,16 @@ pub data Asks (σ : Setting) (s : ℕ) : Spot → ℕ → Words → Ask → Type
   Leaves : (n p a : ℕ) (j : Job) → Asks σ s (Leaving n p j) a (codes "UNWATCH" ∷ []) (Consent (finished n p j))
   Looks_up : (n p a : ℕ) (j : Job) (k : ℕ) (u v e : Bytes) → Asks σ s (Asking n p j k u v e) a (codes "SMEMBERS" ∷ σ.binding e ∷ []) (Routes n p j k u v)
   Takes : (n p a : ℕ) (j : Job) (k : ℕ) (v q : Bytes) (qs : List Bytes) → Asks σ s (Ready n p j k v q qs) a (codes "MULTI" ∷ []) (Consent (Begun n p j k v q qs))
-  Removes : (n p a : ℕ) (j : Job) (k : ℕ) (v q : Bytes) (qs : List Bytes) → Asks σ s (Begun n p j k v q qs) a (codes "ZREM" ∷ σ.index ∷ tag_in j ∷ []) (Place (Removed n p j k v q qs))
-  Deletes : (n p a : ℕ) (j : Job) (k : ℕ) (v q : Bytes) (qs : List Bytes) → Asks σ s (Removed n p j k v q qs) a (codes "HDEL" ∷ σ.unacked ∷ tag_in j ∷ []) (Place (Putting n p j k v (q ∷ qs)))
-  Puts : (n p a : ℕ) (j : Job) (k : ℕ) (v q : Bytes) (qs : List Bytes) (side : Side) → MayPush j side → Asks σ s (Putting n p j k v (q ∷ qs)) a (push_word side ∷ q ∷ v ∷ []) (Place (Putting n p (settled j side) k v qs))
+  Removes : (n p a : ℕ) (j : Job) (k : ℕ) (v q : Bytes) (qs : List Bytes) → Asks σ s (Begun n p j k v q qs) a (codes "ZREM" ∷ σ.index ∷ tag_in j ∷ []) (Queueing (Removed n p j k v q qs))
+  Deletes : (n p a : ℕ) (j : Job) (k : ℕ) (v q : Bytes) (qs : List Bytes) → Asks σ s (Removed n p j k v q qs) a (codes "HDEL" ∷ σ.unacked ∷ tag_in j ∷ []) (Queueing (Putting n p j k v (q ∷ qs)))
+  Puts : (n p a : ℕ) (j : Job) (k : ℕ) (v q : Bytes) (qs : List Bytes) (side : Side) → MayPush j side → Asks σ s (Putting n p j k v (q ∷ qs)) a (push_word side ∷ q ∷ v ∷ []) (Queueing (Putting n p (settled j side) k v qs))
   Moves : (n p a : ℕ) (j : Job) (k : ℕ) (v : Bytes) → Asks σ s (Putting n p j k v []) a (codes "EXEC" ∷ []) (Move n p j k)
   Looks : (n p a v : ℕ) → v < 2 ^ 64 → Asks σ s (Locked n p) a (due_words σ a v) (Due n p)
   Turns : (n p a : ℕ) (t : Bytes) (ts : List Bytes) → Asks σ s (Turning n p (t ∷ ts)) a (codes "WATCH" ∷ σ.unacked ∷ []) (Consent (Watched n p (Of_pass t ts) 0))
   Lets_go : (n p a : ℕ) → Asks σ s (Turning n p []) a (codes "WATCH" ∷ σ.mutex ∷ []) (Consent (Release_watched n p))
   Inspects : (n p a : ℕ) → Asks σ s (Release_watched n p) a (codes "GET" ∷ σ.mutex ∷ []) (Holder n p)
   Release_begins : (n p a : ℕ) → Asks σ s (Release_own n p) a (codes "MULTI" ∷ []) (Consent (Release_begun n p))
-  Release_deletes : (n p a : ℕ) → Asks σ s (Release_begun n p) a (codes "DEL" ∷ σ.mutex ∷ []) (Place (Release_deleted n p))
+  Release_deletes : (n p a : ℕ) → Asks σ s (Release_begun n p) a (codes "DEL" ∷ σ.mutex ∷ []) (Queueing (Release_deleted n p))
   Release_ends : (n p a : ℕ) → Asks σ s (Release_deleted n p) a (codes "EXEC" ∷ []) (Release n p)
   Leaves_foreign : (n p a : ℕ) → Asks σ s (Release_foreign n p) a (codes "UNWATCH" ∷ []) (Consent (Free n (suc p)))
 
@@ -69,7 +69,7 @@ pub data Asks (σ : Setting) (s : ℕ) : Spot → ℕ → Words → Ask → Type
 pub data Tells (σ : Setting) (s : ℕ) : Ask → Value → Spot → Type 0 where
   Counted : (c : Spot) (z : ℤ) → Tells σ s (Count c) (Integer z) c
   Consented : (c : Spot) → Tells σ s (Consent c) done c
-  Placed : (c : Spot) → Tells σ s (Place c) queued c
+  Was_queued : (c : Spot) → Tells σ s (Queueing c) queued c
   Counted_both : (c : Spot) (x y : ℤ) → Tells σ s (Counts c) (integers (x ∷ y ∷ [])) c
   Answered : (c : Spot) (r : Value) → is_error r ≡ false → Tells σ s (Anything c) r c
   Bound : (n p : ℕ) (e : Bytes) (ms : List Bytes) → Tells σ s (Bindings n p e) (bulks ms) (Listed n p e ms)

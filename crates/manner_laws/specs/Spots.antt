@@ -88,7 +88,7 @@ routed n p j k v (q ∷ qs) = Ready n p j k v q qs
 pub data Ask : Type 0 where
   Count : Spot → Ask  -- an integer, and then this spot
   Consent : Spot → Ask  -- OK
-  Place : Spot → Ask  -- QUEUED
+  Queueing : Spot → Ask  -- QUEUED
   Counts : Spot → Ask  -- an array of two integers
   Anything : Spot → Ask  -- anything but an error
   Bindings : ℕ → ℕ → Bytes → Ask  -- of the exchange to which a publication goes
