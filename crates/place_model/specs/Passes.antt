@@ -1,5 +1,5 @@
 -- What a pass reads, and what becomes of it.
-use Rattle.std.specs.Prelude.{◌≡◌, ℕ, ◌+◌, ℤ, List, [], ◌∷◌, Option, Some}
+use Rattle.std.specs.Prelude.{nat_le, ◌-◌, pos, negsuc, if◌then◌else◌, ◌≡◌, ℕ, ◌+◌, ℤ, List, [], ◌∷◌, Option, Some}
 use Rattle.mini_store.specs.Keys.{value_at}
 use Rattle.mini_store.specs.Store.{settled}
 use Rattle.mini_store.specs.SortedSets.{ranks}
@@ -21,7 +21,15 @@ pub record ReadsTags (σ : Setting) (w : World) (at : ℕ) (high low : ℤ) (ski
   pub members : ms ≡ ranks_of high low skip most (value_at (settled w.store at).keys σ.index)
   pub tags : tags_among σ ms ≡ ms
 
--- how many returns ended so
+-- a number less another
+abbrev pub less : ℕ → ℕ → ℤ
+less a b = if nat_le b a then pos (a - b) else negsuc (b - a - 1)
+
+-- the ten oldest messages of the table that were taken at least v seconds before this moment, the youngest of them first
+abbrev pub due_members : Setting → World → ℕ → ℕ → List Bytes
+due_members σ w at v = ranks_of (less at v) (pos 0) 0 10 (value_at (settled w.store at).keys σ.index)
+
+-- how many returns moved their message
 abbrev pub moved_count : List ReturnEnd → ℕ
 moved_count [] = 0
 moved_count (Moved ∷ ends) = 1 + moved_count ends

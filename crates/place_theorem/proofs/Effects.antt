@@ -1,6 +1,6 @@
 -- What each step of the machine does.
 use Rattle.std.proofs.Common.{◌++◌, Bool, List, None, Option, Some, [], ap, arith, cond, false, inl, inr, is_some, length, nat_lt, pos, refl, subst, sym, true, unwrap_or, ℕ, ℤ, ◌∙◌, ◌∷◌, ◌≡◌, ◌⊎◌}
-use Rattle.std.specs.FinMap.{get, insert, keys}
+use Rattle.std.specs.FinMap.{get, insert}
 use Rattle.resp_wire.specs.declared.value.Value.{Value}
 use Rattle.resp_wire.specs.declared.value.Value.TheVariants.{Array, Bulk, Error, NullArray, Status}
 use Rattle.mini_store.specs.Commands.{Around, is_queued, run}
@@ -15,12 +15,12 @@ use Rattle.mini_store.specs.declared.connection.Conn.{Conn}
 use Rattle.mini_store.specs.declared.connection.Queue.{Queue}
 use Rattle.mini_store.specs.declared.held.Stored.{Stored}
 use Rattle.mini_store.specs.declared.held.Stored.TheVariants.{Hash}
-use Rattle.store_laws.proofs.Changes.{Brpopped, brpop_done, held, lpush_done}
+use Rattle.store_laws.proofs.Changes.{Brpopped, brpop_done, lpush_done}
 use Rattle.store_laws.proofs.Connections.{run_one_conns}
 use Rattle.store_laws.proofs.Law.{ToldBy, framed}
 use Rattle.place_model.specs.Answers.{items_of, number_of, pair_of}
 use Rattle.place_model.specs.Counts.{count, entry_at, field_of, is_field}
-use Rattle.place_model.specs.Names.{Bytes, same}
+use Rattle.place_model.specs.Names.{Bytes}
 use Rattle.place_model.specs.Returns.{push_commands, take_out}
 use Rattle.place_model.specs.Seen.{Seen, asked_by, hand_by, hand_from, push_with, ran_with, seen, seen_by, since_by, tag_list, tag_weight}
 use Rattle.place_model.specs.Setting.{is_queue}

@@ -16,3 +16,8 @@ pub mod Pushed
 pub mod Returned
 pub mod Standing
 pub mod Origins
+pub mod Draws
+pub mod Once
+pub mod Fresh
+pub mod Passing
+pub mod Example

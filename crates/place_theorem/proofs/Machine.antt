@@ -3,9 +3,9 @@ use Rattle.std.proofs.Common.{◌≡◌, ◌⊎◌, ℕ, suc, ◌<◌, ◌^◌, 
 use Rattle.std.specs.Prelude.{ℤ, pos}
 use Rattle.std.proofs.lemmas.List.{append-nil}
 use Rattle.resp_wire.specs.declared.value.Value.{Value}
-use Rattle.resp_wire.specs.declared.value.Value.TheVariants.{Integer, Bulk, NullBulk, Array, NullArray}
+use Rattle.resp_wire.specs.declared.value.Value.TheVariants.{Integer, Bulk, Array, NullArray}
 use Rattle.mini_store.specs.Integers.{integer_of, natural_of, seconds_of}
-use Rattle.mini_store.specs.Words.{Words, command_of, front, final, brpop_of, brpop_until, expire_of, range_of, zadd_of, faulty}
+use Rattle.mini_store.specs.Words.{Words, command_of, front, final, brpop_of, brpop_until, expire_of, range_of, zadd_of}
 use Rattle.mini_store.specs.Replies.{done, queued, pair, bulks}
 use Rattle.mini_store.specs.Commands.{is_queued}
 use Rattle.mini_store.specs.declared.command.Command.{Command}
@@ -13,9 +13,8 @@ use Rattle.mini_store.specs.declared.command.Command.TheVariants.{Lpush, Brpop, 
 use Rattle.store_laws.proofs.Law.{altering}
 use Rattle.place_model.specs.Names.{Bytes}
 use Rattle.place_model.specs.Texts.{difference, token}
-use Rattle.place_model.specs.QueueKeys.{Each}
 use Rattle.place_model.specs.Answers.{integers}
-use Rattle.place_model.specs.Setting.{Setting, is_queue, IsApart}
+use Rattle.place_model.specs.Setting.{is_queue, IsApart}
 use Rattle.place_model.specs.Calls.{Call, call, push_word, concat}
 use Rattle.place_model.specs.RouteBlocks.{IsDeclareBlock, Told, direct_calls, direct_keys, IsPublishBlock, Plain, Named, IsShortPublish, Asked}
 use Rattle.place_model.specs.TakeBlocks.{IsPop, brpop_words, IsPopBlock, Empty, Unreadable, Popped, IsEndBlock, Acknowledged}

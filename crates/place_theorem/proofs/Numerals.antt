@@ -1,9 +1,11 @@
 -- The decimal text of a number is read as that number.
-use Rattle.std.proofs.Common.{◌≡◌, ◌≢◌, ℕ, zero, suc, ◌+◌, ◌-◌, ◌*◌, ◌/◌, ◌%◌, ◌^◌, ◌<◌, ◌≤◌, List, [], ◌∷◌, ◌++◌, Bool, true, false, ◌&&◌, nat_le, nat_lt, nat_eq, ◌==◌, if◌then◌else◌, refl, sym, ap, subst, ◌∙◌, arith, None, Some, Option, decimal}
-use Rattle.std.specs.Prelude.{ℤ, pos}
+use Rattle.std.proofs.Common.{◌≡◌, ◌≢◌, ℕ, zero, suc, ◌+◌, ◌-◌, ◌*◌, ◌/◌, ◌%◌, ◌^◌, ◌<◌, ◌≤◌, List, [], ◌∷◌, ◌++◌, true, false, ◌&&◌, nat_le, nat_lt, nat_eq, ◌==◌, if◌then◌else◌, refl, sym, ap, subst, ◌∙◌, arith, None, Some, decimal}
+use Rattle.std.specs.Prelude.{pos, negsuc}
 use Rattle.std.proofs.lemmas.Bool.Decides.{nat_tests, Decides-eqb}
 use Rattle.std.proofs.lemmas.Fmt.{decimal_by_steps, decimal_digit}
-use Rattle.mini_store.specs.Integers.{digits_onto, magnitude_of, plain_integer, integer_of}
+use Rattle.mini_store.specs.Integers.{digits_onto, magnitude_of, plain_integer, negative_integer, integer_of}
+use Rattle.place_model.specs.Texts.{difference}
+use Rattle.place_model.specs.Passes.{less}
 
 -- one more digit
 digits-one : (n d : ℕ) → d < 10 → n * 10 + d < 2 ^ 64 → digits_onto n ((48 + d) ∷ []) ≡ Some (n * 10 + d)
@@ -17,7 +19,7 @@ digits-append : (n : ℕ) (ds : List ℕ) (m d : ℕ) → digits_onto n ds ≡ S
 digits-append n [] m d e h b = let i : n ≡ m = cc in subst (λ x. digits_onto x ((48 + d) ∷ []) ≡ Some (m * 10 + d)) (sym i) (digits-one m d h b)
 digits-append n (c ∷ cs) m d e h b =
     elim (nat_le 48 c && nat_le c 57) as (λ t. (if t then (if nat_lt (n * 10 + (c - 48)) (2 ^ 64) then digits_onto (n * 10 + (c - 48)) cs else None) else None) ≡ Some m
-        → (if t then (if nat_lt (n * 10 + (c - 48)) (2 ^ 64) then digits_onto (n * 10 + (c - 48)) (cs ++ (48 + d) ∷ []) else None) else None) ≡ Some (m * 10 + d)) [
+    → (if t then (if nat_lt (n * 10 + (c - 48)) (2 ^ 64) then digits_onto (n * 10 + (c - 48)) (cs ++ (48 + d) ∷ []) else None) else None) ≡ Some (m * 10 + d)) [
       | true ↦ λ f. elim (nat_lt (n * 10 + (c - 48)) (2 ^ 64)) as (λ t. (if t then digits_onto (n * 10 + (c - 48)) cs else None) ≡ Some m → (if t then digits_onto (n * 10 + (c - 48)) (cs ++ (48 + d) ∷ []) else None) ≡ Some (m * 10 + d)) [
         | true ↦ λ g. digits-append (n * 10 + (c - 48)) cs m d g h b
         | false ↦ λ g. cc
@@ -86,3 +88,18 @@ eqb_true m n e = (Decides-eqb m n).0 e
 
 pub off : (m n : ℕ) → (m == n) ≡ false → m ≢ n
 off m n e i = let h : (m == n) ≡ true = (Decides-eqb m n).1 i in cc (e, h)
+
+-- the text of a difference is read as it
+pub integer_of-difference : (a b : ℕ) → a < 2 ^ 63 → b < 2 ^ 63 → integer_of (difference a b) ≡ Some (less a b)
+integer_of-difference a b h i = elim (nat_le b a) as (λ t. nat_le b a ≡ t → integer_of (if t then decimal (a - b) else 45 ∷ decimal (b - a)) ≡ Some (if t then pos (a - b) else negsuc (b - a - 1))) [
+  | true ↦ λ e. integer_of-decimal (a - b) (omega (arith, h))
+  | false ↦ λ e. negative (b - a) (grind (arith, nat_tests, e)) (omega (arith, i))
+] refl
+  where
+    negative : (n : ℕ) → 1 ≤ n → n < 2 ^ 63 → integer_of (45 ∷ decimal n) ≡ Some (negsuc (n - 1))
+    negative zero p j = absurd (omega (arith, p))
+    negative (suc k) p j =
+        let q : suc k < 2 ^ 64 = omega (arith, j) in
+        let t : nat_lt k (2 ^ 63) ≡ true = grind (arith, nat_tests, j) in
+        let s : suc k - 1 ≡ k = omega arith in
+        ap negative_integer (magnitude (suc k) (decimal (suc k)) (decimal_reads (suc k) q) p) ∙ rw (t, s) refl

@@ -9,7 +9,6 @@ use Rattle.mini_store.specs.Store.{State, apply_of, gone_of, serve, settled}
 use Rattle.mini_store.specs.Words.{Words, command_of}
 use Rattle.mini_store.specs.declared.reply.Reply.{Reply}
 use Rattle.store_laws.proofs.Maps.{conn_or, get-insert_other, get-insert_same}
-use Rattle.place_model.specs.Bindings.{parts}
 use Rattle.place_model.specs.Calls.{Call}
 use Rattle.place_model.specs.Counts.{field_of, start_count}
 use Rattle.place_model.specs.Histories.{AllMayCome, Client, History, IsHistoryPrefix, MayCome, World, after, after_entries, and_then, next, start_from, with_client}
@@ -22,7 +21,7 @@ use Rattle.place_model.specs.declared.history.Entry.{Entry}
 use Rattle.place_model.specs.declared.history.Entry.TheVariants.{Call as Called, Heard, Stop}
 use Rattle.place_theorem.proofs.Effects.{Ready}
 use Rattle.place_theorem.proofs.Full.{Full, Kinds}
-use Rattle.place_theorem.proofs.Kept.{Inv, stopped, stopped_is}
+use Rattle.place_theorem.proofs.Kept.{Inv, stopped_is}
 use Rattle.place_theorem.proofs.Machine.{Cursor, Idle, Runs, Step, runs_split, step_live}
 use Rattle.place_theorem.proofs.Safe.{conn_in, held_in}
 use Rattle.place_theorem.proofs.Settle.{get-lasting, state_is, unacked_kept}

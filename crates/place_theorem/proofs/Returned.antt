@@ -7,23 +7,21 @@ use Rattle.mini_store.specs.Commands.{Around, is_queued, run}
 use Rattle.mini_store.specs.Connections.{Conns, around, conn}
 use Rattle.mini_store.specs.Keys.{Keys, is_due, live_at, value_of}
 use Rattle.mini_store.specs.Replies.{bulks}
-use Rattle.mini_store.specs.Store.{State, answered, inside, run_all, serve, settled}
+use Rattle.mini_store.specs.Store.{State, run_all, serve, settled}
 use Rattle.mini_store.specs.Words.{Words, command_of}
 use Rattle.mini_store.specs.declared.command.Command.{Command}
 use Rattle.mini_store.specs.declared.command.Command.TheVariants.{Exec, Hdel, Zrem}
 use Rattle.mini_store.specs.declared.reply.Reply.{Reply}
 use Rattle.store_laws.proofs.Changes.{queue_not_index, queue_not_unacked}
 use Rattle.store_laws.proofs.Law.{framed}
-use Rattle.store_laws.proofs.Live.{live}
 use Rattle.store_laws.proofs.Settled.{get-live_at}
 use Rattle.store_laws.proofs.Table.{Turned}
 use Rattle.place_model.specs.Answers.{items_of}
-use Rattle.place_model.specs.Bindings.{parts}
 use Rattle.place_model.specs.Calls.{Call}
 use Rattle.place_model.specs.Counts.{entry_at, field_of, has_field, has_member, is_field, is_member, start_count}
 use Rattle.place_model.specs.Histories.{Client, History, IsHistoryPrefix, World, after, and_then, start_from}
 use Rattle.place_model.specs.Lookup.{lookup}
-use Rattle.place_model.specs.Names.{Bytes, same}
+use Rattle.place_model.specs.Names.{Bytes}
 use Rattle.place_model.specs.QueueKeys.{Among, IsAway}
 use Rattle.place_model.specs.ReturnBlocks.{Carries}
 use Rattle.place_model.specs.Returns.{IsWholeReturn, ReturnsWhole, gain, push_commands, take_out}
@@ -32,7 +30,6 @@ use Rattle.place_model.specs.Setting.{is_queue}
 use Rattle.place_model.specs.Starts.{IsSound, elements_at, elements_of}
 use Rattle.place_model.specs.declared.block.Side.{Side}
 use Rattle.place_model.specs.declared.history.Entry.TheVariants.{Call as Called}
-use Rattle.place_theorem.proofs.Effects.{ran}
 use Rattle.place_theorem.proofs.Full.{Alike, Full, Kinds, keys_of}
 use Rattle.place_theorem.proofs.Kept.{Inv}
 use Rattle.place_theorem.proofs.Machine.{Asks, At, Begins, Cursor, Ends, Fails, Finds, Finds_none, Finds_other, Idle, IsTalk, Leaves, Passes_by, Publishes, Queues, Reads, Refuses, Runs, Step, Talks, Watches, Whole, Whole_end, Whole_free, Whole_pop, Whole_return, is_aside, runs_split, step_live}
@@ -206,5 +203,5 @@ whole_return {N = N} σ h p c at words reply cl xs a b q qs sound pre known exec
     let runs = called_runs σ (start_from p.start p.clients) p.entries c at words reply pre.0 e.1.0 e.1.1 e.2 in
     let it = returns_at σ (start_count σ.names p.start) (after p) e.0 c x cl runs.0 xs a b q qs known (ap (λ y. y.stopped) (sym they) ∙ e.1.2) (served (after p) c at words reply e.1.3) (subst (λ y. Runs σ Idle (y.calls ++ x ∷ []) runs.0) they runs.1) exec (array_of reply.answer xs array) more in
     let keys : (after (and_then p (Called c at words reply ∷ []))).store.keys ≡ (serve at (ready (after p) at c).store c (command_of words) (conn (ready (after p) at c).store.conns c)).0.keys =
-        ap (λ y. y.store.keys) (after-append (start_from p.start p.clients) p.entries (Called c at words reply ∷ []) ∙ next_called N (after p) c at words reply cl known) ∙ ap (λ s. s.keys) (state_is at (settled (after p).store at) c words) in
+    ap (λ y. y.store.keys) (after-append (start_from p.start p.clients) p.entries (Called c at words reply ∷ []) ∙ next_called N (after p) c at words reply cl known) ∙ ap (λ s. s.keys) (state_is at (settled (after p).store at) c words) in
     subst (λ k. ReturnsWhole σ.names (seen σ.names cl.calls) (after p).store.keys k at) (sym keys) it

@@ -23,7 +23,6 @@ use Rattle.store_laws.proofs.Maps.{weight}
 use Rattle.store_laws.specs.Laws.{IsTouched}
 use Rattle.place_model.specs.Answers.{number_of, pair_of}
 use Rattle.place_model.specs.Counts.{copy_one, count, end_one, entry_at, field_of, has_field, has_member, in_held, in_value, list_count, sum_of, table_count}
-use Rattle.place_model.specs.Histories.{table}
 use Rattle.place_model.specs.Names.{Bytes, same}
 use Rattle.place_model.specs.QueueKeys.{IsAway}
 use Rattle.place_model.specs.Seen.{Seen, hand_by, hand_from, push_by, push_with, ran_by, seen, seen_by, tag_list, tag_weight}
@@ -160,7 +159,7 @@ mark_kept σ cur m m' b ks told ok = record {
 pub touched_is : (cur : Cursor) (ks : List Bytes) (b : Bool) (ch : List Bytes) (ms : List Value) (cn cn' : Conn) → cn ≡ conn_in cur b ch ms → IsTouched ks cn cn' → cn' ≡ conn_in cur (b || hit ks (watched_in cur)) ch cn'.pending
 touched_is cur ks b ch ms cn cn' e t =
     conn_is cn' (queue_in cur) (watched_in cur) (b || hit ks (watched_in cur)) ch
-        (t.queue ∙ ap (λ x. x.queue) e) (t.watched ∙ ap (λ x. x.watched) e) (t.marked ∙ ap (λ x. x.marked || hit ks x.watched) e) (t.channels ∙ ap (λ x. x.channels) e)
+    (t.queue ∙ ap (λ x. x.queue) e) (t.watched ∙ ap (λ x. x.watched) e) (t.marked ∙ ap (λ x. x.marked || hit ks x.watched) e) (t.channels ∙ ap (λ x. x.channels) e)
 
 -- who isn't the caller, or is and only has its mark touched
 abbrev pub touched_stands : (σ : Full) (s s' : State) (ks : List Bytes) (d : ℕ) (cur : Cursor) (sn sn' : Seen) → ToldBy s.keys σ.names.unacked ks s'.keys → IsTouched ks (conn s.conns d) (conn s'.conns d) → SeenIs cur sn' → Stands σ s d cur sn → Stands σ s' d cur sn'

@@ -10,10 +10,10 @@ use Rattle.mini_store.specs.Words.{Words, command_of}
 use Rattle.mini_store.specs.declared.connection.Conn.{Conn}
 use Rattle.mini_store.specs.declared.held.Held.{Held}
 use Rattle.store_laws.proofs.Connections.{marks_kept, set_other, set_same, untouched}
-use Rattle.store_laws.proofs.Live.{get-live, live, total-live}
+use Rattle.store_laws.proofs.Live.{get-live, total-live}
 use Rattle.store_laws.proofs.Maps.{conn_or, weight}
 use Rattle.place_model.specs.Counts.{has_field, has_member, in_held, in_value, table_count, total}
-use Rattle.place_model.specs.Histories.{World, table}
+use Rattle.place_model.specs.Histories.{World}
 use Rattle.place_model.specs.Names.{Bytes}
 use Rattle.place_model.specs.Seen.{Seen, seen}
 use Rattle.place_model.specs.Setting.{is_queue}
@@ -81,7 +81,6 @@ inv_settled σ base w at inv =
           let b : table_count σ.names (settle w at).store.keys t ≡ table_count σ.names w.store.keys t = λ j. cond (has_field (value_of (u j)) t && has_member (value_of (i j)) t) 1 0 in
           omega (arith, all, l, b);
     }
-
 
 -- ---- pending messages are told first
 

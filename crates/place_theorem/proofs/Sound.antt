@@ -15,7 +15,7 @@ use Rattle.place_model.specs.Starts.{IsSound, IsSoundStart}
 use Rattle.place_model.specs.declared.history.Entry.{Entry}
 use Rattle.place_model.specs.declared.history.Entry.TheVariants.{Call as Called, Heard, Stop}
 use Rattle.place_theorem.proofs.Full.{Alike, Full, Kinds}
-use Rattle.place_theorem.proofs.Kept.{Inv, stopped}
+use Rattle.place_theorem.proofs.Kept.{Inv}
 use Rattle.place_theorem.proofs.Numerals.{eqb_true, off}
 use Rattle.place_theorem.proofs.Safe.{lists_of, table_of}
 use Rattle.place_theorem.proofs.Transactions.{table_is}
@@ -74,11 +74,11 @@ module _ (N : Type 0) (w : World) (c : ℕ) (cl : Client) (is : get w.clients c 
       go : (b : Bool) → (conn_of e == c) ≡ b → GoesOn (next_of w e (get w.clients (conn_of e))) c cl (calls_of c (e ∷ []))
       go b i = subst (GoesOn (next_of w e (get w.clients (conn_of e))) c cl) (sym (own_calls c e b i)) (by_client e (get w.clients (conn_of e)) refl b i)
 
-pub goes_on : {N : Type 0} (w : World) (es : List (Entry N)) (c : ℕ) (cl : Client) → get w.clients c ≡ Some cl → GoesOn (after_entries w es) c cl (calls_of c es)
-goes_on w [] c cl is = stays w c cl is
-goes_on {N = N} w (e ∷ es) c cl is =
+pub client_goes : {N : Type 0} (w : World) (es : List (Entry N)) (c : ℕ) (cl : Client) → get w.clients c ≡ Some cl → GoesOn (after_entries w es) c cl (calls_of c es)
+client_goes w [] c cl is = stays w c cl is
+client_goes {N = N} w (e ∷ es) c cl is =
     let a = goes_one N w c cl is e in
-    let r = goes_on (next w e) es c a.0 a.1 in
+    let r = client_goes (next w e) es c a.0 a.1 in
     (r.0, r.1, r.2 ∙ a.2, r.3 ∙ ap (λ l. l ++ calls_of c es) a.3 ∙ append_assoc cl.calls (calls_of c (e ∷ [])) (calls_of c es) ∙ ap (λ l. cl.calls ++ l) (sym (calls-first c e es)))
 
 -- who isn't known stays so
@@ -123,7 +123,7 @@ client_is h c cl is = go (get (table h.clients) c) refl
     go : (o : Option Client) → get (table h.clients) c ≡ o → Among (c, cl.seed) h.clients × (cl.calls ≡ calls_of c h.entries)
     go None none = absurd (cc (is, unknown (start_from h.start h.clients) h.entries c none))
     go (Some first) was =
-        let g = goes_on (start_from h.start h.clients) h.entries c first was in
+        let g = client_goes (start_from h.start h.clients) h.entries c first was in
         let they : g.0 ≡ cl = cc (g.1, is) in
         let new = table_get h.clients c first was in
         (subst (λ s. Among (c, s) h.clients) (sym g.2 ∙ ap (λ x. x.seed) they) (in_table h.clients c first was), sym (ap (λ x. x.calls) they) ∙ g.3 ∙ ap (λ l. l ++ calls_of c h.entries) new.0)

@@ -7,7 +7,7 @@ use Rattle.mini_store.specs.Connections.{Conns, around, posted}
 use Rattle.mini_store.specs.Keys.{Keys, value_at, value_of}
 use Rattle.mini_store.specs.Lists.{brpop, brpop_at, shortened}
 use Rattle.mini_store.specs.Replies.{pair}
-use Rattle.mini_store.specs.Store.{State, answered, is_heard, run_all, serve, spoken, to_queue}
+use Rattle.mini_store.specs.Store.{State, is_heard, run_all, serve, spoken, to_queue}
 use Rattle.mini_store.specs.Words.{front}
 use Rattle.mini_store.specs.declared.command.Command.{Command}
 use Rattle.mini_store.specs.declared.command.Command.TheVariants.{Del, Exec, Faulty, Hdel, Hset, Ping, Subscribe, Unsubscribe, Zadd, Zrem}
@@ -23,7 +23,7 @@ use Rattle.place_model.specs.Answers.{number_of}
 use Rattle.place_model.specs.Counts.{entry_at, field_of}
 use Rattle.place_model.specs.Identity.{HasEnvelope, In_a_list, In_the_table, IsPush}
 use Rattle.place_model.specs.Names.{Bytes, same}
-use Rattle.place_model.specs.QueueKeys.{Among, IsAway, key}
+use Rattle.place_model.specs.QueueKeys.{Among, IsAway}
 use Rattle.place_model.specs.Returns.{gain, push_command, push_commands}
 use Rattle.place_model.specs.Seen.{Seen}
 use Rattle.place_model.specs.Setting.{is_queue}

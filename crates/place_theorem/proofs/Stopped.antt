@@ -16,7 +16,7 @@ use Rattle.place_model.specs.declared.place.Place.{Place}
 use Rattle.place_model.specs.declared.place.Place.TheVariants.{Ended, Hand, Lost, Never, Unacked}
 use Rattle.place_theorem.proofs.First.{first_none, first_only, first_same}
 use Rattle.place_theorem.proofs.Full.{Full}
-use Rattle.place_theorem.proofs.Kept.{Inv, part, stopped, stopped_is, sums}
+use Rattle.place_theorem.proofs.Kept.{Inv, part, stopped_is, sums}
 use Rattle.place_theorem.proofs.Sound.{after-append, entry_of}
 use Rattle.place_theorem.proofs.Transactions.{tag_other, tag_self}
 use Rattle.place_theorem.proofs.Values.{text_or}

@@ -4,20 +4,20 @@ use Rattle.std.specs.FinMap.{insert}
 use Rattle.resp_wire.specs.declared.value.Value.{Value}
 use Rattle.resp_wire.specs.declared.value.Value.TheVariants.{Array}
 use Rattle.mini_store.specs.Commands.{Around, run}
-use Rattle.mini_store.specs.Connections.{Conns, around, conn, hit, posted, told}
+use Rattle.mini_store.specs.Connections.{Conns, around, conn, hit, posted}
 use Rattle.mini_store.specs.Keys.{Keys, is_long, value_at, value_of}
 use Rattle.mini_store.specs.Replies.{number}
 use Rattle.mini_store.specs.Store.{State, run_all, run_queue, set_conn}
 use Rattle.mini_store.specs.declared.command.Command.{Command}
 use Rattle.mini_store.specs.declared.command.Command.TheVariants.{Del, Exec, Hdel, Hset, Zadd, Zrem}
 use Rattle.mini_store.specs.declared.connection.Conn.{Conn}
-use Rattle.store_laws.proofs.Changes.{Pushed, hdel_answer, hdel_done, held, hset_done, lpush_done, rpush_done, unacked_not_index, zadd_done, zrem_done}
+use Rattle.store_laws.proofs.Changes.{Pushed, hdel_answer, hdel_done, hset_done, lpush_done, rpush_done, unacked_not_index, zadd_done, zrem_done}
 use Rattle.store_laws.proofs.Connections.{hit_none, or_false, run_queue_conns, set_other, set_same}
 use Rattle.store_laws.proofs.Law.{run_all_told}
 use Rattle.store_laws.proofs.Table.{Turned, table_turned}
 use Rattle.store_laws.specs.Laws.{IsTouched}
 use Rattle.place_model.specs.Answers.{number_of}
-use Rattle.place_model.specs.Counts.{copy_one, end_one, has_field, has_member, is_field, one_if_more, one_if_none, sum_of, tagged}
+use Rattle.place_model.specs.Counts.{copy_one, end_one, has_field, has_member, is_field, one_if_more, one_if_none, sum_of}
 use Rattle.place_model.specs.Names.{Bytes, same}
 use Rattle.place_model.specs.Returns.{push_command, push_commands, take_out}
 use Rattle.place_model.specs.Seen.{Seen, deletes, hand_by, is_one, queued_push, queued_pushes, ran_by, ran_with, tag_weight}

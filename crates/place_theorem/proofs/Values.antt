@@ -44,7 +44,6 @@ items_of-Error b = refl
 pub pair_of-pair : (k v : Bytes) → pair_of (pair k v) ≡ Some (k, v)
 pair_of-pair k v = rw (items_of-Array (Bulk k ∷ Bulk v ∷ []), bulk_of-Bulk k, bulk_of-Bulk v) refl
 
-
 some_parts : {A : Type 0} (x y : A) → Some x ≡ Some y → x ≡ y
 some_parts x y e = ap (λ o. unwrap_or o x) e
 

@@ -9,13 +9,12 @@ use Rattle.mini_store.specs.Keys.{Keys, live_at}
 use Rattle.mini_store.specs.Store.{State, apply_of, gone_of, quiet, serve, settled}
 use Rattle.mini_store.specs.Words.{Words, command_of}
 use Rattle.mini_store.specs.declared.reply.Reply.{Reply}
-use Rattle.store_laws.proofs.Live.{live}
 use Rattle.store_laws.proofs.Maps.{conn_or, get-insert_other, get-insert_same, total-insert}
 use Rattle.place_model.specs.Blocks.{IsMannered}
 use Rattle.place_model.specs.Calls.{Call, IsPrefixOf, call}
 use Rattle.place_model.specs.Counts.{count, end_one, end_weight, hand_weight, loss_weight, push_weight, sum_of, total}
 use Rattle.place_model.specs.Histories.{AllMayCome, Client, MayCome, World, after_entries, conn_of, next, next_of, start_from, table, with_client}
-use Rattle.place_model.specs.Names.{Bytes, same}
+use Rattle.place_model.specs.Names.{Bytes}
 use Rattle.place_model.specs.Seen.{nothing_seen, seen, tag_weight}
 use Rattle.place_model.specs.declared.history.Entry.{Entry}
 use Rattle.place_model.specs.declared.history.Entry.TheVariants.{Call as Called, Heard, Stop}
@@ -27,7 +26,7 @@ use Rattle.place_theorem.proofs.Settle.{answer_is, hush, inv_hushed, inv_settled
 
 -- ---- the start
 
-total-empty : {K X : Type 0} (R : K → K → Ordering) (o : IsTotalOrder R) (anti : IsAntisymmetric R) (f : K → X → ℕ) → total f (entries (empty {X = X} {R = R})) ≡ 0
+pub total-empty : {K X : Type 0} (R : K → K → Ordering) (o : IsTotalOrder R) (anti : IsAntisymmetric R) (f : K → X → ℕ) → total f (entries (empty {X = X} {R = R})) ≡ 0
 total-empty {X = X} R o anti f =
     let same : from_sorted {R = R} [] ≡ empty {X = X} = same_map o anti _ _ (λ q. get-from_sorted R [] q tt ∙ sym (get-empty R q)) in
     ap (λ m. total f (entries m)) (sym same) ∙ ap (total f) (entries-from_sorted R [] tt)

@@ -1,0 +1,319 @@
+-- A tag is published once, and the next tag of a client stands nowhere.
+use Rattle.std.proofs.Common.{◌++◌, Bool, List, None, Option, Some, [], ap, arith, false, inl, inr, length, nat_cmp, nat_lt, refl, subst, suc, sym, true, ℕ, ℤ, ◌∙◌, ◌∷◌, ◌≡◌, ◌≢◌, ◌⊎◌}
+use Rattle.std.proofs.lemmas.Cmp.{nat_cmp_total}
+use Rattle.std.specs.FinMap.{get, insert, nat_cmp-IsAntisymmetric}
+use Rattle.resp_wire.specs.declared.value.Value.{Value}
+use Rattle.mini_store.specs.Connections.{conn}
+use Rattle.mini_store.specs.Keys.{Keys}
+use Rattle.mini_store.specs.Store.{State, apply_of, gone_of, serve, to_queue}
+use Rattle.mini_store.specs.Words.{Words, command_of}
+use Rattle.mini_store.specs.declared.command.Command.{Command}
+use Rattle.mini_store.specs.declared.command.Command.TheVariants.{Lpush}
+use Rattle.mini_store.specs.declared.connection.Conn.{Conn}
+use Rattle.mini_store.specs.declared.connection.Queue.{Queue}
+use Rattle.mini_store.specs.declared.reply.Reply.{Reply}
+use Rattle.store_laws.proofs.Law.{altering}
+use Rattle.store_laws.proofs.Live.{live}
+use Rattle.store_laws.proofs.Maps.{conn_or, get-insert_other, get-insert_same}
+use Rattle.place_model.specs.Answers.{number_of}
+use Rattle.place_model.specs.Blocks.{AreBlocks, IsFrontOfBlocks, IsMannered, drawn_by}
+use Rattle.place_model.specs.Calls.{Call, call, concat}
+use Rattle.place_model.specs.Counts.{start_count}
+use Rattle.place_model.specs.Histories.{AllMayCome, Client, History, IsHistoryPrefix, MayCome, World, after, after_entries, and_then, conn_of, next, next_of, start_from, table, with_client}
+use Rattle.place_model.specs.Identity.{HasEnvelope, HasOrigin, IsPublished, IsPush, PushedIn}
+use Rattle.place_model.specs.Names.{Bytes, same}
+use Rattle.place_model.specs.Setting.{is_queue}
+use Rattle.place_model.specs.Starts.{IsSound}
+use Rattle.place_model.specs.declared.history.Entry.{Entry}
+use Rattle.place_model.specs.declared.history.Entry.TheVariants.{Call as Called, Heard, Stop}
+use Rattle.place_theorem.proofs.Draws.{DrawRuns, HasDrawn, blocks_draw, drawn_runs, draws_split, none_drawn, pushed_split, pushed_tag}
+use Rattle.place_theorem.proofs.Full.{Full}
+use Rattle.place_theorem.proofs.Kept.{Inv, stopped_is}
+use Rattle.place_theorem.proofs.Machine.{AllApart, Asks, At, Begins, Cursor, Ends, Fails, Finds, Finds_none, Finds_other, Halted, Idle, IsTalk, Leaves, Live, Passes_by, Publishes, Queues, Reads, Refuses, Runs, Step, Talks, Watches, front_runs, runs_split}
+use Rattle.place_theorem.proofs.Once.{SeedsDiffer, seeds_differ, start_body, start_seed}
+use Rattle.place_theorem.proofs.Origins.{identity, pushed_last, pushed_more}
+use Rattle.place_theorem.proofs.Safe.{conn_in, queue_in}
+use Rattle.place_theorem.proofs.Sound.{after-append, all_mannered, inv_begin, parted}
+use Rattle.place_theorem.proofs.Values.{number_of-Error, number_of-Integer, number_of-Status}
+use Rattle.place_theorem.proofs.Whole.{AllMannered, Grown, call_in, grows, inv_ready, next_called, next_heard, one_entry, prefix_self, ready, served, table_get}
+
+-- ---- no push is answered inside a transaction
+
+-- where the last call published, the client was in no transaction
+abbrev pub Tidy : Full → List Call → Type 0
+Tidy σ l = (before : List Call) (x : Call) (t b : Bytes) (from : Cursor) → l ≡ before ++ x ∷ [] → IsPush σ.names t b (command_of x.words) x.answer → Runs σ Idle before from → queue_in from ≡ None
+
+tail_of : {A : Type 0} → List A → List A
+tail_of [] = []
+tail_of (x ∷ xs) = xs
+
+not_empty : {A : Type 0} (xs : List A) (x : A) → xs ++ x ∷ [] ≡ [] → ⊥
+not_empty [] x e = cc e
+not_empty (y ∷ ys) x e = cc e
+
+same_last : {A : Type 0} (xs ys : List A) (x y : A) → xs ++ x ∷ [] ≡ ys ++ y ∷ [] → (xs ≡ ys) × (x ≡ y)
+unfolding tail_of
+same_last [] [] x y e = (refl, cc e)
+same_last [] (z ∷ zs) x y e = absurd (not_empty zs y (sym (ap tail_of e)))
+same_last (w ∷ ws) [] x y e = absurd (not_empty ws x (ap tail_of e))
+same_last (w ∷ ws) (z ∷ zs) x y e =
+    let r = same_last ws zs x y (ap tail_of e) in
+    let h : w ≡ z = cc e in
+    ((λ i. h i ∷ r.0 i), r.1)
+
+not_queued : (s : State) (c : ℕ) (cn : Conn) (q : Queue) (cm : Command) (b : Bool) → number_of (to_queue s c cn q cm true b).1 ≡ None
+not_queued s c cn q cm true = number_of-Status _
+not_queued s c cn q cm false = number_of-Error _
+
+no_number : (at : ℕ) (s : State) (c : ℕ) (cs : List Command) (w : List Bytes) (h : Option (Bytes × Bytes)) (r : Option (Bytes × Bytes × Option Value)) (mark : Bool) (ch : List Bytes) (ps : List Value) (k v : Bytes) → (ch ≡ []) ⊎ (At (Some cs) w h r ≡ Idle)
+    → number_of (serve at s c (Lpush k (v ∷ [])) (conn_in (At (Some cs) w h r) mark ch ps)).1 ≡ None
+no_number at s c cs w h r mark [] ps k v talk = not_queued s c (conn_in (At (Some cs) w h r) mark [] ps) (record { commands = cs; broken = false }) (Lpush k (v ∷ [])) (nat_lt (length cs) 4096)
+no_number at s c cs w h r mark (x ∷ xs) ps k v (inl z) = absurd (cc z)
+no_number at s c cs w h r mark (x ∷ xs) ps k v (inr z) = let q : queue_in (At (Some cs) w h r) ≡ None = ap queue_in z in absurd (cc q)
+
+pub AllTidy : Full → World → Type 0
+AllTidy σ w = (c : ℕ) (cl : Client) → get w.clients c ≡ Some cl → Tidy σ cl.calls
+
+module _ (σ : Full) (base : Bytes → ℕ) (w : World) (inv : Inv σ base w) (tidy : AllTidy σ w) (c : ℕ) (cl : Client) (is : get w.clients c ≡ Some cl) (runs_on : cl.stopped ≡ false) where
+  free_at : (at : ℕ) (words : Words) (reply : Reply) → reply ≡ (apply_of w.store at c words).1 → (t b : Bytes) → IsPush σ.names t b (command_of words) reply.answer → (from : Cursor) → Runs σ Idle cl.calls from → queue_in from ≡ None
+  free_at at words reply right t b p Halted runs = refl
+  free_at at words reply right t b p (At None w' h r) runs = refl
+  free_at at words reply right t b p (At (Some cs) w' h r) runs =
+      let s : State = (ready w at c).store in
+      let ok = (inv_ready σ base w at c inv).clients c cl (At (Some cs) w' h r) is runs_on runs tt in
+      let same : serve at s c (command_of words) (conn s.conns c) ≡ serve at s c (Lpush p.key (p.bytes ∷ [])) (conn_in (At (Some cs) w' h r) ok.marked ok.channels ok.pending) =
+      ap (λ k. serve at s c k (conn s.conns c)) p.pushes ∙ ap (serve at s c (Lpush p.key (p.bytes ∷ []))) ok.mine in
+      let none : number_of reply.answer ≡ None = ap number_of (served w c at words reply right ∙ ap (λ y. y.1) same) ∙ no_number at s c cs w' h r ok.marked ok.channels ok.pending p.key p.bytes ok.talk_ok in
+      absurd (cc (none, p.answered))
+
+  abbrev new : Call → Client
+  new x = record cl { calls = cl.calls ++ x ∷ [] }
+
+  abbrev halted : Client
+  halted = record { seed = cl.seed; calls = cl.calls; stopped = true }
+
+  pub tidy_called : (N : Type 0) (at : ℕ) (words : Words) (reply : Reply) → reply ≡ (apply_of w.store at c words).1 → AllTidy σ (next {N = N} w (Called c at words reply))
+  unfolding AllTidy
+  tidy_called N at words reply right d dl dis = go (conn_or d c)
+    where
+      x : Call
+      x = call_in at words reply
+
+      mine : Tidy σ (cl.calls ++ call_in at words reply ∷ [])
+      mine before y t b from e p runs =
+          let same = same_last cl.calls before (call_in at words reply) y e in
+          free_at at words reply right t b (subst (λ z. IsPush σ.names t b (command_of z.words) z.answer) (sym same.1) p) from (subst (λ l. Runs σ Idle l from) (sym same.0) runs)
+
+      go : (d ≡ c) ⊎ (d ≢ c) → Tidy σ dl.calls
+      go (inl e) =
+          let at_c : get (next {N = N} w (Called c at words reply)).clients c ≡ Some dl = subst (λ y. get (next {N = N} w (Called c at words reply)).clients y ≡ Some dl) e dis in
+          let now : get (next {N = N} w (Called c at words reply)).clients c ≡ Some (new (call_in at words reply)) = ap (λ y. get y.clients c) (next_called N w c at words reply cl is) ∙ get-insert_same nat_cmp nat_cmp_total nat_cmp-IsAntisymmetric w.clients c (new (call_in at words reply)) in
+          let they : new (call_in at words reply) ≡ dl = cc (at_c, now) in
+          subst (λ y. Tidy σ y.calls) they mine
+      go (inr n) = tidy d dl (sym (ap (λ y. get y.clients d) (next_called N w c at words reply cl is) ∙ get-insert_other nat_cmp nat_cmp_total nat_cmp-IsAntisymmetric w.clients c (new (call_in at words reply)) d n) ∙ dis)
+
+  pub tidy_stopped : (N : Type 0) → AllTidy σ (next {N = N} w (Stop c))
+  unfolding AllTidy
+  tidy_stopped N d dl dis = go (conn_or d c)
+    where
+      at_d : get (insert w.clients c halted) d ≡ Some dl
+      at_d = sym (ap (λ y. get y.clients d) (stopped_is σ base w inv c cl is runs_on N)) ∙ dis
+
+      go : (d ≡ c) ⊎ (d ≢ c) → Tidy σ dl.calls
+      go (inl e) =
+          let at_c : get (insert w.clients c halted) c ≡ Some dl = subst (λ y. get (insert w.clients c halted) y ≡ Some dl) e at_d in
+          let they : halted ≡ dl = cc (at_c, get-insert_same nat_cmp nat_cmp_total nat_cmp-IsAntisymmetric w.clients c halted) in
+          subst (λ y. Tidy σ y.calls) they (tidy c cl is)
+      go (inr n) = tidy d dl (sym (get-insert_other nat_cmp nat_cmp_total nat_cmp-IsAntisymmetric w.clients c halted d n) ∙ at_d)
+
+one_tidy : {N : Type 0} (σ : Full) (base : Bytes → ℕ) (w : World) (e : Entry N) → Inv σ base w → AllTidy σ w → MayCome w e → AllTidy σ (next w e)
+one_tidy {N = N} σ base w (Stop c) inv tidy may = tidy_stopped σ base w inv tidy c may.0 may.1 may.2 N
+one_tidy σ base w (Heard c note) inv tidy may = subst (AllTidy σ) (sym (next_heard w c note)) tidy
+one_tidy {N = N} σ base w (Called c at words reply) inv tidy may = tidy_called σ base w inv tidy c may.0 may.1 may.2 N at words reply may.3
+
+tidy_after : {N : Type 0} (σ : Full) (base : Bytes → ℕ) (w : World) (h : List (Entry N)) → Inv σ base w → AllTidy σ w → AllMayCome w h → AllMannered σ (after_entries w h) → AllTidy σ (after_entries w h)
+tidy_after σ base w [] inv tidy legal all = tidy
+tidy_after σ base w (e ∷ h) inv tidy legal all = tidy_after σ base (next w e) h (one_entry σ base w e h inv legal.0 all) (one_tidy σ base w e inv tidy legal.0) legal.1 all
+
+tidy_start : (σ : Full) (m : Keys) (cs : List (ℕ × ℕ)) → AllTidy σ (start_from m cs)
+unfolding AllTidy
+tidy_start σ m cs c cl is before x t b from e p runs =
+    let none : cl.calls ≡ [] = (table_get cs c cl is).0 in
+    absurd (not_empty before x (sym e ∙ none))
+
+-- ---- the pushes of one client
+
+-- each has a tag of the client's seed, and those of one tag have one body
+pub record PushesOk (σ : Full) (s : ℕ) (l : List Call) : Type 0 where
+  pub own : (t b : Bytes) → PushedIn σ.names t b l → (j : ℕ) × (t ≡ σ.names.tag s j)
+  pub once : (t b b' : Bytes) → PushedIn σ.names t b l → PushedIn σ.names t b' l → b ≡ b'
+
+mannered_drawn : (σ : Full) (s : ℕ) (l : List Call) → IsFrontOfBlocks σ.names s l → PushesOk σ s l
+mannered_drawn σ s l h =
+    let whole = blocks_draw σ s 0 0 None h.0 h.1 in
+    let part = draws_split σ s 0 None l h.2.0 (drawn_by σ.names s 0 0 h.0 h.1) whole.0 (subst (λ z. DrawRuns σ s 0 None z (drawn_by σ.names s 0 0 h.0 h.1) whole.0) (sym h.2.1) whole.1) in
+    let d : HasDrawn σ s part.0 part.1 l = drawn_runs σ s 0 part.0 None part.1 [] l part.2 (none_drawn σ s) in
+    record { own = λ t b p. let j = d.own t b p in (j.0, j.2); once = d.once }
+
+-- a push outside a transaction is listed with any number
+listed_number : (σ : Full) (from to : Cursor) (cm : Command) (listed : Value) (k v : Bytes) → Step σ from cm listed to → Live to → cm ≡ Lpush k (v ∷ []) → is_queue σ.names k ≡ true → queue_in from ≡ None → (m : ℤ) × (number_of listed ≡ Some m)
+listed_number σ from to cm listed k v (Passes_by w h c x far) live is q free = let a : AllApart σ (k ∷ []) = subst (λ z. AllApart σ (altering z)) is far.0 in let z = a.0.0 in absurd (cc (z, q))
+listed_number σ from to cm listed k v (Asks t u k' x) live is q free = absurd (cc is)
+listed_number σ from to cm listed k v (Talks c x t) live is q free = absurd (subst IsTalk is t)
+listed_number σ from to cm listed k v (Publishes k' v' n q') live is q free = (n, number_of-Integer n)
+listed_number σ from to cm listed k v (Finds_none ks qs) live is q free = absurd (cc is)
+listed_number σ from to cm listed k v (Finds_other ks q' v' qs none) live is q free = absurd (cc is)
+listed_number σ from to cm listed k v (Finds ks q' v' t qs tag) live is q free = absurd (cc is)
+listed_number σ from to cm listed k v (Begins w h r) live is q free = absurd (cc is)
+listed_number σ from to cm listed k v (Queues cs w h r c q') live is q free = absurd (cc free)
+listed_number σ from to cm listed k v (Ends cs w h r xs whole) live is q free = absurd (cc is)
+listed_number σ from to cm listed k v (Fails cs w h r whole) live is q free = absurd (cc is)
+listed_number σ from to cm listed k v (Watches k') live is q free = absurd (cc is)
+listed_number σ from to cm listed k v (Reads t u) live is q free = absurd (cc is)
+listed_number σ from to cm listed k v (Leaves w r) live is q free = absurd (cc is)
+listed_number σ from to cm listed k v (Refuses f g c x y st) live is q free = absurd live
+
+manner_pushes : (σ : Full) (s : ℕ) (l : List Call) → IsMannered σ.names s l → Tidy σ l → PushesOk σ s l
+manner_pushes σ s l (inl h) tidy = mannered_drawn σ s l h
+manner_pushes σ s l (inr h) tidy =
+    let d = mannered_drawn σ s (h.0 ++ call h.1 h.2 h.3 ∷ []) h.6 in
+    record { own = λ t b p. d.own t b (listed t b p); once = λ t b b' p p'. d.once t b b' (listed t b p) (listed t b' p') }
+  where
+    last_listed : (t b : Bytes) → IsPush σ.names t b (command_of h.2) h.4 → IsPush σ.names t b (command_of h.2) h.3
+    last_listed t b p =
+        let r = front_runs σ s (h.0 ++ call h.1 h.2 h.3 ∷ []) h.6 in
+        let parts = runs_split σ Idle r.0 h.0 (call h.1 h.2 h.3 ∷ []) r.1 in
+        let step : Step σ parts.0 (command_of h.2) h.3 r.0 = subst (λ z. Step σ parts.0 (command_of h.2) h.3 z) parts.2.2 parts.2.1 in
+        let n = listed_number σ parts.0 r.0 (command_of h.2) h.3 p.key p.bytes step r.2 p.pushes p.queue (tidy h.0 (call h.1 h.2 h.4) t b parts.0 h.5 p parts.1) in
+        record { key = p.key; bytes = p.bytes; size = n.0; pushes = p.pushes; answered = n.1; queue = p.queue; tag = p.tag; body = p.body }
+
+    listed : (t b : Bytes) → PushedIn σ.names t b l → PushedIn σ.names t b (h.0 ++ call h.1 h.2 h.3 ∷ [])
+    listed t b p = elim (pushed_split σ t b h.0 (call h.1 h.2 h.4) (subst (PushedIn σ.names t b) h.5 p)) [
+      | inl q ↦ pushed_more σ t b h.0 (call h.1 h.2 h.3 ∷ []) q
+      | inr q ↦ pushed_last σ t b h.0 (call h.1 h.2 h.3) (last_listed t b q)
+    ]
+
+-- ---- the pushes of all clients
+
+-- a client keeps its seed
+abbrev Seeded : World → ℕ → ℕ → Type 0
+Seeded w c s = (cl : Client) × (get w.clients c ≡ Some cl) × (cl.seed ≡ s)
+
+seed_before : {N : Type 0} (w : World) (e : Entry N) (c s : ℕ) → Seeded (next w e) c s → Seeded w c s
+unfolding next
+seed_before {N = N} w e c s g = by e (get w.clients (conn_of e)) refl g
+  where
+    put : (st : State) (d : ℕ) (old now : Client) → get w.clients d ≡ Some old → now.seed ≡ old.seed → Seeded (with_client st w d now) c s → Seeded w c s
+    put st d old now is same h = at (conn_or c d)
+      where
+        at : (c ≡ d) ⊎ (c ≢ d) → Seeded w c s
+        at (inl e') =
+            let here : get (insert w.clients d now) d ≡ Some h.0 = subst (λ y. get (insert w.clients d now) y ≡ Some h.0) e' h.1 in
+            let they : now ≡ h.0 = cc (here, get-insert_same nat_cmp nat_cmp_total nat_cmp-IsAntisymmetric w.clients d now) in
+            (old, subst (λ y. get w.clients y ≡ Some old) (sym e') is, sym same ∙ ap (λ y. y.seed) they ∙ h.2)
+        at (inr n) = (h.0, sym (get-insert_other nat_cmp nat_cmp_total nat_cmp-IsAntisymmetric w.clients d now c n) ∙ h.1, h.2)
+
+    by : (e : Entry N) (o : Option Client) → get w.clients (conn_of e) ≡ o → Seeded (next_of w e o) c s → Seeded w c s
+    by e None is h = h
+    by (Called d at words reply) (Some cl) is h = put (apply_of w.store at d words).0 d cl (record cl { calls = cl.calls ++ call_in at words reply ∷ [] }) is refl h
+    by (Heard d note) (Some cl) is h = h
+    by (Stop d) (Some cl) is h = put (gone_of w.store d) d cl (record cl { stopped = true }) is refl h
+
+seed_start : {N : Type 0} (w : World) (es : List (Entry N)) (c s : ℕ) → Seeded (after_entries w es) c s → Seeded w c s
+seed_start w [] c s h = h
+seed_start w (e ∷ es) c s h = seed_before w e c s (seed_start (next w e) es c s h)
+
+module _ {N : Type 0} (σ : Full) (h p : History N) (sound : IsSound σ.names h) (pre : IsHistoryPrefix p h) where
+  abbrev s : IsSound σ.names (and_then p pre.0)
+  s = parted σ h p sound pre
+
+  abbrev first : World
+  first = start_from p.start p.clients
+
+  abbrev pub end : World
+  end = after_entries first (p.entries ++ pre.0)
+
+  manners : AllMannered σ end
+  manners = all_mannered σ (and_then p pre.0) s
+
+  differ : SeedsDiffer p.clients
+  differ = seeds_differ p.clients s.table.seeds_differ
+
+  pushes_ok : (c : ℕ) (cl : Client) → get end.clients c ≡ Some cl → PushesOk σ cl.seed cl.calls
+  unfolding AllTidy
+  pushes_ok c cl is = manner_pushes σ cl.seed cl.calls (manners c cl is) (all c cl is)
+    where
+      all : AllTidy σ end
+      all = tidy_after σ (start_count σ.names p.start) first (p.entries ++ pre.0) (inv_begin σ p.clients p.start p.used s.start) (tidy_start σ p.start p.clients) s.legal manners
+
+  -- clients of one seed are one
+  same_client : (c d : ℕ) (cl dl : Client) → get end.clients c ≡ Some cl → get end.clients d ≡ Some dl → cl.seed ≡ dl.seed → c ≡ d
+  same_client c d cl dl is dis same =
+      let a = seed_start first (p.entries ++ pre.0) c cl.seed (cl, is, refl) in
+      let b = seed_start first (p.entries ++ pre.0) d dl.seed (dl, dis, refl) in
+      differ c d a.0 b.0 a.1 b.1 (a.2 ∙ same ∙ sym b.2)
+
+  -- a client of the prefix, at the end
+  grown : (c : ℕ) (cl : Client) → get (after p).clients c ≡ Some cl → Grown end c cl.calls
+  grown c cl is = subst (λ w. Grown w c cl.calls) (sym (after-append first p.entries pre.0)) (grows (after p) pre.0 c cl.calls (cl, is, prefix_self cl.calls))
+
+  at_end : (t b : Bytes) → IsPublished σ.names (after p) t b → IsPublished σ.names end t b
+  at_end t b o =
+      let g = grown o.0 o.1 o.2 in
+      (o.0, g.0, g.1, subst (PushedIn σ.names t b) g.2.1 (pushed_more σ t b o.1.calls g.2.0 o.3))
+
+  one_body : (t b b' : Bytes) → IsPublished σ.names end t b → IsPublished σ.names end t b' → b ≡ b'
+  one_body t b b' o o' =
+      let ok = pushes_ok o.0 o.1 o.2 in
+      let ok' = pushes_ok o'.0 o'.1 o'.2 in
+      let j = ok.own t b o.3 in
+      let j' = ok'.own t b' o'.3 in
+      let same : o.1.seed ≡ o'.1.seed = (σ.laws.tag_parts o.1.seed j.0 o'.1.seed j'.0 (subst (λ x. σ.names.is_tag x ≡ true) j.1 (pushed_tag σ t b o.1.calls o.3)) (sym j.1 ∙ j'.1)).0 in
+      let c : o.0 ≡ o'.0 = same_client o.0 o'.0 o.1 o'.1 o.2 o'.2 same in
+      let here : get end.clients o.0 ≡ Some o'.1 = subst (λ y. get end.clients y ≡ Some o'.1) (sym c) o'.2 in
+      let they : o'.1 ≡ o.1 = cc (here, o.2) in
+      ok.once t b b' o.3 (subst (λ y. PushedIn σ.names t b' y.calls) they o'.3)
+
+  pub one_publication : (t b b' : Bytes) → IsPublished σ.names (after p) t b → IsPublished σ.names (after p) t b' → b ≡ b'
+  one_publication t b b' o o' = one_body t b b' (at_end t b o) (at_end t b' o')
+
+  -- at a block's start
+  pub fresh_tag : (c : ℕ) (cl : Client) (bs : List (List Call)) (blocks : AreBlocks σ.names cl.seed 0 0 bs) (b : Bytes) → get (after p).clients c ≡ Some cl → cl.calls ≡ concat bs → IsPublished σ.names (after p) (σ.names.tag cl.seed (suc (drawn_by σ.names cl.seed 0 0 bs blocks))) b → ⊥
+  fresh_tag c cl bs blocks b is calls o =
+      let n = drawn_by σ.names cl.seed 0 0 bs blocks in
+      let g = grown o.0 o.1 o.2 in
+      -- the publisher's tags are of its own seed, so it is this client
+      let j = (pushes_ok o.0 g.0 g.1).own (σ.names.tag cl.seed (suc n)) b (subst (PushedIn σ.names (σ.names.tag cl.seed (suc n)) b) g.2.1 (pushed_more σ (σ.names.tag cl.seed (suc n)) b o.1.calls g.2.0 o.3)) in
+      let same_seed : cl.seed ≡ g.0.seed = (σ.laws.tag_parts cl.seed (suc n) g.0.seed j.0 (pushed_tag σ (σ.names.tag cl.seed (suc n)) b o.1.calls o.3) j.1).0 in
+      let there = seed_start first (p.entries ++ pre.0) o.0 g.0.seed (g.0, g.1, refl) in
+      let us = seed_start first p.entries c cl.seed (cl, is, refl) in
+      let same : o.0 ≡ c = differ o.0 c there.0 us.0 there.1 us.1 (there.2 ∙ sym same_seed ∙ sym us.2) in
+      let mine : get (after p).clients c ≡ Some o.1 = subst (λ y. get (after p).clients y ≡ Some o.1) same o.2 in
+      let they : o.1 ≡ cl = cc (mine, is) in
+      -- and it has drawn fewer
+      let r = blocks_draw σ cl.seed 0 0 None bs blocks in
+      let d : HasDrawn σ cl.seed n r.0 cl.calls = subst (HasDrawn σ cl.seed n r.0) (sym calls) (drawn_runs σ cl.seed 0 n None r.0 [] (concat bs) r.1 (none_drawn σ cl.seed)) in
+      let i = d.own (σ.names.tag cl.seed (suc n)) b (subst (λ y. PushedIn σ.names (σ.names.tag cl.seed (suc n)) b y.calls) they o.3) in
+      let k : suc n ≡ i.0 = (σ.laws.tag_parts cl.seed (suc n) cl.seed i.0 (pushed_tag σ (σ.names.tag cl.seed (suc n)) b o.1.calls o.3) i.2).1 in
+      omega (arith, k, i.1)
+
+  -- a published tag is of a client's seed
+  own_seed : (t b : Bytes) → IsPublished σ.names (after p) t b → (c : ℕ) × (cl : Client) × (get (table p.clients) c ≡ Some cl) × ((j : ℕ) × (t ≡ σ.names.tag cl.seed j))
+  own_seed t b o =
+      let e = at_end t b o in
+      let j = (pushes_ok e.0 e.1 e.2).own t b e.3 in
+      let there = seed_start first (p.entries ++ pre.0) e.0 e.1.seed (e.1, e.2, refl) in
+      (e.0, there.0, there.1, (j.0, j.1 ∙ ap (λ z. σ.names.tag z j.0) (sym there.2)))
+
+  -- all envelopes of a tag are one but for their marks
+  pub one_tree : (t b b' : Bytes) → HasEnvelope σ.names (after p).store.keys t b → HasEnvelope σ.names (after p).store.keys t b' → b ≡ b'
+  one_tree t b b' st st' = go (identity σ h p t b sound pre st) (identity σ h p t b' sound pre st')
+    where
+      mixed : (x y : Bytes) → HasEnvelope σ.names p.start t x → IsPublished σ.names (after p) t y → ⊥
+      mixed x y old o = let w = own_seed t y o in start_seed σ p.start p.used p.clients t x s.start s.table old w.0 w.1 w.2 w.3.0 w.3.1
+
+      go : HasOrigin σ.names p t b → HasOrigin σ.names p t b' → b ≡ b'
+      go (inl old) (inl old') = start_body σ p.start p.used s.start t b b' old old'
+      go (inl old) (inr o') = absurd (mixed b b' old o')
+      go (inr o) (inl old') = absurd (mixed b' b old' o)
+      go (inr o) (inr o') = one_publication t b b' o o'

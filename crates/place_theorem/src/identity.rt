@@ -1,0 +1,43 @@
+//! All envelopes of a message are the one that was published, but for the marks of redelivery.
+ghost use Rattle.place_model.specs.Blocks.{AreBlocks, drawn_by};
+ghost use Rattle.place_model.specs.Calls.{Call, concat};
+ghost use Rattle.place_model.specs.Histories.{Client, History, IsHistoryPrefix, after, calls_of};
+ghost use Rattle.place_model.specs.Identity.{HasEnvelope, HasOrigin, IsPublished};
+ghost use Rattle.place_model.specs.Names.{Bytes};
+ghost use Rattle.place_model.specs.QueueKeys.{Among};
+ghost use Rattle.place_model.specs.Setting.{IsLawful, Setting};
+ghost use Rattle.place_model.specs.Starts.{IsSound};
+ghost use Rattle.std.specs.FinMap.{get};
+ghost use Rattle.std.specs.Prelude.{◌≡◌, ℕ, List, Some, suc};
+
+/// Each envelope that stands in a list or in the table has the body of one that was published under its tag, or that stood in the start.
+pub fn origin<N>()
+    ensures { (σ : Setting) → IsLawful σ → (h p : History N) (t b : Bytes) → IsSound σ h → IsHistoryPrefix p h
+        → HasEnvelope σ (after p).store.keys t b → HasOrigin σ p t b }
+{}
+
+/// What is published under one tag has one body.
+pub fn one_publication<N>()
+    ensures { (σ : Setting) → IsLawful σ → (h p : History N) (t b b' : Bytes) → IsSound σ h → IsHistoryPrefix p h
+        → IsPublished σ (after p) t b → IsPublished σ (after p) t b' → b ≡ b' }
+{}
+
+/// So all envelopes of a tag in lists and table have one body.
+pub fn one_tree<N>()
+    ensures { (σ : Setting) → IsLawful σ → (h p : History N) (t b b' : Bytes) → IsSound σ h → IsHistoryPrefix p h
+        → HasEnvelope σ (after p).store.keys t b → HasEnvelope σ (after p).store.keys t b' → b ≡ b' }
+{}
+
+/// Where a client's calls so far are whole blocks, its next tag was published by nobody.
+pub fn fresh_tag<N>()
+    ensures { (σ : Setting) → IsLawful σ → (h p : History N) → IsSound σ h → IsHistoryPrefix p h
+        → (c : ℕ) (cl : Client) (bs : List (List Call)) (blocks : AreBlocks σ cl.seed 0 0 bs) (b : Bytes)
+        → get (after p).clients c ≡ Some cl → cl.calls ≡ concat bs
+        → IsPublished σ (after p) (σ.tag cl.seed (suc (drawn_by σ cl.seed 0 0 bs blocks))) b → ⊥ }
+{}
+
+/// What the world keeps of a client: it is one of the history's table, and its calls are those of its connection.
+pub fn own_calls<N>()
+    ensures { (h : History N) (c : ℕ) (cl : Client) → get (after h).clients c ≡ Some cl
+        → Among (c, cl.seed) h.clients × (cl.calls ≡ calls_of c h.entries) }
+{}
