@@ -1,0 +1,4 @@
+pub mod Joins
+pub mod Sizes
+pub mod Reported
+pub mod Written
