@@ -15,7 +15,8 @@ use Rattle.place_model.specs.declared.place.Place.{Place}
 use Rattle.replay.proofs.Written.{piece}
 use Rattle.replay.specs.Kinds.{totals}
 use Rattle.replay.specs.Legends.{all_placed, number_or, placed}
-use Rattle.schedule_model.specs.Reports.{Legend, entry_line, entry_lines, line, place_line, places, report_text, total_line}
+use Rattle.schedule_model.specs.Reports.{Legend, entry_line, entry_lines, line, place_line, report_text, total_line}
+use Rattle.place_model.specs.Accepted.{places}
 
 -- one more entry is written
 pub lines_more : (l : Legend) (out longer whole : List ℕ) (es : List (Entry Heard)) (i : ℕ) (e : Entry Heard) → i < length es → e ≡ get_or es i e → longer ≡ out ++ entry_line l (i + 1) e → out ++ entry_lines l (i + 1) (drop i es) ≡ whole → longer ++ entry_lines l (i + 1 + 1) (drop (i + 1) es) ≡ whole

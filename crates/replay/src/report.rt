@@ -4,7 +4,8 @@ ghost use Rattle.place_model.specs.Histories.{History};
 ghost use Rattle.place_model.specs.Setting.{Setting};
 ghost use Rattle.place_model.specs.declared.heard.Heard.{Heard as Noted};
 ghost use Rattle.replay.specs.Legends.{all_placed, legend_of};
-ghost use Rattle.schedule_model.specs.Reports.{places, report_text};
+ghost use Rattle.place_model.specs.Accepted.{places};
+ghost use Rattle.schedule_model.specs.Reports.{report_text};
 
 use crate::entry_text::entry_lines;
 use crate::place_text::{place_lines, total_line};
