@@ -99,10 +99,14 @@ to_queue s c cn q command true true = (set_conn s c (with_queue cn (q.commands +
 to_queue s c cn q command true false = refused s c cn (Some q) full
 to_queue s c cn q command false room = refused s c cn (Some q) not_inside
 
+-- DISCARD
+abbrev pub discard : State → ℕ → Conn → State × Value
+discard s c cn = (set_conn s c (cleared cn), done)
+
 -- a command after MULTI
 abbrev pub inside : ℕ → State → ℕ → Conn → Queue → Command → State × Value
 inside at s c cn q Exec = executed at s c cn q.commands q.broken
-inside at s c cn q Discard = (set_conn s c (cleared cn), done)
+inside at s c cn q Discard = discard s c cn
 inside at s c cn q (Faulty fault heard) = refused s c cn (Some q) (Error (fault_text fault))
 inside at s c cn q command = to_queue s c cn q command (is_queued command) (nat_lt (length q.commands) 4096)
 
@@ -114,11 +118,23 @@ subscribe s c cn x = let cs = joined x cn.channels in (set_conn s c (record cn {
 abbrev pub unsubscribe : State → ℕ → Conn → Bytes → State × Value
 unsubscribe s c cn x = let cs = without x cn.channels in (set_conn s c (record cn { channels = cs }), channel_answer (codes "unsubscribe") x (length cs))
 
+-- MULTI
+abbrev pub multi : State → ℕ → Conn → State × Value
+multi s c cn = (set_conn s c (with_queue cn [] false), done)
+
+-- WATCH
+abbrev pub watch : State → ℕ → Conn → List Bytes → State × Value
+watch s c cn ks = (set_conn s c (record cn { watched = cn.watched ++ ks }), done)
+
+-- UNWATCH
+abbrev pub unwatch : State → ℕ → Conn → State × Value
+unwatch s c cn = (set_conn s c (record cn { watched = []; marked = false }), done)
+
 -- a command outside MULTI
 abbrev pub plain : ℕ → State → ℕ → Conn → Command → State × Value
-plain at s c cn Multi = (set_conn s c (with_queue cn [] false), done)
-plain at s c cn (Watch ks) = (set_conn s c (record cn { watched = cn.watched ++ ks }), done)
-plain at s c cn Unwatch = (set_conn s c (record cn { watched = []; marked = false }), done)
+plain at s c cn Multi = multi s c cn
+plain at s c cn (Watch ks) = watch s c cn ks
+plain at s c cn Unwatch = unwatch s c cn
 plain at s c cn (Subscribe x) = subscribe s c cn x
 plain at s c cn (Unsubscribe x) = unsubscribe s c cn x
 plain at s c cn command = run_one at s command

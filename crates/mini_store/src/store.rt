@@ -2,14 +2,14 @@
 ghost use Rattle.mini_store.specs.Commands.{is_queued};
 ghost use Rattle.mini_store.specs.Connections.{Conns, cleared, conn, joined, posted, touched, with_queue, without};
 ghost use Rattle.mini_store.specs.Keys.{Keys};
-ghost use Rattle.mini_store.specs.Replies.{channel_answer};
-ghost use Rattle.mini_store.specs.Store.{State, empty_state, execute, executed, gone_of, inside, plain, run_all, run_one, run_queue, serve, settled, set_conn, subscribe, to_queue, unsubscribe};
+ghost use Rattle.mini_store.specs.Replies.{aborted, channel_answer, done, full, not_inside, queued};
+ghost use Rattle.mini_store.specs.Store.{State, discard, empty_state, executed, gone_of, inside, is_heard, multi, plain, refused, run_all, run_one, run_queue, serve, settled, set_conn, subscribe, to_queue, unsubscribe, unwatch, watch};
 ghost use Rattle.mini_store.specs.Words.{command_of};
 ghost use Rattle.std.specs.FinMap.{insert, remove};
-ghost use Rattle.std.specs.Prelude.{◌≡◌, ◌<◌, ◌^◌, [], ◌∷◌, ◌++◌, IfOk, IsTrue, None, OnOk, Some, is_some, length};
+ghost use Rattle.std.specs.Prelude.{◌≡◌, ◌<◌, ◌^◌, [], ◌∷◌, ◌++◌, ℕ, IfOk, IsTrue, None, OnOk, Some, false, is_some, length, nat_lt, true};
 
 use crate::conns::Connections;
-use crate::effect::{Effect, error, status};
+use crate::effect::{error, number, status};
 use crate::keyspace::Keyspace;
 use crate::run::{fault_answer, is_queued, run};
 use crate::{Command, Conn, Queue};
@@ -17,6 +17,7 @@ use resp_wire::{Bytes, Value, Values};
 use sqlite_items::Items;
 use std::alloc::{AllocError, Global};
 use std::marker::Model;
+use std::mem;
 use store_tables::Deque;
 
 /// The keys and the connections.
@@ -55,19 +56,6 @@ fn run_all(
         answers.push(effect.answer)?;
     }
     Ok((altered, answers))
-}
-
-// The connection without queue, watched keys and mark.
-fn cleared(alloc: Global, known: Conn) -> Conn
-    ensures { result ≡ cleared known }
-{
-    Conn {
-        queue: None,
-        watched: Deque::new(alloc),
-        marked: false,
-        channels: known.channels,
-        pending: known.pending,
-    }
 }
 
 // The connection with this queue.
@@ -132,5 +120,259 @@ impl Database {
         let (altered, answers) = run_all(&mut self.keys, &mut self.conns, alloc, at, commands)?;
         self.conns.mark(&altered);
         Ok(Value::Array(answers))
+    }
+}
+
+// What a connection is subscribed or unsubscribed with: the word, the channel, and how many channels there are now.
+fn channel_answer(
+    alloc: Global,
+    word: &[u8],
+    channel: Bytes,
+    count: usize,
+) -> Result<Value, AllocError>
+    ensures { IfOk result (λ v. v ≡ channel_answer word.now channel count) }
+{
+    let mut parts = Items::new(alloc);
+    parts.push(Value::Bulk(Bytes::from_slice(alloc, word)?))?;
+    parts.push(Value::Bulk(channel))?;
+    parts.push(number(count)?)?;
+    Ok(Value::Array(parts))
+}
+
+impl Database {
+    // MULTI.
+    fn multi(&mut self, alloc: Global, number: u32) -> Result<Value, AllocError>
+        ensures { IfOk result (λ v. (self.new, v) ≡ multi self.old number (conn self.old.conns number)) }
+    {
+        let known = self.conns.take(alloc, number);
+        let known = with_queue(known, Deque::new(alloc), false);
+        self.conns.set(number, known)?;
+        let answer = status(alloc, b"OK".as_slice())?;
+        Ok(answer)
+    }
+
+    // WATCH.
+    fn watch(
+        &mut self,
+        alloc: Global,
+        number: u32,
+        keys: Deque<Bytes>,
+    ) -> Result<Value, AllocError>
+        ensures { IfOk result (λ v. (self.new, v) ≡ watch self.old number (conn self.old.conns number) keys) }
+    {
+        let mut known = self.conns.take(alloc, number);
+        known.watched.append(keys)?;
+        self.conns.set(number, known)?;
+        let answer = status(alloc, b"OK".as_slice())?;
+        Ok(answer)
+    }
+
+    // UNWATCH.
+    fn unwatch(&mut self, alloc: Global, number: u32) -> Result<Value, AllocError>
+        ensures { IfOk result (λ v. (self.new, v) ≡ unwatch self.old number (conn self.old.conns number)) }
+    {
+        let mut known = self.conns.take(alloc, number);
+        known.watched = Deque::new(alloc);
+        known.marked = false;
+        self.conns.set(number, known)?;
+        let answer = status(alloc, b"OK".as_slice())?;
+        Ok(answer)
+    }
+
+    // SUBSCRIBE.
+    fn subscribe(
+        &mut self,
+        alloc: Global,
+        number: u32,
+        channel: Bytes,
+    ) -> Result<Value, AllocError>
+        ensures { IfOk result (λ v. (self.new, v) ≡ subscribe self.old number (conn self.old.conns number) channel) }
+    {
+        let mut known = self.conns.take(alloc, number);
+        known.channels = join(alloc, known.channels, &channel)?;
+        let count = known.channels.len();
+        self.conns.set(number, known)?;
+        let answer = channel_answer(alloc, b"subscribe".as_slice(), channel, count)?;
+        Ok(answer)
+    }
+
+    // UNSUBSCRIBE.
+    fn unsubscribe(
+        &mut self,
+        alloc: Global,
+        number: u32,
+        channel: Bytes,
+    ) -> Result<Value, AllocError>
+        ensures { IfOk result (λ v. (self.new, v) ≡ unsubscribe self.old number (conn self.old.conns number) channel) }
+    {
+        let mut known = self.conns.take(alloc, number);
+        known.channels.take_out(&channel);
+        let count = known.channels.len();
+        self.conns.set(number, known)?;
+        let answer = channel_answer(alloc, b"unsubscribe".as_slice(), channel, count)?;
+        Ok(answer)
+    }
+
+    // A command outside MULTI.
+    fn plain(
+        &mut self,
+        alloc: Global,
+        at: u64,
+        number: u32,
+        command: Command,
+    ) -> Result<Value, AllocError>
+        requires { at < 2 ^ 40 }
+        ensures { IfOk result (λ v. (self.new, v) ≡ plain at self.old number (conn self.old.conns number) command) }
+    {
+        match command {
+            Command::Multi => self.multi(alloc, number),
+            Command::Watch(keys) => self.watch(alloc, number, keys),
+            Command::Unwatch => self.unwatch(alloc, number),
+            Command::Subscribe(channel) => self.subscribe(alloc, number, channel),
+            Command::Unsubscribe(channel) => self.unsubscribe(alloc, number, channel),
+            other => self.run_one(alloc, at, other),
+        }
+    }
+}
+
+// The channels with this one.
+fn join(
+    alloc: Global,
+    mut channels: Deque<Bytes>,
+    channel: &Bytes,
+) -> Result<Deque<Bytes>, AllocError>
+    ensures { IfOk result (λ all. all ≡ joined channel.now channels) }
+{
+    if channels.has(channel) {
+        return Ok(channels);
+    }
+    channels.push(channel.copy(alloc)?)?;
+    Ok(channels)
+}
+
+impl Database {
+    // An error of a connection, which breaks its queue, if it has one.
+    fn refuse(&mut self, alloc: Global, number: u32, answer: Value) -> Result<Value, AllocError>
+        ensures { IfOk result (λ v. (self.new, v) ≡ refused self.old number (conn self.old.conns number) (conn self.old.conns number).queue answer) }
+    {
+        if !self.conns.is_queueing(number) {
+            return Ok(answer);
+        }
+        self.conns.break_queue(alloc, number)?;
+        Ok(answer)
+    }
+
+    // A command to be queued.
+    fn enqueue(
+        &mut self,
+        alloc: Global,
+        number: u32,
+        command: Command,
+    ) -> Result<Value, AllocError>
+        ensures { IfOk result (λ v. (q : Queue) → (conn self.old.conns number).queue ≡ Some q
+            → (self.new, v) ≡ to_queue self.old number (conn self.old.conns number) q command (is_queued command) (nat_lt (length q.commands) 4096)) }
+    {
+        if !is_queued(&command) {
+            mem::drop(command);
+            let answer = error(alloc, b"ERR inside".as_slice())?;
+            return self.refuse(alloc, number, answer);
+        }
+        if self.conns.queue_len(number) >= 4096 {
+            mem::drop(command);
+            let answer = error(alloc, b"ERR full".as_slice())?;
+            return self.refuse(alloc, number, answer);
+        }
+        self.conns.enqueue(alloc, number, command)?;
+        let answer = status(alloc, b"QUEUED".as_slice())?;
+        Ok(answer)
+    }
+
+    // EXEC.
+    fn execute(&mut self, alloc: Global, at: u64, number: u32) -> Result<Value, AllocError>
+        requires { at < 2 ^ 40 }
+        ensures { IfOk result (λ v. (q : Queue) → (conn self.old.conns number).queue ≡ Some q → (self.new, v) ≡ executed at self.old number (conn self.old.conns number) q.commands q.broken) }
+    {
+        let marked = self.conns.is_marked(number);
+        let Some(queue) = self.conns.clear(alloc, number)? else {
+            return Ok(Value::NullArray);
+        };
+        if queue.broken {
+            let answer = error(alloc, b"EXECABORT".as_slice())?;
+            return Ok(answer);
+        }
+        if marked {
+            return Ok(Value::NullArray);
+        }
+        self.run_queue(alloc, at, queue.commands)
+    }
+
+    // DISCARD.
+    fn discard(&mut self, alloc: Global, number: u32) -> Result<Value, AllocError>
+        ensures { IfOk result (λ v. (self.new, v) ≡ discard self.old number (conn self.old.conns number)) }
+    {
+        self.conns.clear(alloc, number)?;
+        let answer = status(alloc, b"OK".as_slice())?;
+        Ok(answer)
+    }
+}
+
+// Whether a subscribed connection may use the command.
+fn is_heard(command: &Command) -> bool
+    ensures { result ≡ is_heard command.now }
+{
+    match command {
+        Command::Ping | Command::Subscribe(_) | Command::Unsubscribe(_) => true,
+        Command::Faulty(_, heard) => *heard,
+        Command::Select(_)
+        | Command::Get(_)
+        | Command::Set(_, _, _, _)
+        | Command::Del(_)
+        | Command::Expire(_, _)
+        | Command::Lpush(_, _)
+        | Command::Rpush(_, _)
+        | Command::Rpop(_)
+        | Command::Brpop(_)
+        | Command::Llen(_)
+        | Command::Hlen(_)
+        | Command::Zcard(_)
+        | Command::Sadd(_, _)
+        | Command::Srem(_, _)
+        | Command::Smembers(_)
+        | Command::Hset(_, _, _)
+        | Command::Hget(_, _)
+        | Command::Hdel(_, _)
+        | Command::Zadd(_, _, _)
+        | Command::Zrem(_, _)
+        | Command::Zrevrangebyscore(_, _, _, _, _)
+        | Command::Watch(_)
+        | Command::Unwatch
+        | Command::Multi
+        | Command::Exec
+        | Command::Discard
+        | Command::Publish(_, _) => false,
+    }
+}
+
+impl Database {
+    // A command after MULTI.
+    fn inside(
+        &mut self,
+        alloc: Global,
+        at: u64,
+        number: u32,
+        command: Command,
+    ) -> Result<Value, AllocError>
+        requires { at < 2 ^ 40 }
+        ensures { IfOk result (λ v. (q : Queue) → (conn self.old.conns number).queue ≡ Some q → (self.new, v) ≡ inside at self.old number (conn self.old.conns number) q command) }
+    {
+        match command {
+            Command::Exec => self.execute(alloc, at, number),
+            Command::Discard => self.discard(alloc, number),
+            Command::Faulty(fault, _) => {
+                let answer = fault_answer(alloc, fault)?;
+                self.refuse(alloc, number, answer)
+            }
+            other => self.enqueue(alloc, number, other),
+        }
     }
 }
