@@ -9,7 +9,7 @@ ghost use Rattle.std.specs.Prelude.{◌≡◌, [], ◌∷◌, ◌++◌, IfOk, Is
 
 use crate::{Command, Conn, Queue};
 use crate::keyspace::Keyspace;
-use resp_wire::{Bytes, Value};
+use resp_wire::{Bytes, Value, Values};
 use sqlite_items::Items;
 use std::alloc::{AllocError, Global};
 use std::collections::BTreeMap;
@@ -131,6 +131,17 @@ impl Connections {
     {
         let known = self.take(alloc, number);
         self.set(number, with_broken(known))
+    }
+
+    /// Takes the messages that a connection has pending.
+    pub fn collect(&mut self, alloc: Global, number: u32) -> Result<Values, AllocError>
+        ensures messages { IfOk result (λ ms. ms ≡ (conn self.old number).pending) }
+        ensures quiet { OnOk result (self.new ≡ map.insert self.old number (record (conn self.old number) { pending = [] })) }
+    {
+        let known = self.take(alloc, number);
+        let (known, messages) = hushed(alloc, known);
+        self.set(number, known)?;
+        Ok(messages)
     }
 
     /// Adds a command to a connection's queue.
@@ -358,4 +369,26 @@ fn with_command(known: Conn, command: Command) -> Result<Conn, AllocError>
         channels: known.channels,
         pending: known.pending,
     })
+}
+
+// The connection with no messages pending, and the messages.
+fn hushed(alloc: Global, known: Conn) -> (Conn, Values)
+    ensures conn { result.0 ≡ record known { pending = [] } }
+    ensures messages { result.1 ≡ known.pending }
+{
+    let Conn {
+        queue,
+        watched,
+        marked,
+        channels,
+        pending,
+    } = known;
+    let hushed = Conn {
+        queue,
+        watched,
+        marked,
+        channels,
+        pending: Items::new(alloc),
+    };
+    (hushed, pending)
 }

@@ -3,17 +3,18 @@ ghost use Rattle.mini_store.specs.Commands.{is_queued};
 ghost use Rattle.mini_store.specs.Connections.{Conns, cleared, conn, joined, posted, touched, with_queue, without};
 ghost use Rattle.mini_store.specs.Keys.{Keys};
 ghost use Rattle.mini_store.specs.Replies.{aborted, channel_answer, done, full, not_inside, queued};
-ghost use Rattle.mini_store.specs.Store.{State, discard, empty_state, executed, gone_of, inside, is_heard, multi, plain, refused, run_all, run_one, run_queue, serve, settled, set_conn, subscribe, to_queue, unsubscribe, unwatch, watch};
+ghost use Rattle.mini_store.specs.Store.{State, answer_to, apply_of, discard, empty_state, executed, gone_of, heard_plain, inside, is_heard, multi, plain, quiet, refused, run_all, run_one, run_queue, serve, settled, set_conn, spoken, subscribe, to_queue, unsubscribe, unwatch, watch};
 ghost use Rattle.mini_store.specs.Words.{command_of};
 ghost use Rattle.std.specs.FinMap.{insert, remove};
 ghost use Rattle.std.specs.Prelude.{◌≡◌, ◌<◌, ◌^◌, [], ◌∷◌, ◌++◌, ℕ, IfOk, IsTrue, None, OnOk, Some, false, is_some, length, nat_lt, true};
 
 use crate::conns::Connections;
-use crate::effect::{error, number, status};
+use crate::effect::{error, number, pair, status};
 use crate::keyspace::Keyspace;
 use crate::run::{fault_answer, is_queued, run};
-use crate::{Command, Conn, Queue};
-use resp_wire::{Bytes, Value, Values};
+use crate::words::command_of;
+use crate::{Command, Conn, Queue, Reply};
+use resp_wire::{Bytes, Value, Values, Words};
 use sqlite_items::Items;
 use std::alloc::{AllocError, Global};
 use std::marker::Model;
@@ -374,5 +375,115 @@ impl Database {
             }
             other => self.enqueue(alloc, number, other),
         }
+    }
+}
+
+impl Database {
+    // A command of a subscribed connection outside MULTI.
+    fn heard_plain(
+        &mut self,
+        alloc: Global,
+        at: u64,
+        number: u32,
+        command: Command,
+    ) -> Result<Value, AllocError>
+        requires { at < 2 ^ 40 }
+        ensures { IfOk result (λ v. (self.new, v) ≡ heard_plain at self.old number (conn self.old.conns number) command) }
+    {
+        match command {
+            Command::Ping => {
+                let word = Bytes::from_slice(alloc, b"pong".as_slice())?;
+                let answer = pair(alloc, word, Bytes::new())?;
+                Ok(answer)
+            }
+            other => self.plain(alloc, at, number, other),
+        }
+    }
+
+    // A command of a subscribed connection.
+    fn spoken(
+        &mut self,
+        alloc: Global,
+        at: u64,
+        number: u32,
+        command: Command,
+    ) -> Result<Value, AllocError>
+        requires { at < 2 ^ 40 }
+        ensures { IfOk result (λ v. (self.new, v) ≡ spoken at self.old number (conn self.old.conns number) command (conn self.old.conns number).queue (is_heard command)) }
+    {
+        if !is_heard(&command) {
+            mem::drop(command);
+            let answer = error(alloc, b"ERR subscribed".as_slice())?;
+            return self.refuse(alloc, number, answer);
+        }
+        if self.conns.is_queueing(number) {
+            return self.inside(alloc, at, number, command);
+        }
+        self.heard_plain(alloc, at, number, command)
+    }
+
+    // A command of a connection.
+    fn serve(
+        &mut self,
+        alloc: Global,
+        at: u64,
+        number: u32,
+        command: Command,
+    ) -> Result<Value, AllocError>
+        requires { at < 2 ^ 40 }
+        ensures { IfOk result (λ v. (self.new, v) ≡ serve at self.old number command (conn self.old.conns number)) }
+    {
+        if self.conns.channel_count(number) > 0 {
+            return self.spoken(alloc, at, number, command);
+        }
+        if self.conns.is_queueing(number) {
+            return self.inside(alloc, at, number, command);
+        }
+        self.plain(alloc, at, number, command)
+    }
+
+    // Takes the messages that a connection has pending.
+    fn collect(&mut self, alloc: Global, number: u32) -> Result<Values, AllocError>
+        ensures messages { IfOk result (λ ms. ms ≡ (conn self.old.conns number).pending) }
+        ensures quiet { OnOk result (self.new ≡ quiet self.old number (conn self.old.conns number) (conn self.old.conns number).pending) }
+    {
+        if self.conns.pending_count(number) == 0 {
+            return Ok(Items::new(alloc));
+        }
+        let messages = self.conns.collect(alloc, number)?;
+        Ok(messages)
+    }
+
+    /// A command of a connection, at a moment at which nothing is due.
+    #[tactic(auto, unfolding(crate::specs::Store::answer_to))]
+    fn answer(
+        &mut self,
+        alloc: Global,
+        at: u64,
+        number: u32,
+        words: &Words,
+    ) -> Result<Reply, AllocError>
+        requires { at < 2 ^ 40 }
+        ensures { IfOk result (λ r. (self.new, r) ≡ answer_to at self.old number words.now) }
+    {
+        let pushed = self.collect(alloc, number)?;
+        let command = command_of(alloc, words)?;
+        let answer = self.serve(alloc, at, number, command)?;
+        Ok(Reply { pushed, answer })
+    }
+
+    /// A command of a connection.
+    pub fn apply(
+        &mut self,
+        alloc: Global,
+        at: u64,
+        number: u32,
+        words: &Words,
+    ) -> Result<Reply, AllocError>
+        requires { at < 2 ^ 40 }
+        ensures { IfOk result (λ r. (self.new, r) ≡ apply_of self.old at number words.now) }
+    {
+        self.settle(at);
+        self.answer(alloc, at, number, words)
     }
 }
