@@ -7,8 +7,8 @@ ghost use Rattle.std.specs.FinMap as map;
 ghost use Rattle.std.specs.Ordering.{nat_cmp};
 ghost use Rattle.std.specs.Prelude.{◌≡◌, [], ◌∷◌, ◌++◌, IfOk, IsTrue, None, OnOk, is_some, length, map as mapped};
 
-use crate::{Command, Conn, Queue};
 use crate::keyspace::Keyspace;
+use crate::{Command, Conn, Queue};
 use resp_wire::{Bytes, Value, Values};
 use sqlite_items::Items;
 use std::alloc::{AllocError, Global};

@@ -1,8 +1,7 @@
 use Rattle.std.proofs.Common.{ap, ◌∙◌}
-use Rattle.std.specs.Prelude.{codes}
 use Rattle.mini_store.specs.Replies.{channel_answer}
 use Rattle.mini_store.proofs.Steps.{subscribe_done}
-use Rattle.mini_store.proofs.store.Database.subscribe.Goals as goal
+use Rattle.mini_store.proofs.database.Database.subscribe.Goals as goal
 
 pub returns : goal.returns
 returns c = subscribe_done c.self.inside.keys c.self.inside.conns c.args.number c.args.channel c.args.self.now c.set.new.self c.take-known.result c.in_ok-known.field-0 c.len-count.result c.in_ok-answer.answer

@@ -1,8 +1,7 @@
 use Rattle.std.proofs.Common.{ap, ◌∙◌}
-use Rattle.std.specs.Prelude.{codes}
 use Rattle.mini_store.specs.Replies.{channel_answer}
 use Rattle.mini_store.proofs.Steps.{unsubscribe_done}
-use Rattle.mini_store.proofs.store.Database.unsubscribe.Goals as goal
+use Rattle.mini_store.proofs.database.Database.unsubscribe.Goals as goal
 
 pub returns : goal.returns
 returns c = unsubscribe_done c.self.inside.keys c.self.inside.conns c.args.number c.args.channel c.args.self.now c.set.new.self c.take-known.result c.take_out.new.self c.len-count.result c.in_ok-answer.answer
