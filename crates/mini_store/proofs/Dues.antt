@@ -1,5 +1,5 @@
 -- Keys that are due: those that are dropped, and the connections that watch them.
-use Rattle.std.proofs.Common.{◌≡◌, ℕ, List, [], ◌∷◌, Bool, true, false, cond, refl, sym, ap, subst, ◌∙◌, None, Some, Option, T, map}
+use Rattle.std.proofs.Common.{◌≡◌, ℕ, List, [], ◌∷◌, Bool, true, false, cond, refl, sym, ap, ◌∙◌, None, Some, Option, T}
 use Rattle.std.specs.Prelude.{not, ◌||◌, ◌&&◌, bytes_eq, filter}
 use Rattle.std.specs.List.{list_any, AllByRecursion}
 use Rattle.std.specs.List.Sorted.{IsStrictlySortedBy}
@@ -9,7 +9,7 @@ use Rattle.std.specs.Ordering.{eq_by_cmp, is_eq, is_lt}
 use Rattle.std.specs.declared.cmp.Ordering.{Ordering}
 use Rattle.std.specs.Cmp.{eq_by_cmp_equiv}
 use Rattle.std.specs.Cmp.Lexicographic.{texts_ties}
-use Rattle.std.specs.FinMap.{FinMap, get, entries, entries_sorted, same_entries_map, from_entries, same_map, get-entries, get-from_entries, get-retain_keys}
+use Rattle.std.specs.FinMap.{FinMap, get, entries, entries_sorted, same_entries_map, from_entries, same_map, get-from_entries, get-retain_keys}
 use Rattle.std.specs.FinMap.Entries.{find, below_all, is_sorted}
 use Rattle.resp_wire.specs.Order.{bytes_cmp}
 use Rattle.store_tables.proofs.Maps.{bytes_total, bytes_anti, entries_made}

@@ -1,5 +1,5 @@
 -- Lists at their ends.
-use Rattle.std.proofs.Common.{◌≡◌, List, [], ◌∷◌, ◌++◌, refl, sym, ap, ◌∙◌, length, ℕ, Option}
+use Rattle.std.proofs.Common.{◌≡◌, List, [], ◌∷◌, ◌++◌, refl, sym, ap, ◌∙◌, length}
 use Rattle.mini_store.specs.Integers.{natural_of}
 use Rattle.mini_store.specs.Words.{Bytes, front, final, brpop_of, brpop_until}
 

@@ -1,12 +1,12 @@
 -- What EXPIRE leaves, and what is left once keys that are due were dropped.
-use Rattle.std.proofs.Common.{◌≡◌, ℕ, List, [], ◌∷◌, refl, sym, ap, ◌∙◌, None, Some, Option}
+use Rattle.std.proofs.Common.{◌≡◌, ℕ, List, [], ◌∷◌, sym, ap, ◌∙◌, None, Some}
 use Rattle.std.specs.FinMap.{get, insert, remove}
 use Rattle.resp_wire.specs.declared.value.Value.{Value}
 use Rattle.store_tables.proofs.Maps.{bytes_total, bytes_anti}
 use Rattle.store_tables.proofs.Lookups.{insert-remove, remove_same}
 use Rattle.mini_store.specs.Words.{Bytes}
 use Rattle.mini_store.specs.Replies.{number}
-use Rattle.mini_store.specs.Keys.{Keys, Outcome, out, expire}
+use Rattle.mini_store.specs.Keys.{Keys, out, expire}
 use Rattle.mini_store.specs.declared.held.Held.{Held}
 
 -- an outcome is told by its parts

@@ -5,5 +5,6 @@ pub mod Pops
 pub mod Ranks
 pub mod Refills
 pub mod Rooms
+pub mod Steps
 pub mod Takings
 pub mod Told

@@ -1,15 +1,15 @@
 -- A map that is moved over entry by entry, each changed on the way.
-use Rattle.std.proofs.Common.{◌≡◌, ◌≢◌, ◌⊎◌, inl, inr, ℕ, List, [], ◌∷◌, Bool, true, false, cond, refl, sym, ap, subst, ◌∙◌, ◌<◌, None, Some, Option, T, map, length, arith}
+use Rattle.std.proofs.Common.{◌≡◌, List, [], ◌∷◌, Bool, true, false, cond, refl, sym, ap, ◌∙◌, ◌<◌, None, Some, Option, map, length, arith}
 use Rattle.std.specs.declared.cmp.Ordering.{Ordering}
-use Rattle.std.specs.declared.cmp.Ordering.TheVariants.{Less, Equal, Greater}
-use Rattle.std.specs.Ordering.{eq_by_cmp, is_lt, is_eq}
+use Rattle.std.specs.declared.cmp.Ordering.TheVariants.{Less}
+use Rattle.std.specs.Ordering.{eq_by_cmp, is_eq}
 use Rattle.std.specs.Cmp.{IsTotalOrder}
 use Rattle.std.specs.List.{AllByRecursion}
 use Rattle.std.specs.List.Sorted.{IsStrictlySortedBy}
 use Rattle.std.specs.Map.{keys_of}
 use Rattle.std.specs.FinMap.{FinMap, get, insert, empty, from_entries, same_map, get-insert, get-empty, get-from_entries, IsAntisymmetric}
 use Rattle.std.specs.FinMap.Entries.{find}
-use Rattle.store_tables.proofs.Lookups.{decided, tied_itself, tied_same}
+use Rattle.store_tables.proofs.Lookups.{tied_same}
 
 module _ {K X : Type 0} {R : K → K → Ordering} (o : IsTotalOrder R) (anti : IsAntisymmetric R) (f : X → X) where
   -- the entries are put in from the first on

@@ -1,5 +1,5 @@
 -- A value taken from under its key: what stands in for it is written over, and it can be put back.
-use Rattle.std.proofs.Common.{◌≡◌, ℕ, List, [], ◌∷◌, Bool, true, false, cond, refl, sym, ap, ◌∙◌, None, Some, Option, IfSome, length, nat_eq, ℤ, arith}
+use Rattle.std.proofs.Common.{◌≡◌, List, [], ◌∷◌, Bool, true, false, cond, refl, sym, ap, ◌∙◌, None, Some, Option, IfSome, length, nat_eq, ℤ, arith}
 use Rattle.std.specs.Cmp.{unsigned_Decides}
 use Rattle.std.specs.FinMap.{FinMap, get, insert, remove, empty, len, len-empty, empty_of_len}
 use Rattle.resp_wire.specs.Order.{bytes_cmp}

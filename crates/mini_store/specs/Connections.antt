@@ -1,5 +1,5 @@
 -- What the store knows of connections: watched keys and their marks, channels and pending messages.
-use Rattle.std.specs.Prelude.{ℕ, ◌+◌, Bool, false, not, ◌||◌, ◌&&◌, List, [], ◌∷◌, ◌++◌, map, filter, count_by, length, nat_lt, bytes_eq, Option, None, Some, if◌then◌else◌}
+use Rattle.std.specs.Prelude.{ℕ, true, Bool, false, not, ◌||◌, ◌&&◌, List, [], ◌∷◌, ◌++◌, map, filter, count_by, length, nat_lt, bytes_eq, Option, None, Some, if◌then◌else◌}
 use Rattle.std.specs.List.{list_any}
 use Rattle.std.specs.Ordering.{nat_cmp}
 use Rattle.std.specs.FinMap.{FinMap, get, entries, from_entries}
@@ -9,6 +9,7 @@ use Rattle.mini_store.specs.Keys.{Keys, is_due}
 use Rattle.mini_store.specs.Commands.{Around}
 use Rattle.mini_store.specs.declared.command.Command.{Command}
 use Rattle.mini_store.specs.declared.command.Command.TheVariants.{Publish}
+use Rattle.mini_store.specs.declared.connection.Queue.{Queue}
 use Rattle.mini_store.specs.declared.connection.Conn.{Conn}
 
 -- the connections by their numbers
@@ -88,3 +89,26 @@ with_queue c commands broken = record c { queue = Some (record { commands = comm
 -- the connection without queue, watched keys and mark
 abbrev pub cleared : Conn → Conn
 cleared c = record c { queue = None; watched = []; marked = false }
+
+-- how many commands are queued
+abbrev pub queue_length : Option Queue → ℕ
+queue_length None = 0
+queue_length (Some q) = length q.commands
+
+-- the queue, broken
+abbrev pub broken_queue : Option Queue → Option Queue
+broken_queue None = None
+broken_queue (Some q) = Some (record { commands = q.commands; broken = true })
+
+-- the connection with its queue broken
+abbrev pub with_broken : Conn → Conn
+with_broken c = record c { queue = broken_queue c.queue }
+
+-- the queue with a command more
+abbrev pub longer_queue : Command → Option Queue → Option Queue
+longer_queue command None = None
+longer_queue command (Some q) = Some (record { commands = q.commands ++ command ∷ []; broken = q.broken })
+
+-- the connection with a command more in its queue
+abbrev pub with_command : Command → Conn → Conn
+with_command command c = record c { queue = longer_queue command c.queue }

@@ -1,16 +1,18 @@
 -- The store: its state, and what a command of a connection does to it.
-use Rattle.std.specs.Prelude.{ℕ, Bool, true, false, List, [], ◌∷◌, ◌++◌, length, nat_lt, codes, Option, None, Some, refl}
+use Rattle.std.specs.Prelude.{ℕ, Bool, true, false, List, [], ◌∷◌, ◌++◌, length, nat_lt, codes, Option, None, Some, refl, not, is_some, map, bytes_eq, ◌&&◌, if◌then◌else◌}
+use Rattle.std.specs.List.{list_any}
 use Rattle.std.specs.Coded.{Coded, code_by, coded×, coded_list, coded_ℕ, coded_bool}
-use Rattle.std.specs.FinMap.{empty, insert, remove, code, entries}
+use Rattle.std.specs.FinMap.{get, empty, insert, remove, code, entries}
 use Rattle.resp_wire.specs.declared.value.Value.{Value}
 use Rattle.resp_wire.specs.declared.value.Value.TheVariants.{Error, Array, NullArray}
-use Rattle.mini_store.specs.Words.{Bytes, Words, command_of}
+use Rattle.mini_store.specs.Words.{Bytes, Words, brpop_of, command_of, upper_byte}
 use Rattle.mini_store.specs.Replies.{done, queued, fault_text, subscribed, not_inside, full, aborted, pair, channel_answer}
-use Rattle.mini_store.specs.Keys.{Keys, due_keys, live_at}
+use Rattle.mini_store.specs.Keys.{Keys, due_keys, is_due, live_at}
 use Rattle.mini_store.specs.Commands.{run, is_queued}
 use Rattle.mini_store.specs.Connections.{Conns, conn, touched, around, posted, joined, without, with_queue, cleared}
 use Rattle.mini_store.specs.declared.command.Command.{Command}
-use Rattle.mini_store.specs.declared.command.Command.TheVariants.{Ping, Watch, Unwatch, Multi, Exec, Discard, Subscribe, Unsubscribe, Faulty}
+use Rattle.mini_store.specs.declared.command.Command.TheVariants.{Brpop, Ping, Watch, Unwatch, Multi, Exec, Discard, Subscribe, Unsubscribe, Faulty}
+use Rattle.mini_store.specs.declared.held.Held.{Held}
 use Rattle.mini_store.specs.declared.connection.Queue.{Queue}
 use Rattle.mini_store.specs.declared.connection.Conn.{Conn}
 use Rattle.mini_store.specs.declared.reply.Reply.{Reply}
@@ -99,10 +101,14 @@ to_queue s c cn q command true true = (set_conn s c (with_queue cn (q.commands +
 to_queue s c cn q command true false = refused s c cn (Some q) full
 to_queue s c cn q command false room = refused s c cn (Some q) not_inside
 
+-- DISCARD
+abbrev pub discard : State → ℕ → Conn → State × Value
+discard s c cn = (set_conn s c (cleared cn), done)
+
 -- a command after MULTI
 abbrev pub inside : ℕ → State → ℕ → Conn → Queue → Command → State × Value
 inside at s c cn q Exec = executed at s c cn q.commands q.broken
-inside at s c cn q Discard = (set_conn s c (cleared cn), done)
+inside at s c cn q Discard = discard s c cn
 inside at s c cn q (Faulty fault heard) = refused s c cn (Some q) (Error (fault_text fault))
 inside at s c cn q command = to_queue s c cn q command (is_queued command) (nat_lt (length q.commands) 4096)
 
@@ -114,11 +120,23 @@ subscribe s c cn x = let cs = joined x cn.channels in (set_conn s c (record cn {
 abbrev pub unsubscribe : State → ℕ → Conn → Bytes → State × Value
 unsubscribe s c cn x = let cs = without x cn.channels in (set_conn s c (record cn { channels = cs }), channel_answer (codes "unsubscribe") x (length cs))
 
+-- MULTI
+abbrev pub multi : State → ℕ → Conn → State × Value
+multi s c cn = (set_conn s c (with_queue cn [] false), done)
+
+-- WATCH
+abbrev pub watch : State → ℕ → Conn → List Bytes → State × Value
+watch s c cn ks = (set_conn s c (record cn { watched = cn.watched ++ ks }), done)
+
+-- UNWATCH
+abbrev pub unwatch : State → ℕ → Conn → State × Value
+unwatch s c cn = (set_conn s c (record cn { watched = []; marked = false }), done)
+
 -- a command outside MULTI
 abbrev pub plain : ℕ → State → ℕ → Conn → Command → State × Value
-plain at s c cn Multi = (set_conn s c (with_queue cn [] false), done)
-plain at s c cn (Watch ks) = (set_conn s c (record cn { watched = cn.watched ++ ks }), done)
-plain at s c cn Unwatch = (set_conn s c (record cn { watched = []; marked = false }), done)
+plain at s c cn Multi = multi s c cn
+plain at s c cn (Watch ks) = watch s c cn ks
+plain at s c cn Unwatch = unwatch s c cn
 plain at s c cn (Subscribe x) = subscribe s c cn x
 plain at s c cn (Unsubscribe x) = unsubscribe s c cn x
 plain at s c cn command = run_one at s command
@@ -176,3 +194,17 @@ apply_of s at c words = answer_to at (settled s at) c words
 -- the state without all that the connection has
 abbrev pub gone_of : State → ℕ → State
 gone_of s c = record s { conns = remove s.conns c }
+
+-- the key is there, and its expiry isn't reached
+abbrev pub is_live : ℕ → Option Held → Bool
+is_live at o = is_some o && not (is_due at o)
+
+-- whether a command finds what it would wait for: BRPOP by its keys, any other does
+abbrev pub finds : ℕ → Keys → Command → Bool
+finds at m (Brpop ks) = list_any (λ k. is_live at (get m k)) ks
+finds at m other = true
+
+-- false exactly where the words are a lawful BRPOP and every named key is absent or gone at this moment
+abbrev pub ready_of : State → ℕ → Words → Bool
+ready_of s at [] = true
+ready_of s at (name ∷ args) = if bytes_eq (map upper_byte name) (codes "BRPOP") then finds at s.keys (brpop_of args) else true

@@ -1,5 +1,5 @@
 -- How commands are spelled as words: the first is the name, read without regard to ASCII case.
-use Rattle.std.specs.Prelude.{ℕ, ◌-◌, Bool, true, false, ◌&&◌, List, [], ◌∷◌, map, nat_le, codes, bytes_eq, Option, None, Some, ℤ, if◌then◌else◌}
+use Rattle.std.specs.Prelude.{ℕ, ◌-◌, Bool, true, false, ◌&&◌, List, [], ◌∷◌, map, nat_le, codes, bytes_eq, Option, None, Some, ℤ, if◌then◌else◌, ◌≤◌, length, All}
 use Rattle.mini_store.specs.Integers.{integer_of, natural_of, seconds_of}
 use Rattle.mini_store.specs.declared.command.Command.{Command}
 use Rattle.mini_store.specs.declared.command.Command.TheVariants.{Ping, Select, Get, Set, Del, Expire, Lpush, Rpush, Rpop, Brpop, Llen, Hlen, Zcard, Sadd, Srem, Smembers, Hset, Hget, Hdel, Zadd, Zrem, Zrevrangebyscore, Watch, Unwatch, Multi, Exec, Discard, Publish, Subscribe, Unsubscribe, Faulty}
@@ -13,6 +13,10 @@ Bytes = List ℕ
 -- the words of a command
 abbrev pub Words : Type 0
 Words = List Bytes
+
+-- a command has at most 4,096 words, each of at most 1,048,576 bytes, as RESP2 in this store's limits carries them
+abbrev pub IsWithinLimits : Words → Type 0
+IsWithinLimits words = (length words ≤ 4096) × All (λ w. length w ≤ 1048576) words
 
 -- the byte as a capital letter
 abbrev pub upper_byte : ℕ → ℕ

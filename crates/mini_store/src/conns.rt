@@ -1,5 +1,5 @@
 //! What the store knows of its connections.
-ghost use Rattle.mini_store.specs.Connections.{Conns, cleared, conn, delivered, hearing, hears, hit, no_conn, told, touch, touch_due, touched};
+ghost use Rattle.mini_store.specs.Connections.{Conns, broken_queue, cleared, conn, delivered, longer_queue, queue_length, with_broken, with_command, hearing, hears, hit, no_conn, told, touch, touch_due, touched};
 ghost use Rattle.mini_store.specs.Keys.{due_keys};
 ghost use Rattle.mini_store.specs.Replies.{message};
 ghost use Rattle.std.specs.BTreeMap.{IsOrdered};
@@ -7,9 +7,9 @@ ghost use Rattle.std.specs.FinMap as map;
 ghost use Rattle.std.specs.Ordering.{nat_cmp};
 ghost use Rattle.std.specs.Prelude.{◌≡◌, [], ◌∷◌, ◌++◌, IfOk, IsTrue, None, OnOk, is_some, length, map as mapped};
 
-use crate::Conn;
 use crate::keyspace::Keyspace;
-use resp_wire::{Bytes, Value};
+use crate::{Command, Conn, Queue};
+use resp_wire::{Bytes, Value, Values};
 use sqlite_items::Items;
 use std::alloc::{AllocError, Global};
 use std::collections::BTreeMap;
@@ -55,6 +55,26 @@ impl Connections {
         }
     }
 
+    /// Whether a key that the connection watches was altered.
+    pub fn is_marked(&self, number: u32) -> bool
+        ensures { result ≡ (conn self.now number).marked }
+    {
+        match self.kept.get(&number) {
+            Some(known) => known.marked,
+            None => false,
+        }
+    }
+
+    /// How many commands a connection has queued.
+    pub fn queue_len(&self, number: u32) -> usize
+        ensures { result ≡ queue_length (conn self.now number).queue }
+    {
+        match self.kept.get(&number) {
+            Some(known) => queue_len(&known.queue),
+            None => 0,
+        }
+    }
+
     /// How many channels a connection has.
     pub fn channel_count(&self, number: u32) -> usize
         ensures { result ≡ length (conn self.now number).channels }
@@ -92,6 +112,50 @@ impl Connections {
     {
         self.kept.insert(number, known)?;
         Ok(())
+    }
+
+    /// Clears a connection's queue, watched keys and mark, and gives the queue.
+    pub fn clear(&mut self, alloc: Global, number: u32) -> Result<Option<Queue>, AllocError>
+        ensures queue { IfOk result (λ q. q ≡ (conn self.old number).queue) }
+        ensures cleared { OnOk result (self.new ≡ map.insert self.old number (cleared (conn self.old number))) }
+    {
+        let known = self.take(alloc, number);
+        let (known, queue) = cleared(alloc, known);
+        self.set(number, known)?;
+        Ok(queue)
+    }
+
+    /// Marks a connection's queue broken.
+    pub fn break_queue(&mut self, alloc: Global, number: u32) -> Result<(), AllocError>
+        ensures { OnOk result (self.new ≡ map.insert self.old number (with_broken (conn self.old number))) }
+    {
+        let known = self.take(alloc, number);
+        self.set(number, with_broken(known))
+    }
+
+    /// Takes the messages that a connection has pending.
+    pub fn collect(&mut self, alloc: Global, number: u32) -> Result<Values, AllocError>
+        ensures messages { IfOk result (λ ms. ms ≡ (conn self.old number).pending) }
+        ensures quiet { OnOk result (self.new ≡ map.insert self.old number (record (conn self.old number) { pending = [] })) }
+    {
+        let known = self.take(alloc, number);
+        let (known, messages) = hushed(alloc, known);
+        self.set(number, known)?;
+        Ok(messages)
+    }
+
+    /// Adds a command to a connection's queue.
+    pub fn enqueue(
+        &mut self,
+        alloc: Global,
+        number: u32,
+        command: Command,
+    ) -> Result<(), AllocError>
+        ensures { OnOk result (self.new ≡ map.insert self.old number (with_command command (conn self.old number))) }
+    {
+        let known = self.take(alloc, number);
+        let known = with_command(known, command)?;
+        self.set(number, known)
     }
 
     /// How many connections a message on this channel reaches.
@@ -224,4 +288,107 @@ fn mark_all_due(kept: &mut BTreeMap<u32, Conn>, keys: &Keyspace, at: u64)
         }
         true
     });
+}
+
+fn queue_len(queue: &Option<Queue>) -> usize
+    ensures { result ≡ queue_length queue.now }
+{
+    match queue {
+        Some(queue) => queue.commands.len(),
+        None => 0,
+    }
+}
+
+// The connection without queue, watched keys and mark, and the queue.
+fn cleared(alloc: Global, known: Conn) -> (Conn, Option<Queue>)
+    ensures conn { result.0 ≡ cleared known }
+    ensures queue { result.1 ≡ known.queue }
+{
+    let Conn {
+        queue,
+        watched: _,
+        marked: _,
+        channels,
+        pending,
+    } = known;
+    let cleared = Conn {
+        queue: None,
+        watched: Deque::new(alloc),
+        marked: false,
+        channels,
+        pending,
+    };
+    (cleared, queue)
+}
+
+fn broken(queue: Option<Queue>) -> Option<Queue>
+    ensures { result ≡ broken_queue queue }
+{
+    match queue {
+        Some(queue) => Some(Queue {
+            commands: queue.commands,
+            broken: true,
+        }),
+        None => None,
+    }
+}
+
+// The connection with its queue broken.
+fn with_broken(known: Conn) -> Conn
+    ensures { result ≡ with_broken known }
+{
+    Conn {
+        queue: broken(known.queue),
+        watched: known.watched,
+        marked: known.marked,
+        channels: known.channels,
+        pending: known.pending,
+    }
+}
+
+fn longer(queue: Option<Queue>, command: Command) -> Result<Option<Queue>, AllocError>
+    ensures { IfOk result (λ q. q ≡ longer_queue command queue) }
+{
+    let Some(queue) = queue else {
+        return Ok(None);
+    };
+    let mut commands = queue.commands;
+    commands.push(command)?;
+    let broken = queue.broken;
+    Ok(Some(Queue { commands, broken }))
+}
+
+// The connection with a command more in its queue.
+fn with_command(known: Conn, command: Command) -> Result<Conn, AllocError>
+    ensures { IfOk result (λ c. c ≡ with_command command known) }
+{
+    Ok(Conn {
+        queue: longer(known.queue, command)?,
+        watched: known.watched,
+        marked: known.marked,
+        channels: known.channels,
+        pending: known.pending,
+    })
+}
+
+// The connection with no messages pending, and the messages.
+fn hushed(alloc: Global, known: Conn) -> (Conn, Values)
+    ensures conn { result.0 ≡ record known { pending = [] } }
+    ensures messages { result.1 ≡ known.pending }
+{
+    let Conn {
+        queue,
+        watched,
+        marked,
+        channels,
+        pending,
+    } = known;
+    let hushed = Conn {
+        queue,
+        watched,
+        marked,
+        channels,
+        pending: Items::new(alloc),
+    };
+    (hushed, pending)
 }

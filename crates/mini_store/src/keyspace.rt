@@ -1,5 +1,6 @@
 //! The keys with what they hold.
 ghost use Rattle.mini_store.specs.Keys.{is_due, is_over, live_at, put};
+ghost use Rattle.mini_store.specs.Store.{is_live};
 ghost use Rattle.resp_wire.specs.Order.{bytes_cmp};
 ghost use Rattle.std.specs.BTreeMap.{IsOrdered};
 ghost use Rattle.std.specs.FinMap as map;
@@ -125,6 +126,20 @@ impl Keyspace {
         ensures { result ≡ list_any (λ k. is_due at (map.get self.now k)) keys.now }
     {
         keys.iter().any(|key| self.is_due(key, at))
+    }
+
+    /// Whether the key is present and its expiry isn't reached.
+    pub fn is_live(&self, key: &Bytes, at: u64) -> bool
+        ensures { result ≡ is_live at (map.get self.now key.now) }
+    {
+        self.has(key) && !self.is_due(key, at)
+    }
+
+    /// Whether one of the keys is present and its expiry isn't reached.
+    pub fn has_live(&self, keys: &[Bytes], at: u64) -> bool
+        ensures { result ≡ list_any (λ k. is_live at (map.get self.now k)) keys.now }
+    {
+        keys.iter().any(|key| self.is_live(key, at))
     }
 
     /// Drops each key whose expiry is reached.

@@ -7,6 +7,7 @@
 mod command;
 mod connection;
 mod conns;
+mod database;
 mod effect;
 mod hashes;
 mod held;
@@ -28,4 +29,5 @@ pub use connection::{Conn, Queue};
 pub use held::{Held, Stored};
 pub use laws::unaltered_keys;
 pub use reply::Reply;
+pub use store::Store;
 pub use words::command_of;

@@ -9,7 +9,8 @@ use resp_wire::{Bytes, Words};
 use std::alloc::{AllocError, Global};
 use store_tables::Deque;
 
-fn upper_byte(byte: u8) -> u8
+/// The byte as a capital letter.
+pub fn upper_byte(byte: u8) -> u8
     ensures { result ≡ upper_byte byte }
 {
     if 97 <= byte && byte <= 122 {

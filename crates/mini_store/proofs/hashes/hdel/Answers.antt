@@ -1,4 +1,4 @@
-use Rattle.std.proofs.Common.{◌≡◌, ap, sym, ◌∙◌, IfOk}
+use Rattle.std.proofs.Common.{◌∙◌}
 use Rattle.std.proofs.lemmas.Result.{IfOk-weaker}
 use Rattle.mini_store.specs.Keys.{value_at}
 use Rattle.mini_store.specs.declared.held.Stored.TheVariants.{Hash}

@@ -1,4 +1,4 @@
-use Rattle.std.proofs.Common.{◌≡◌, true, None, Some, sym, ap, ◌∙◌, length}
+use Rattle.std.proofs.Common.{◌≡◌, true, sym, ap, ◌∙◌}
 use Rattle.mini_store.specs.Integers.{natural_of}
 use Rattle.mini_store.specs.Words.{brpop_until}
 use Rattle.mini_store.proofs.Ends.{brpop_split}

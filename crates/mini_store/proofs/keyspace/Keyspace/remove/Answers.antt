@@ -1,4 +1,4 @@
-use Rattle.std.proofs.Common.{◌≡◌, ap, sym, ◌∙◌}
+use Rattle.std.proofs.Common.{ap, sym, ◌∙◌}
 use Rattle.std.specs.FinMap as map
 use Rattle.store_tables.proofs.Maps.{get_made, removed_made, bytes_total, bytes_anti}
 use Rattle.mini_store.proofs.keyspace.Keyspace.remove.Goals as goal

@@ -1,4 +1,4 @@
-use Rattle.std.proofs.Common.{rules, ◌≡◌, IfOk, IfErr, IfSome, OnOk, OnErr, Some, None, ap, sym, ◌∙◌, refl}
+use Rattle.std.proofs.Common.{Some, ap, sym, ◌∙◌}
 use Rattle.std.specs.FinMap as map
 use Rattle.store_tables.proofs.Maps.{get_made, put_made, bytes_total, bytes_anti, is_some_from}
 use Rattle.mini_store.proofs.keyspace.Keyspace.replace.Goals as goal

@@ -1,6 +1,6 @@
 use Rattle.std.proofs.Common.{◌≡◌, ◌++◌, length}
 use Rattle.mini_store.specs.Store.{run_all}
-use Rattle.mini_store.proofs.store.run_all.Given as goal
+use Rattle.mini_store.proofs.database.run_all.Given as goal
 
 abbrev pub invariant-loop-command : goal.invariant-loop-command
 invariant-loop-command l =
