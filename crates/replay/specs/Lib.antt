@@ -1,3 +1,4 @@
 pub mod Bindings
 pub mod Kinds
 pub mod Legends
+pub mod Runs

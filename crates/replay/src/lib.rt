@@ -8,8 +8,10 @@ mod line;
 mod note_text;
 mod place_text;
 mod report;
+mod run;
 mod word;
 
 pub use built::waits_for_publishers;
 pub use line::line_of;
 pub use report::report_of;
+pub use run::{RunFault, run_schedule};

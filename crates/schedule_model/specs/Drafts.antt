@@ -18,7 +18,7 @@ abbrev pub if_arguments : Data → Option Data
 if_arguments d = if is_some (as_array d) && not (has_float d) && nat_le (depth d) 90 then Some d else None
 
 -- the arguments that a JSON text spells
-abbrev pub arguments_of : Bytes → Option Data
+unfoldable pub arguments_of : Bytes → Option Data
 arguments_of j = option_and_then if_arguments (json_at j)
 
 -- ---- the draft
@@ -67,6 +67,6 @@ if_sealed exchange routing_key d =
     then Some (compact_text d) else None
 
 -- the envelope of a task, by the seed and counter of its tag, exchange, routing key, priority, task and arguments
-abbrev pub sealed_task : ℕ → ℕ → Bytes → Bytes → ℕ → Bytes → Bytes → Option Bytes
+unfoldable pub sealed_task : ℕ → ℕ → Bytes → Bytes → ℕ → Bytes → Bytes → Option Bytes
 sealed_task s n exchange routing_key priority task j =
     option_and_then (λ args. if_sealed exchange routing_key (task_tree (tag s n) exchange routing_key priority task args)) (arguments_of j)

@@ -1,8 +1,10 @@
 pub mod Built
 pub mod Costs
 pub mod Desk
+pub mod Drafts
 pub mod Faults
 pub mod Lines
+pub mod Programs
 pub mod Reports
 pub mod Schedules
-pub mod Drafts
+pub mod Shapes
