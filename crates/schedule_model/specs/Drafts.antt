@@ -61,9 +61,13 @@ task_tree t exchange routing_key priority task args =
 
 -- ---- the seal
 
--- whether an envelope can tell these: the tag has a text, the names are UTF-8, and the priority is a byte
+-- whether the names are UTF-8
+abbrev pub are_texts : Bytes → Bytes → Bytes → Bool
+are_texts exchange routing_key task = is_utf8 exchange && is_utf8 routing_key && is_utf8 task
+
+-- whether an envelope can tell these: the names are UTF-8, the tag has a text, and the priority is a byte
 abbrev pub are_told : Bytes → Bytes → Bytes → ℕ → Bytes → Bool
-are_told t exchange routing_key priority task = is_tag t && is_utf8 exchange && is_utf8 routing_key && nat_le priority 255 && is_utf8 task
+are_told t exchange routing_key priority task = are_texts exchange routing_key task && is_tag t && nat_le priority 255
 
 -- whether the exchange, the routing key and the texts of the tree are short enough
 abbrev pub are_within : Bytes → Bytes → Data → Bool
