@@ -3,3 +3,5 @@ pub mod Sizes
 pub mod Reported
 pub mod Written
 pub mod Drafted
+pub mod FirstBytes
+pub mod Shaped

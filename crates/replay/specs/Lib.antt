@@ -1,5 +1,6 @@
 pub mod Bindings
 pub mod Kinds
-pub mod Legends
+pub mod Openings
+pub mod PlacedTags
 pub mod Runs
 pub mod Tasks

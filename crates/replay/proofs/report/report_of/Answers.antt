@@ -1,5 +1,5 @@
 use Rattle.std.proofs.Common.{◌∙◌}
-use Rattle.replay.specs.Legends.{legend_of}
+use Rattle.schedule_model.specs.Legends.{legend_of}
 use Rattle.replay.proofs.Reported.{report_written}
 use Rattle.replay.proofs.report.report_of.Goals as goal
 
