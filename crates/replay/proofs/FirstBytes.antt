@@ -1,9 +1,9 @@
 -- A JSON text of an object begins with its bracket or a blank, and so does one of an array.
-use Rattle.std.proofs.Common.{◌≡◌, ℕ, zero, suc, List, [], ◌∷◌, length, Bool, true, false, cond, ◌==◌, ◌||◌, if◌then◌else◌, Option, Some, None, option_map, option_and_then, refl, sym, subst, ◌∙◌}
+use Rattle.std.proofs.Common.{◌≡◌, ℕ, zero, suc, List, [], ◌∷◌, length, Bool, true, false, cond, ◌==◌, ◌||◌, if◌then◌else◌, Option, Some, None, option_map, option_and_then, refl, subst}
 use Rattle.std.specs.Prelude.{not}
 use Rattle.json.specs.Ascii as ascii
 use Rattle.json.specs.Json as json
-use Rattle.json.specs.Lex.{Lexeme, token, comma, colon, quote, backslash, operator, space, other, Mode, between, lex_byte, lex, operator_lexeme, string_token, fresh, Place, begins_colon, place_token, punctuate, tokens}
+use Rattle.json.specs.Lex.{Lexeme, token, comma, colon, quote, backslash, operator, space, other, Mode, between, lex_byte, lex, string_token, fresh, Place, begins_colon, place_token, punctuate, tokens}
 use Rattle.json.specs.Text.{content, plain}
 use Rattle.json.specs.Token.{Token}
 use Rattle.json.specs.Word.{after_number, ends_word, head, is_operator, is_space, literal, number_before, word}

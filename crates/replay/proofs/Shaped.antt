@@ -1,5 +1,5 @@
 -- What a word spells, by its envelope, its entry and its tag.
-use Rattle.std.proofs.Common.{◌≡◌, ℕ, List, Bool, true, false, codes, Option, Some, None, option_map, Result, Ok, Err, refl, sym, ap, ◌∙◌}
+use Rattle.std.proofs.Common.{◌≡◌, ℕ, true, false, codes, Option, Some, None, option_map, Result, Ok, Err, refl}
 use Rattle.std.specs.Result.{result_ok}
 use Rattle.serde_json.specs.Data.{Data, null, boolean, number, string, array, object}
 use Rattle.envelope.specs.Entries.{Entry, entry_at, entry_in}

@@ -1,5 +1,5 @@
 -- What a JSON text that begins with a byte may be.
-use Rattle.std.specs.Prelude.{ℕ, Bool, true, false, ◌||◌, ◌==◌, if◌then◌else◌, List, [], ◌∷◌}
+use Rattle.std.specs.Prelude.{ℕ, Bool, false, ◌||◌, ◌==◌, if◌then◌else◌, List, [], ◌∷◌}
 
 -- a blank of JSON: a space, a tab, a line feed or a carriage return
 abbrev pub is_blank : ℕ → Bool

@@ -1,6 +1,5 @@
 -- What running a schedule answers.
 use Rattle.std.specs.Prelude.{◌≡◌, Result, Ok, Err}
-use Rattle.line_text.specs.declared.reason.BadLine.{BadLine}
 use Rattle.place_model.specs.Names.{Bytes}
 use Rattle.place_model.specs.Shown.{history_of}
 use Rattle.place_model.specs.declared.history.History as code
