@@ -14,6 +14,7 @@ pub mod TakeBlocks
 pub mod ReturnBlocks
 pub mod PassBlocks
 pub mod Blocks
+pub mod Takable
 pub mod Histories
 pub mod Seen
 pub mod Counts
