@@ -31,3 +31,8 @@ pub mod Shown
 pub mod Accepted
 pub mod Gathered
 pub mod GatheredLaws
+pub mod Tallies
+pub mod Stored
+pub mod Kept
+pub mod Indexed
+pub mod Placed

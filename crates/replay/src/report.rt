@@ -3,7 +3,8 @@ ghost use Rattle.std.specs.Prelude.{◌≡◌, IfOk};
 ghost use Rattle.place_model.specs.Histories.{History};
 ghost use Rattle.place_model.specs.Setting.{Setting};
 ghost use Rattle.place_model.specs.declared.heard.Heard.{Heard as Noted};
-ghost use Rattle.replay.specs.Legends.{all_placed, legend_of};
+ghost use Rattle.place_model.specs.Placed.{all_placed};
+ghost use Rattle.replay.specs.Legends.{legend_of};
 ghost use Rattle.place_model.specs.Accepted.{places};
 ghost use Rattle.schedule_model.specs.Reports.{report_text};
 
