@@ -1,6 +1,5 @@
 pub mod Bindings
 pub mod Kinds
 pub mod Openings
-pub mod PlacedTags
 pub mod Runs
 pub mod Tasks

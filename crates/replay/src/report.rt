@@ -3,7 +3,7 @@ ghost use Rattle.std.specs.Prelude.{◌≡◌, IfOk};
 ghost use Rattle.place_model.specs.Histories.{History};
 ghost use Rattle.place_model.specs.Setting.{Setting};
 ghost use Rattle.place_model.specs.declared.heard.Heard.{Heard as Noted};
-ghost use Rattle.replay.specs.PlacedTags.{all_placed};
+ghost use Rattle.place_model.specs.Placed.{all_placed};
 ghost use Rattle.schedule_model.specs.Legends.{legend_of};
 ghost use Rattle.place_model.specs.Accepted.{places};
 ghost use Rattle.schedule_model.specs.Reports.{report_text};
