@@ -12,7 +12,7 @@ use Rattle.store_tables.proofs.Maps.{bytes_total, bytes_anti}
 use Rattle.mini_store.specs.Words.{Bytes}
 use Rattle.mini_store.specs.Keys.{Keys, is_due, is_over, due_keys, live_at}
 use Rattle.mini_store.specs.Expiries.{end_by, end_at, EndsFrom, AllEndFrom, IsCalm}
-use Rattle.mini_store.specs.Connections.{Conns, touch, touch_due, touched}
+use Rattle.mini_store.specs.Connections.{Conns, touch, touched}
 use Rattle.mini_store.specs.Store.{State, settled}
 use Rattle.mini_store.specs.declared.held.Held.{Held}
 use Rattle.mini_store.specs.declared.connection.Conn.{Conn}

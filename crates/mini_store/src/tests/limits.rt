@@ -28,7 +28,10 @@ fn takes(
 ) -> Result<(), Fail> {
     let words = with_long_word(alloc, line, count)?;
     let found = told(store, alloc, 0, 1, &words)?;
-    assert!(rt; found.as_slice() == want.as_bytes(), "{line} and {count} bytes: not {want}");
+    assert!(rt;
+        found.as_slice() == want.as_bytes(),
+        "{line} and {count} bytes: not {want}"
+    );
     Ok(())
 }
 
@@ -75,7 +78,14 @@ fn holds_1024_members(rt: HostRuntime) -> Result<(), Fail> {
         repeats(&rt, rt.alloc(), &mut store, 1, line.as_str(), ":1")?;
     }
     repeats(&rt, rt.alloc(), &mut store, 1, "SADD s m0 m1", ":0")?;
-    repeats(&rt, rt.alloc(), &mut store, 1, "SADD s m0 more", "-ERR full")?;
+    repeats(
+        &rt,
+        rt.alloc(),
+        &mut store,
+        1,
+        "SADD s m0 more",
+        "-ERR full",
+    )?;
     repeats(&rt, rt.alloc(), &mut store, 1, "SREM s more", ":0")?;
     repeats(&rt, rt.alloc(), &mut store, 1, "SREM s m0", ":1")?;
     repeats(&rt, rt.alloc(), &mut store, 1, "SADD s more", ":1")
