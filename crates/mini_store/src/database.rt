@@ -95,6 +95,9 @@ impl Database {
     pub fn settle(&mut self, at: u64)
         ensures { self.new ≡ settled self.old at }
     {
+        if self.keys.is_calm(at) {
+            return;
+        }
         self.conns.mark_due(&self.keys, at);
         self.keys.drop_due(at);
     }

@@ -1,4 +1,5 @@
 //! The keys with what they hold.
+ghost use Rattle.mini_store.specs.Expiries.{AllEndFrom, IsCalm, end_by};
 ghost use Rattle.mini_store.specs.Keys.{is_due, is_over, live_at, put};
 ghost use Rattle.mini_store.specs.Store.{is_live};
 ghost use Rattle.resp_wire.specs.Order.{bytes_cmp};
@@ -6,7 +7,7 @@ ghost use Rattle.std.specs.BTreeMap.{IsOrdered};
 ghost use Rattle.std.specs.FinMap as map;
 ghost use Rattle.std.specs.List.{list_any};
 ghost use Rattle.std.specs.Option.{option_copied};
-ghost use Rattle.std.specs.Prelude.{◌≡◌, IfErr, IfOk, None, OnErr, OnOk, Some, filter, if◌then◌else◌, is_some, nat_eq, not};
+ghost use Rattle.std.specs.Prelude.{◌≡◌, ◌≤◌, IfErr, IfOk, IsTrue, None, OnErr, OnOk, Some, filter, if◌then◌else◌, is_some, nat_eq, not};
 
 use crate::{Held, Stored};
 use resp_wire::Bytes;
@@ -18,12 +19,16 @@ use std::mem;
 use store_tables::Deque;
 
 /// The keys in byte order with what they hold, seen by contracts as a finite map.
+///
+/// No key expires before the soonest moment, so that nothing is looked through until then.
 #[derive(Debug, Drop)]
 pub struct Keyspace {
     kept: BTreeMap<Bytes, Held>,
+    soonest: u64,
 }
 
 impl Model for Keyspace {
+    ghost use Rattle.mini_store.specs.Expiries.{EndsFrom};
     ghost use Rattle.mini_store.specs.Keys.{Keys};
     ghost use Rattle.mini_store.specs.Store.{keys_code};
     ghost use Rattle.std.specs.FinMap as map;
@@ -33,6 +38,8 @@ impl Model for Keyspace {
     ghost coded = { keys_code };
 
     ghost view = { λ k. map.from_entries k.kept.entries };
+
+    ghost invariant = { λ k. EndsFrom k.soonest (map.from_entries k.kept.entries) };
 }
 
 impl Keyspace {
@@ -42,6 +49,7 @@ impl Keyspace {
     {
         Keyspace {
             kept: BTreeMap::new(alloc),
+            soonest: u64::MAX,
         }
     }
 
@@ -74,6 +82,7 @@ impl Keyspace {
         ensures back { IfErr result (λ same. same ≡ held) }
         ensures err { OnErr result (self.new ≡ self.old) }
     {
+        self.soonest = sooner(self.soonest, held.expiry);
         let Some(place) = self.kept.get_mut(key) else {
             return Err(held);
         };
@@ -84,6 +93,7 @@ impl Keyspace {
     pub(crate) fn insert(&mut self, key: Bytes, held: Held) -> Result<(), AllocError>
         ensures { OnOk result (self.new ≡ map.insert self.old key held) }
     {
+        self.soonest = sooner(self.soonest, held.expiry);
         self.kept.insert(key, held)?;
         Ok(())
     }
@@ -155,11 +165,19 @@ impl Keyspace {
         keys.iter().any(|key| self.is_live(key, at))
     }
 
+    /// Whether it is known without a look at the keys that none is due; false may be answered at any time.
+    pub fn is_calm(&self, at: u64) -> bool
+        ensures { IsTrue result → IsCalm at self.now }
+    {
+        at < self.soonest
+    }
+
     /// Drops each key whose expiry is reached.
     pub(crate) fn drop_due(&mut self, at: u64)
         ensures { self.new ≡ live_at at self.old }
     {
         drop_all_due(&mut self.kept, at);
+        self.soonest = soonest_in(&self.kept);
     }
 }
 
@@ -170,6 +188,28 @@ fn is_over(at: u64, expiry: Option<u64>) -> bool
         Some(moment) => moment <= at,
         None => false,
     }
+}
+
+// The sooner one of a moment and an expiry.
+fn sooner(soonest: u64, expiry: Option<u64>) -> u64
+    ensures sooner { result ≤ soonest }
+    ensures ends { result ≤ end_by result expiry }
+{
+    match expiry {
+        Some(moment) => soonest.min(moment),
+        None => soonest,
+    }
+}
+
+// A moment before which no entry expires.
+fn soonest_in(kept: &BTreeMap<Bytes, Held>) -> u64
+    ensures { AllEndFrom result kept.now.entries }
+{
+    let mut soonest = u64::MAX;
+    for (_, held) in kept.iter() {
+        soonest = sooner(soonest, held.expiry);
+    }
+    soonest
 }
 
 fn drop_all_due(kept: &mut BTreeMap<Bytes, Held>, at: u64)

@@ -21,6 +21,8 @@ mod run;
 mod sets;
 mod sorted_sets;
 mod store;
+#[cfg(test)]
+mod tests;
 mod texts;
 mod words;
 
@@ -31,4 +33,4 @@ pub use keyspace::Keyspace;
 pub use laws::unaltered_keys;
 pub use reply::Reply;
 pub use store::Store;
-pub use words::command_of;
+pub use words::{command_of, is_within_limits};
