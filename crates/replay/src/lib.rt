@@ -4,6 +4,7 @@
 mod asked;
 mod built;
 mod entry_text;
+mod history_report;
 mod line;
 mod note_text;
 mod place_text;
@@ -12,6 +13,7 @@ mod run;
 mod word;
 
 pub use built::waits_for_publishers;
+pub use history_report::report;
 pub use line::line_of;
 pub use report::report_of;
 pub use run::{RunFault, run_schedule};
