@@ -1,13 +1,32 @@
 -- Why a run ends as it does.
-use Rattle.std.proofs.Common.{List, None, inl, inr, ℕ, ◌≡◌}
+use Rattle.std.proofs.Common.{List, None, ap, inl, inr, subst, sym, ℕ, ◌≡◌, ◌∙◌}
 use Rattle.links.specs.Ends.{IsPast, IsWhole}
 use Rattle.links.specs.Views.{SourceView}
-use Rattle.schedule_model.specs.Programs.{program_craft}
+use Rattle.place_model.specs.EnvelopeTexts.{plain_setting}
+use Rattle.place_model.specs.Histories.{History}
+use Rattle.place_model.specs.Starts.{IsSound}
+use Rattle.place_model.specs.declared.heard.Heard.{Heard}
+use Rattle.replay.specs.Runs.{IsEachPlaced}
+use Rattle.schedule_model.specs.Desk.{Desk}
+use Rattle.schedule_model.specs.Programs.{program_craft, program_legend}
+use Rattle.schedule_model.specs.Reports.{report_text}
+use Rattle.schedule_model.specs.Schedules.{Whole, history_of}
 use Rattle.celery_node.proofs.Fronts.{schedule_run-past}
 use Rattle.celery_node.specs.Endings.{EndsAs, Shown}
+use Rattle.celery_node.specs.Replays.{IsReport, replay_run}
 use Rattle.celery_node.specs.Words.{bad_place}
 use Rattle.celery_node.specs.declared.ending.End.TheVariants.{BadLine, BadWord, Full, Memory, ReadFault, Reported}
 use Rattle.celery_node.specs.declared.ending.End.{End}
+
+-- the report of the history that a schedule determines
+pub report_of : (schedule text : List ℕ) (h : History Heard) → ((d : Desk) × (replay_run schedule ≡ Whole d) × (history_of d ≡ h)) → IsSound plain_setting h → IsEachPlaced h → text ≡ report_text program_legend h → IsReport schedule text
+report_of schedule text h (d, run, same) sound placed written = record {
+  desk = d;
+  determined = run;
+  written = written ∙ ap (report_text program_legend) (sym same);
+  sound = subst (IsSound plain_setting) (sym same) sound;
+  placed = subst IsEachPlaced (sym same) placed;
+}
 
 -- an input that was read to its end
 pub shown_whole : (words : List (List ℕ)) (before now : SourceView) (bytes : List ℕ) (end : End) → bad_place words ≡ None → IsWhole 67108864 before now bytes → EndsAs bytes end → Shown words before now end
