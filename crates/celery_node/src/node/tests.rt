@@ -127,14 +127,19 @@ fn a_sink_that_fails_took_a_front(rt: HostRuntime) -> Result<(), Fail> {
 }
 
 #[test]
-fn a_full_history_has_its_numbers(rt: HostRuntime) -> Result<(), Fail> {
+fn an_end_has_its_text_and_status(rt: HostRuntime) -> Result<(), Fail> {
     let alloc = rt.alloc();
-    let mut out = MemorySink::new(alloc, 100, 100, Vec::new(alloc))?;
     let full = End::Full {
         entries: 1_000_000,
         bytes: 83_000_000,
     };
-    assert_eq!(rt; finish(alloc, &mut out, full), ended(9, 0));
-    assert_eq!(rt; out.taken(), b"history full 1000000 83000000\n".as_slice());
+    for (end, status, text) in [
+        (full, 9, b"history full 1000000 83000000\n".as_slice()),
+        (End::Memory, 11, b"out of memory\n"),
+    ] {
+        let mut out = MemorySink::new(alloc, 100, 100, Vec::new(alloc))?;
+        assert_eq!(rt; finish(alloc, &mut out, end), ended(status, 0));
+        assert_eq!(rt; out.taken(), text);
+    }
     Ok(())
 }
