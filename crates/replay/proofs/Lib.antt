@@ -2,3 +2,4 @@ pub mod Joins
 pub mod Sizes
 pub mod Reported
 pub mod Written
+pub mod Drafted

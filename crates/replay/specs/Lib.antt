@@ -2,3 +2,4 @@ pub mod Bindings
 pub mod Kinds
 pub mod Legends
 pub mod Runs
+pub mod Tasks

@@ -10,6 +10,7 @@ mod note_text;
 mod place_text;
 mod report;
 mod run;
+mod task;
 mod word;
 
 pub use built::waits_for_publishers;

@@ -2,6 +2,7 @@ pub mod Built
 pub mod Costs
 pub mod Desk
 pub mod Drafts
+pub mod EachPlaced
 pub mod Faults
 pub mod Lines
 pub mod Programs
