@@ -1,12 +1,10 @@
 -- Why a run ends as it does.
-use Rattle.std.proofs.Common.{List, None, ap, inl, inr, subst, sym, ℕ, ◌≡◌, ◌∙◌}
+use Rattle.std.proofs.Common.{List, None, ap, inl, inr, sym, ℕ, ◌≡◌, ◌∙◌}
 use Rattle.links.specs.Ends.{IsPast, IsWhole}
 use Rattle.links.specs.Views.{SourceView}
-use Rattle.place_model.specs.EnvelopeTexts.{plain_setting}
+use Rattle.message_schedules.proofs.Program.{whole_placed, whole_sound}
 use Rattle.place_model.specs.Histories.{History}
-use Rattle.place_model.specs.Starts.{IsSound}
 use Rattle.place_model.specs.declared.heard.Heard.{Heard}
-use Rattle.replay.specs.Runs.{IsEachPlaced}
 use Rattle.schedule_model.specs.Desk.{Desk}
 use Rattle.schedule_model.specs.Programs.{program_craft, program_legend}
 use Rattle.schedule_model.specs.Reports.{report_text}
@@ -19,13 +17,13 @@ use Rattle.celery_node.specs.declared.ending.End.TheVariants.{BadLine, BadWord, 
 use Rattle.celery_node.specs.declared.ending.End.{End}
 
 -- the report of the history that a schedule determines
-pub report_of : (schedule text : List ℕ) (h : History Heard) → ((d : Desk) × (replay_run schedule ≡ Whole d) × (history_of d ≡ h)) → IsSound plain_setting h → IsEachPlaced h → text ≡ report_text program_legend h → IsReport schedule text
-report_of schedule text h (d, run, same) sound placed written = record {
+pub report_of : (schedule text : List ℕ) (h : History Heard) → ((d : Desk) × (replay_run schedule ≡ Whole d) × (history_of d ≡ h)) → text ≡ report_text program_legend h → IsReport schedule text
+report_of schedule text h (d, run, same) written = record {
   desk = d;
   determined = run;
   written = written ∙ ap (report_text program_legend) (sym same);
-  sound = subst (IsSound plain_setting) (sym same) sound;
-  placed = subst IsEachPlaced (sym same) placed;
+  sound = whole_sound schedule d run;
+  placed = whole_placed schedule d run;
 }
 
 -- an input that was read to its end

@@ -1,12 +1,12 @@
 -- What `replay` makes of an input.
-use Rattle.std.specs.Prelude.{List, ℕ, ◌+◌, ◌∷◌, [], ◌≡◌, ◌⊎◌}
+use Rattle.std.specs.Prelude.{List, [], ℕ, ◌∷◌, ◌≡◌, ◌⊎◌}
 use Rattle.line_text.specs.declared.reason.BadLine.{BadLine}
 use Rattle.links.specs.Ends.{IsPast, IsWhole}
 use Rattle.links.specs.Views.{SourceView}
 use Rattle.place_model.specs.EnvelopeTexts.{plain_setting}
 use Rattle.place_model.specs.Starts.{IsSound}
-use Rattle.replay.specs.Runs.{IsEachPlaced}
 use Rattle.schedule_model.specs.Desk.{Desk}
+use Rattle.schedule_model.specs.EachPlaced.{IsEachPlaced}
 use Rattle.schedule_model.specs.Programs.{program_craft, program_legend}
 use Rattle.schedule_model.specs.Reports.{report_text}
 use Rattle.schedule_model.specs.Schedules.{Bad_line, Determined, Whole, history_of, schedule_run}
