@@ -1,5 +1,5 @@
 -- Inputs past their limit: they have a bad line, or a full history, and what was read of them tells which.
-use Rattle.std.proofs.Common.{Bool, List, [], ap, arith, length, length-append, nat_lt, refl, sym, take, true, ℕ, ◌+◌, ◌++◌, ◌≡◌, ◌∙◌, ◌∷◌}
+use Rattle.std.proofs.Common.{List, [], ap, arith, length, length-append, nat_lt, sym, take, true, ℕ, ◌+◌, ◌++◌, ◌≡◌, ◌∙◌, ◌∷◌}
 use Rattle.std.proofs.lemmas.Grind.{common_steps}
 use Rattle.std.proofs.lemmas.List.{take-append-le}
 use Rattle.line_text.specs.Lines.{lines_of, text_fault}
