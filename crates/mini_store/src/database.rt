@@ -84,6 +84,13 @@ impl Database {
         }
     }
 
+    /// The keys with what they hold.
+    pub fn keys(&self) -> &Keyspace
+        ensures { result.now ≡ self.now.keys }
+    {
+        &self.keys
+    }
+
     /// Drops what is due, and marks who watches it.
     pub fn settle(&mut self, at: u64)
         ensures { self.new ≡ settled self.old at }

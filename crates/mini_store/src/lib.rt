@@ -29,6 +29,7 @@ mod words;
 pub use command::{Command, Fault};
 pub use connection::{Conn, Queue};
 pub use held::{Held, Stored};
+pub use keyspace::Keyspace;
 pub use laws::unaltered_keys;
 pub use reply::Reply;
 pub use store::Store;
