@@ -84,7 +84,12 @@ fn step_of(line: &str) -> Option<(u32, u32, &str, &str)> {
     let (at, rest) = line.split_once(' ')?;
     let (conn, rest) = rest.split_once(' ')?;
     let (words, want) = rest.split_once(" = ")?;
-    Some((at.parse::<u32>().ok()?, conn.parse::<u32>().ok()?, words, want))
+    Some((
+        at.parse::<u32>().ok()?,
+        conn.parse::<u32>().ok()?,
+        words,
+        want,
+    ))
 }
 
 /// Runs the lines in turn, each `MOMENT CONNECTION WORDS = REPLY`, and finds each reply; others are remarks.
