@@ -29,3 +29,6 @@ pub use keys::{pop_keys, queue_key, split_key, step_of};
 pub use place::Place;
 pub use placing::{place_of, places};
 pub use queue_name::{NameFault, QueueName, is_name, is_reserved};
+
+#[cfg(test)]
+mod tests;
