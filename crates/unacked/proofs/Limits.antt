@@ -1,6 +1,7 @@
 -- The words of the commands are within the limits of a command.
-use Rattle.std.proofs.Common.{◌≡◌, ◌⊎◌, inl, inr, ℕ, zero, suc, ◌+◌, ◌*◌, ◌<◌, ◌≤◌, ◌^◌, List, [], ◌∷◌, ◌++◌, length, Bool, true, false, refl, ap, ◌∙◌, codes, decimal, arith, length-append, ◌&&◌, if◌then◌else◌}
-use Rattle.std.specs.Prelude.{All, nat_lt, nat_le, not}
+use Rattle.std.proofs.Common.{◌≡◌, ◌⊎◌, inl, inr, ℕ, zero, suc, ◌+◌, ◌*◌, ◌<◌, ◌≤◌, ◌^◌, List, [], ◌∷◌, ◌++◌, length, Bool, true, false, refl, sym, subst, ap, ◌∙◌, codes, decimal, arith, length-append, ◌&&◌, if◌then◌else◌, Result, Ok, Err}
+use Rattle.std.specs.declared.alloc.AllocError.{AllocError}
+use Rattle.std.specs.Prelude.{All, IfOk, nat_lt, nat_le, not}
 use Rattle.std.proofs.lemmas.Bool.Decides.{nat_tests}
 use Rattle.std.proofs.lemmas.List.Elements.{All-nil, All-cons, All-append}
 use Rattle.std.proofs.lemmas.Fmt.{length-decimal-le}
@@ -14,8 +15,9 @@ use Rattle.mini_store.specs.Words.{IsWithinLimits, Words}
 use Rattle.place_model.specs.Layouts.{Layout, plain}
 use Rattle.place_model.specs.Names.{Bytes, all_free, has_length, is_name, is_reserved}
 use Rattle.place_model.specs.QueueKeys.{key, keys_at, keys_by, pop_keys, queue_key, step_mark}
-use Rattle.place_model.proofs.Lists.{length-keys_by}
+use Rattle.place_model.proofs.Lists.{length-pop_keys}
 use Rattle.unacked.specs.Queues.{are_names}
+use Rattle.unacked.proofs.Names.{and_is}
 
 -- the word is short enough
 abbrev pub IsShort : Bytes → Type 0
@@ -67,10 +69,6 @@ length-mark (suc s) = omega arith
 key_short : (s : ℕ) (q : Bytes) → is_name q ≡ true → IsShort (queue_key plain q s)
 key_short s q e = let a = length-append q (step_mark s) in let b = length-name q e in let c = length-mark s in omega (arith, a, b, c)
 
-and_is : (a b : Bool) → (a && b) ≡ true → (a ≡ true) × (b ≡ true)
-and_is true b e = (refl, e)
-and_is false b e = cc
-
 at_short : (s : ℕ) (qs : List Bytes) → are_names qs ≡ true → All IsShort (keys_at plain s qs)
 at_short s [] e = All-nil IsShort
 at_short s (q ∷ qs) e = let h = and_is (is_name q) (are_names qs) e in All-cons IsShort (queue_key plain q s) (keys_at plain s qs) (key_short s q h.0) (at_short s qs h.1)
@@ -82,6 +80,13 @@ by_short (s ∷ ss) qs e = All-append IsShort (keys_at plain s qs) (keys_by plai
 -- BRPOP of the keys of at most 1,023 lawful names
 pub pop_within : (qs : List Bytes) → are_names qs ≡ true → length qs ≤ 1023 → IsWithinLimits (codes "BRPOP" ∷ pop_keys plain qs ++ codes "1" ∷ [])
 pop_within qs e few =
-    let n : length (pop_keys plain qs) ≡ 4 * length qs = length-keys_by plain plain.steps qs in
+    let n : length (pop_keys plain qs) ≡ 4 * length qs = length-pop_keys plain qs in
     let m = length-append (pop_keys plain qs) (codes "1" ∷ []) in
     (omega (arith, n, m, few), All-cons IsShort (codes "BRPOP") (pop_keys plain qs ++ codes "1" ∷ []) (omega arith) (All-append IsShort (pop_keys plain qs) (codes "1" ∷ []) (by_short plain.steps qs e) (All-cons IsShort (codes "1") [] (omega arith) (All-nil IsShort))))
+
+-- ---- what a call that makes words answers
+
+-- words of four, the last two of which are short
+pub four_made : (r : Result Words AllocError) (a b c d : Bytes) → IfOk r (λ w. w ≡ a ∷ b ∷ c ∷ d ∷ []) → IsShort a → IsShort b → IsShort c → IsShort d → IfOk r IsWithinLimits
+four_made (Ok w) a b c d e x y z u = subst IsWithinLimits (sym e) (four_within a b c d x y z u)
+four_made (Err f) a b c d e x y z u = tt
