@@ -18,3 +18,4 @@ pub mod Messages
 pub mod Layers
 pub mod Seats
 pub mod Numbers
+pub mod CommandLimits

@@ -1,6 +1,8 @@
 //! Cores that send messages on their way, command by command.
 #![tactic(auto)]
 
+mod laws;
 mod publish;
 
+pub use laws::publications_are_blocks;
 pub use publish::PublishCore;
