@@ -225,15 +225,33 @@ fn other_reply(alloc: Global) -> Result<Reply, AllocError> {
     })
 }
 
+/// Whether a pop refuses the reply to its next command, and says nothing more.
+fn refuses(alloc: Global, mut core: PopCore, reply: &Reply) -> Result<bool, AllocError> {
+    let Some(_) = core.next(alloc, 100)? else {
+        return Ok(false);
+    };
+    let Err(CoreFault::Refused(_)) = core.took(alloc, 100, reply) else {
+        return Ok(false);
+    };
+    Ok(core.is_off() && core.next(alloc, 100)?.is_none() && core.end().is_none())
+}
+
+/// The same of an acknowledgement.
+fn refuses_to_end(alloc: Global, mut core: EndCore, reply: &Reply) -> Result<bool, AllocError> {
+    let Some(_) = core.next(alloc, 100)? else {
+        return Ok(false);
+    };
+    let Err(CoreFault::Refused(_)) = core.took(alloc, 100, reply) else {
+        return Ok(false);
+    };
+    Ok(core.is_off() && core.next(alloc, 100)?.is_none() && core.end().is_none())
+}
+
 #[test]
 fn other_answers_put_cores_off(rt: HostRuntime) -> Result<(), Fail> {
     let alloc = rt.alloc();
     let reply = other_reply(alloc)?;
-    let mut core = pop(alloc)?;
-    assert!(rt; matches!(core.took(alloc, 100, &reply), Err(CoreFault::Refused(_))));
-    assert!(rt; core.is_off() && core.next(alloc, 100)?.is_none() && core.end().is_none());
-    let mut core = EndCore::new(Tag::of(7, 1));
-    assert!(rt; matches!(core.took(alloc, 100, &reply), Err(CoreFault::Refused(_))));
-    assert!(rt; core.is_off() && core.next(alloc, 100)?.is_none() && core.end().is_none());
+    assert!(rt; refuses(alloc, pop(alloc)?, &reply)?);
+    assert!(rt; refuses_to_end(alloc, EndCore::new(Tag::of(7, 1)), &reply)?);
     Ok(())
 }
