@@ -83,7 +83,15 @@ fn a_message_is_published(rt: HostRuntime) -> Result<(), Fail> {
     assert!(rt; core.is_busy());
     let lpush = ["LPUSH", "celery\x06\x169", sent()];
     let reply = say(alloc, &mut store, &mut core, &lpush)?;
-    assert!(rt; matches!(reply, Some(Reply { answer: Value::Integer(1), .. })));
+    assert!(rt;
+        matches!(
+            reply,
+            Some(Reply {
+                answer: Value::Integer(1),
+                ..
+            })
+        )
+    );
     assert!(rt; !core.is_busy() && !core.is_off());
     assert!(rt; is_sent(core.end()));
     assert!(rt; core.end().is_none());
