@@ -23,3 +23,4 @@ pub mod StoreLeft
 pub mod Lookups
 pub mod Acceptance
 pub mod Takings
+pub mod CommandLimits

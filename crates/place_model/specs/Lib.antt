@@ -36,3 +36,4 @@ pub mod Stored
 pub mod Kept
 pub mod Indexed
 pub mod Placed
+pub mod Cores

@@ -1,0 +1,63 @@
+-- The words of the commands are within the limits of a command.
+use Rattle.std.proofs.Common.{◌≡◌, ◌⊎◌, inl, inr, ℕ, zero, suc, ◌+◌, ◌*◌, ◌<◌, ◌≤◌, ◌^◌, List, [], ◌∷◌, ◌++◌, length, Bool, true, false, refl, sym, subst, ap, ◌∙◌, codes, decimal, arith, length-append, ◌&&◌, if◌then◌else◌, Result, Ok, Err}
+use Rattle.std.specs.declared.alloc.AllocError.{AllocError}
+use Rattle.std.specs.Prelude.{All, IfOk, nat_lt, nat_le, not}
+use Rattle.std.proofs.lemmas.Bool.Decides.{nat_tests}
+use Rattle.std.proofs.lemmas.List.Elements.{All-nil, All-cons, All-append}
+use Rattle.std.proofs.lemmas.Fmt.{length-decimal-le}
+use Rattle.uuid.proofs.TextLemmas.{by_index_length}
+use Rattle.envelope.specs.Entries.{Entry, entry_at, max_entry}
+use Rattle.envelope.specs.Tags.{tag_text}
+use Rattle.envelope.specs.declared.fault.EnvelopeFault.TheVariants.{TooLong}
+use Rattle.envelope.specs.Reading.{wanted}
+use Rattle.envelope.proofs.Said.{bind_ok, wanted_is}
+use Rattle.mini_store.specs.Words.{IsWithinLimits, Words}
+use Rattle.place_model.specs.Layouts.{Layout, plain}
+use Rattle.place_model.specs.Names.{Bytes, all_free, has_length, is_name, is_reserved}
+use Rattle.place_model.specs.QueueKeys.{key, keys_at, keys_by, pop_keys, queue_key, step_mark}
+use Rattle.place_model.proofs.CommandLimits.{IsShort, four_within, key_short}
+use Rattle.place_model.proofs.Lists.{length-pop_keys}
+use Rattle.unacked.specs.Queues.{are_names}
+use Rattle.unacked.proofs.Names.{and_is}
+
+-- a tag's text has 36 bytes
+length-tag_text : (n : ℕ) → length (tag_text n) ≡ 36
+length-tag_text n = by_index_length 36 _
+
+pub tag_short : (n : ℕ) → IsShort (tag_text n)
+tag_short n = let h = length-tag_text n in omega (arith, h)
+
+pub decimal_short : (n : ℕ) → n < 2 ^ 64 → IsShort (decimal n)
+decimal_short n h = let x : length (decimal n) ≤ 20 = length-decimal-le 20 n (omega arith) (omega (arith, h)) h in omega (arith, x)
+
+-- what is read as an entry is short enough
+pub entry_short : (u : Bytes) (e : Entry) → entry_at u ≡ Ok e → IsShort u
+unfolding entry_at
+entry_short u e is =
+    let a = bind_ok (wanted TooLong (nat_le (length u) max_entry)) _ e is in
+    let b : nat_le (length u) 1048576 ≡ true = wanted_is TooLong _ a.0 a.1 in
+    grind (arith, nat_tests)
+
+-- ---- the keys of a pop
+
+at_short : (s : ℕ) (qs : List Bytes) → are_names qs ≡ true → All IsShort (keys_at plain s qs)
+at_short s [] e = All-nil IsShort
+at_short s (q ∷ qs) e = let h = and_is (is_name q) (are_names qs) e in All-cons IsShort (queue_key plain q s) (keys_at plain s qs) (key_short s q h.0) (at_short s qs h.1)
+
+by_short : (ss : List ℕ) (qs : List Bytes) → are_names qs ≡ true → All IsShort (keys_by plain ss qs)
+by_short [] qs e = All-nil IsShort
+by_short (s ∷ ss) qs e = All-append IsShort (keys_at plain s qs) (keys_by plain ss qs) (at_short s qs e) (by_short ss qs e)
+
+-- BRPOP of the keys of at most 1,023 lawful names
+pub pop_within : (qs : List Bytes) → are_names qs ≡ true → length qs ≤ 1023 → IsWithinLimits (codes "BRPOP" ∷ pop_keys plain qs ++ codes "1" ∷ [])
+pop_within qs e few =
+    let n : length (pop_keys plain qs) ≡ 4 * length qs = length-pop_keys plain qs in
+    let m = length-append (pop_keys plain qs) (codes "1" ∷ []) in
+    (omega (arith, n, m, few), All-cons IsShort (codes "BRPOP") (pop_keys plain qs ++ codes "1" ∷ []) (omega arith) (All-append IsShort (pop_keys plain qs) (codes "1" ∷ []) (by_short plain.steps qs e) (All-cons IsShort (codes "1") [] (omega arith) (All-nil IsShort))))
+
+-- ---- what a call that makes words answers
+
+-- words of four, the last two of which are short
+pub four_made : (r : Result Words AllocError) (a b c d : Bytes) → IfOk r (λ w. w ≡ a ∷ b ∷ c ∷ d ∷ []) → IsShort a → IsShort b → IsShort c → IsShort d → IfOk r IsWithinLimits
+four_made (Ok w) a b c d e x y z u = subst IsWithinLimits (sym e) (four_within a b c d x y z u)
+four_made (Err f) a b c d e x y z u = tt
