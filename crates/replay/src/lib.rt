@@ -18,3 +18,6 @@ pub use legend::Celery;
 pub use line::line_of;
 pub use report::report_of;
 pub use run::{RunFault, run_schedule};
+
+#[cfg(test)]
+mod tests;
