@@ -95,10 +95,11 @@ fn envelope_shape(envelope: &Envelope) -> Shape
     ensures { result ≡ envelope_shape (data_of envelope.now) }
 {
     let tag = envelope.tag();
+    let marked = envelope.marked();
     Shape::Envelope {
         seed: tag.seed(),
         counter: tag.counter(),
-        marked: envelope.marked(),
+        marked,
     }
 }
 

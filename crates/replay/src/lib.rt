@@ -20,3 +20,6 @@ pub use legend::Celery;
 pub use line::line_of;
 pub use report_lines::report_of;
 pub use run::{RunFault, run_schedule};
+
+#[cfg(test)]
+mod tests;
