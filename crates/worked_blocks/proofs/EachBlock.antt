@@ -1,23 +1,26 @@
 -- Each kind of block, with each of its ends, has a whole list, and a client may say all of them in a row.
-use Rattle.std.proofs.Common.{◌≡◌, ◌×◌, ℕ, List, [], ◌∷◌, ◌++◌, Option, Some, None, codes, pos, true, false, refl, lit<, lit≤, inl, ap}
+use Rattle.std.proofs.Common.{◌≡◌, ℕ, [], ◌∷◌, ◌++◌, Option, Some, None, codes, pos, true, false, refl, lit<, lit≤, inl}
 use Rattle.std.proofs.lemmas.List.{append-nil}
-use Rattle.resp_wire.specs.declared.value.Value.TheVariants.{Integer, NullArray}
+use Rattle.std.proofs.lemmas.Str.{is_utf8-from_IsUtf8}
+use Rattle.std.specs.Str.{is_utf8}
+use Rattle.resp_wire.specs.Layer.{layer}
+use Rattle.resp_wire.specs.declared.value.Value.TheVariants.{Integer}
 use Rattle.mini_store.specs.Replies.{pong}
 use Rattle.place_model.specs.Answers.{is_error}
 use Rattle.place_model.specs.Bindings.{binding_of}
 use Rattle.place_model.specs.Blocks.{AreBlocks, Drawing, IsBlock, IsMannered, Other, Passing, Pings}
 use Rattle.place_model.specs.Blocks as block
-use Rattle.place_model.specs.Calls.{Call, concat}
+use Rattle.place_model.specs.Calls.{concat}
 use Rattle.place_model.specs.Names.{Bytes, same}
 use Rattle.place_model.specs.PassBlocks.{All_returned, Done, Held, IsReturns, Is_held, Own, Ran, Returned}
 use Rattle.place_model.specs.Patterns.{matches}
-use Rattle.place_model.specs.ReturnBlocks.{Again, Carries, Gone, IsTries, IsTry, Missing, Moved, Nowhere, ReturnEnd, Stayed, Try, Useless, Whole}
+use Rattle.place_model.specs.ReturnBlocks.{Again, Gone, IsTries, IsTry, Missing, Moved, Nowhere, Stayed, Try, Useless, Whole}
 use Rattle.place_model.specs.RouteBlocks.{Asked, Named, Plain, Told}
 use Rattle.place_model.specs.TakeBlocks.{Acknowledged, Empty, IsPop, Popped, Unreadable}
 use Rattle.place_model.specs.declared.block.Side.{Side}
 use Rattle.place_model.specs.declared.block.Side.TheVariants.{Left, Right}
 use Rattle.worked_blocks.specs.Lists.{all_blocks, bindings, declared, ended, later_keys, marked_envelope, named_envelope, passed, passed_held, pinged, plain_envelope, popped, popped_junk, popped_nothing, published, published_to_none, published_to_two, q, released, returned, returned_gone, returned_junk, returned_late, returned_nowhere, second_tag, tag}
-use Rattle.worked_blocks.specs.Toy.{toy_carried, toy_setting}
+use Rattle.worked_blocks.specs.Toy.{toy_setting}
 
 -- ---- declaring and publishing
 
@@ -37,8 +40,12 @@ publishes_to_two : (p : ℕ) → IsBlock toy_setting 7 1 p Drawing published_to_
 unfolding same matches binding_of
 publishes_to_two p = block.Publish named_envelope _ (Named 100 (codes "ex") bindings ((100, codes "a", pos 1) ∷ (100, q, pos 1) ∷ []) refl refl refl)
 
+ex_is_text : is_utf8 (codes "ex") ≡ true
+unfolding lib.Utf8.encode
+ex_is_text = is_utf8-from_IsUtf8 (codes "ex") (101 ∷ 120 ∷ [], (refl, refl))
+
 publishes_to_none : (p : ℕ) → IsBlock toy_setting 7 2 p Drawing published_to_none
-publishes_to_none p = block.Publish_short _ (Asked 100 (codes "ex") [] refl refl)
+publishes_to_none p = block.Publish_short _ (Asked 100 (codes "ex") [] refl ex_is_text)
 
 -- ---- popping and acknowledging
 
@@ -120,7 +127,8 @@ passes n = block.Pass 10 (Done (Moved ∷ [])) _ (lit< tt) (Ran 100 100 (tag ∷
     (Own 100 100 100 100 100 _ (inl (Integer (pos 1) ∷ [], refl))))
 
 pong_is_fine : is_error pong ≡ false
-pong_is_fine = ?
+unfolding layer
+pong_is_fine = refl
 
 pings : (n p : ℕ) → IsBlock toy_setting 7 n p Other pinged
 pings n p = block.Neutral (codes "PING" ∷ []) _ (block.Answered 100 pong Pings pong_is_fine)
@@ -128,11 +136,63 @@ pings n p = block.Neutral (codes "PING" ∷ []) _ (block.Answered 100 pong Pings
 -- ---- a client
 
 pub each : AreBlocks toy_setting 7 0 0 all_blocks
-each =
-    (Other, adds 0 0, (Other, removes 0 0, (Drawing, publishes 0, (Drawing, publishes_to_two 0, (Drawing, publishes_to_none 0,
-    (Other, pops_nothing 3 0, (Other, pops_junk 3 0, (Other, pops_message 3 0, (Other, ends 3 0,
-    (Other, returns_message 3 0, (Other, returns_gone 3 0, (Other, returns_junk 3 0, (Other, returns_nowhere 3 0, (Other, returns_late 3 0,
-    (Passing, passes_held 3, (Passing, passes 3, (Other, pings 3 2, tt)))))))))))))))))
+each = (
+  Other,
+  adds 0 0,
+  (
+    Other,
+    removes 0 0,
+    (
+      Drawing,
+      publishes 0,
+      (
+        Drawing,
+        publishes_to_two 0,
+        (
+          Drawing,
+          publishes_to_none 0,
+          (
+            Other,
+            pops_nothing 3 0,
+            (
+              Other,
+              pops_junk 3 0,
+              (
+                Other,
+                pops_message 3 0,
+                (
+                  Other,
+                  ends 3 0,
+                  (
+                    Other,
+                    returns_message 3 0,
+                    (
+                      Other,
+                      returns_gone 3 0,
+                      (
+                        Other,
+                        returns_junk 3 0,
+                        (
+                          Other,
+                          returns_nowhere 3 0,
+                          (
+                            Other,
+                            returns_late 3 0,
+                            (Passing, passes_held 3, (Passing, passes 3, (Other, pings 3 2, tt))),
+                          ),
+                        ),
+                      ),
+                    ),
+                  ),
+                ),
+              ),
+            ),
+          ),
+        ),
+      ),
+    ),
+  ),
+)
 
 pub manner : IsMannered toy_setting 7 (concat all_blocks)
 manner = inl (all_blocks, each, ([], append-nil (concat all_blocks)))

@@ -1,5 +1,5 @@
 -- The small texts keep the facts that the laws of places need of texts.
-use Rattle.std.proofs.Common.{◌≡◌, ◌×◌, List, [], ◌∷◌, length, true, Some, refl, sym, ap}
+use Rattle.std.proofs.Common.{◌≡◌, [], ◌∷◌, length, true, Some, refl, sym, ap}
 use Rattle.std.specs.Prelude.{nat_le}
 use Rattle.place_model.specs.Layouts.{plain}
 use Rattle.place_model.specs.Names.{Bytes, same}

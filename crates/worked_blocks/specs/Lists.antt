@@ -1,5 +1,5 @@
 -- Whole blocks, written out: a client of seed 7 says one of each kind and each end.
-use Rattle.std.specs.Prelude.{ℕ, List, [], ◌∷◌, ◌++◌, codes, decimal, pos}
+use Rattle.std.specs.Prelude.{List, [], ◌∷◌, ◌++◌, codes, decimal, pos}
 use Rattle.resp_wire.specs.declared.value.Value.TheVariants.{Integer, Bulk, NullBulk, Array, NullArray}
 use Rattle.mini_store.specs.Replies.{done, queued, pong, bulks, pair}
 use Rattle.place_model.specs.Answers.{integers}
