@@ -1,7 +1,5 @@
 -- A message to the empty exchange goes to the one queue that its routing key names.
-use Rattle.std.proofs.Common.{◌≡◌, ℕ, suc, ◌≤◌, List, [], ◌∷◌, length, Option, None, Some, true, refl, sym, ap, ◌∙◌, option_map, if◌then◌else◌, arith, Result, Ok, Err, subst, codes}
-use Rattle.std.specs.declared.alloc.AllocError.{AllocError}
-use Rattle.std.specs.Prelude.{IfOk, is_none}
+use Rattle.std.proofs.Common.{◌≡◌, ℕ, ◌≤◌, List, [], ◌∷◌, length, Option, Some, true, sym, ap, ◌∙◌, option_map, if◌then◌else◌, arith, Ok, subst, codes}
 use Rattle.std.specs.Result.{result_ok}
 use Rattle.serde_json.specs.Data.{Data}
 use Rattle.serde_json.specs.Written.{compact_text}
@@ -14,7 +12,7 @@ use Rattle.place_model.specs.Layouts.{plain, step_of}
 use Rattle.place_model.specs.Lookup.{route_keys}
 use Rattle.place_model.specs.Names.{Bytes, is_name}
 use Rattle.place_model.specs.QueueKeys.{keys_at, queue_key}
-use Rattle.place_model.specs.Scripts.{Script, asking_script, publish_script, pushes}
+use Rattle.place_model.specs.Scripts.{asking_script, publish_script, pushes}
 use Rattle.place_model.specs.Setting.{Way, if_named, named_exchange, way_keys}
 use Rattle.place_model.proofs.CommandLimits.{IsShort, key_short, three_within}
 use Rattle.routes.specs.Publishes.{GoesDirectly, direct_key}

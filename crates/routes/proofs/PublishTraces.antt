@@ -3,7 +3,6 @@ use Rattle.std.proofs.Common.{◌≡◌, ℕ, suc, ◌<◌, ◌^◌, List, [], �
 use Rattle.serde_json.specs.Data.{Data}
 use Rattle.serde_json.specs.View.{view as data_of}
 use Rattle.serde_json.specs.Written.{compact_text}
-use Rattle.serde_json.specs.declared.value.Value.{Value as Tree}
 use Rattle.resp_wire.specs.declared.value.Value.{Value}
 use Rattle.envelope.specs.Envelopes.{parts_in}
 use Rattle.mini_store.specs.Words.{Words}
@@ -12,7 +11,7 @@ use Rattle.place_model.specs.Calls.{Call, call}
 use Rattle.place_model.specs.Cores.{IsAnswered}
 use Rattle.place_model.specs.EnvelopeTexts.{plain_setting}
 use Rattle.place_model.specs.RouteBlocks.{IsPublishBlock}
-use Rattle.place_model.specs.Scripts.{Script, Over, Off, Publish, after_call, if_told, next_words, publish_script}
+use Rattle.place_model.specs.Scripts.{Script, Over, Publish, after_call, if_told, next_words, publish_script}
 use Rattle.place_model.specs.declared.block.BlockEnd.{BlockEnd}
 use Rattle.place_model.specs.declared.block.BlockEnd.TheVariants.{Sent}
 use Rattle.schedule_laws.specs.Rows.{IsPublication}

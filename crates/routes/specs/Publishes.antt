@@ -1,5 +1,5 @@
 -- What is left of a publication, and how it ended.
-use Rattle.std.specs.Prelude.{◌≡◌, true, List, [], ◌∷◌, codes, Option, None, Some, Ok}
+use Rattle.std.specs.Prelude.{◌≡◌, true, [], ◌∷◌, Option, None, Ok}
 use Rattle.serde_json.specs.Data.{Data}
 use Rattle.serde_json.specs.View.{view as data_of}
 use Rattle.serde_json.specs.Written.{compact_text}
@@ -9,7 +9,6 @@ use Rattle.place_model.specs.Names.{Bytes, is_name}
 use Rattle.place_model.specs.QueueKeys.{queue_key}
 use Rattle.place_model.specs.Scripts.{Script, Over, Off, pushes}
 use Rattle.place_model.specs.declared.block.BlockEnd.{BlockEnd}
-use Rattle.serde_json.specs.declared.value.Value.{Value as Tree}
 use Rattle.routes.specs.declared.publish.PublishCore.{PublishCore}
 use Rattle.routes.specs.declared.publish.PublishStage.{PublishStage}
 use Rattle.routes.specs.declared.publish.PublishStage.TheVariants as stage

@@ -6,6 +6,3 @@ mod publish;
 
 pub use laws::publications_are_blocks;
 pub use publish::PublishCore;
-
-#[cfg(test)]
-mod tests;

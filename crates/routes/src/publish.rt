@@ -1,12 +1,10 @@
 //! A publication: a message is pushed to the list of its queue.
-ghost use Rattle.std.specs.Prelude.{List as Listed, ◌≡◌, ◌∷◌, [], ◌<◌, ◌^◌, true, ℕ, codes, IfOk, IfSome, IsSome, Some, None, Ok};
-ghost use Rattle.envelope.specs.Envelopes.{envelope_at, parts_in, priority_of};
+ghost use Rattle.std.specs.Prelude.{List as Listed, ◌≡◌, ◌∷◌, [], ◌<◌, ◌^◌, true, codes, IfOk, IfSome, IsSome, Some, None, Ok};
 ghost use Rattle.mini_store.specs.Words.{IsWithinLimits, Words as Said};
 ghost use Rattle.place_model.specs.Calls.{Call, call};
 ghost use Rattle.place_model.specs.Cores.{HasTaken, is_off, is_saying};
 ghost use Rattle.place_model.specs.EnvelopeTexts.{plain_setting};
-ghost use Rattle.place_model.specs.Names.{is_name};
-ghost use Rattle.place_model.specs.Scripts.{next_words, publish_script, pushes};
+ghost use Rattle.place_model.specs.Scripts.{next_words, publish_script};
 ghost use Rattle.routes.specs.Publishes.{GoesDirectly, direct_key, publish_end, publish_left};
 ghost use Rattle.routes.specs.PublishTraces.{HasPublished, HasPublishedOn, IsPublishEnded};
 ghost use Rattle.serde_json.specs.Data.{Data};

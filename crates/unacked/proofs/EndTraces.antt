@@ -1,5 +1,5 @@
 -- An acknowledgement's trace goes on with each reply, and begins its block.
-use Rattle.std.proofs.Common.{◌≡◌, ℕ, ◌<◌, ◌^◌, List, [], ◌∷◌, ◌++◌, Bool, true, Option, None, Some, refl, sym, subst, ap, ◌∙◌, arith}
+use Rattle.std.proofs.Common.{◌≡◌, ℕ, ◌<◌, ◌^◌, List, [], ◌∷◌, ◌++◌, Bool, true, Option, None, Some, refl, sym, subst, ap, ◌∙◌}
 use Rattle.std.specs.Prelude.{is_some}
 use Rattle.resp_wire.specs.declared.value.Value.{Value}
 use Rattle.mini_store.specs.Words.{Words}
@@ -8,7 +8,7 @@ use Rattle.envelope.proofs.TagTexts.{tag_of_text-tag_text}
 use Rattle.place_model.specs.Calls.{Call, call}
 use Rattle.place_model.specs.Cores.{IsAnswered}
 use Rattle.place_model.specs.EnvelopeTexts.{plain_setting}
-use Rattle.place_model.specs.Scripts.{Script, Over, Off, End, after_call, end_script, next_words}
+use Rattle.place_model.specs.Scripts.{Script, Over, End, after_call, end_script, next_words}
 use Rattle.place_model.specs.TakeBlocks.{IsEndBlock}
 use Rattle.place_model.specs.declared.block.BlockEnd.{BlockEnd}
 use Rattle.place_model.specs.declared.block.BlockEnd.TheVariants.{Acked}
@@ -16,7 +16,7 @@ use Rattle.schedule_laws.specs.Traces.{IsTrace, IsFrontOf}
 use Rattle.schedule_laws.proofs.Traces.{first_trace, next_trace, trace_front}
 use Rattle.unacked.specs.EndTraces.{HasAcknowledged, IsAcknowledgedWhole, StageTells}
 use Rattle.unacked.specs.Ends.{end_left, index_words, stage_left, table_words}
-use Rattle.unacked.specs.Steps.{HasRun, answered_left, steps_left}
+use Rattle.unacked.specs.Steps.{HasRun, answered_left}
 use Rattle.unacked.specs.declared.end.EndCore.{EndCore}
 use Rattle.unacked.specs.declared.end.EndStage.{EndStage}
 use Rattle.unacked.specs.declared.end.EndStage.TheVariants as stage

@@ -1,7 +1,7 @@
 -- What BRPOP's answer brings, by what was read of it.
-use Rattle.std.proofs.Common.{◌≡◌, ℕ, ◌≤◌, List, [], ◌∷◌, ◌++◌, length, Bool, true, false, Option, None, Some, option_map, option_and_then, refl, sym, ap, ◌∙◌, codes, decimal, arith, Result, Ok, Err, if◌then◌else◌}
+use Rattle.std.proofs.Common.{◌≡◌, ℕ, ◌≤◌, List, [], ◌∷◌, ◌++◌, length, true, false, Option, Some, option_map, option_and_then, refl, sym, ap, ◌∙◌, codes, decimal, arith, Result, Ok, Err, if◌then◌else◌}
 use Rattle.std.specs.declared.alloc.AllocError.{AllocError}
-use Rattle.std.specs.Prelude.{IfOk, insert, nat_le, not}
+use Rattle.std.specs.Prelude.{IfOk, insert, nat_le}
 use Rattle.std.specs.Result.{result_ok}
 use Rattle.std.proofs.lemmas.Bool.Decides.{nat_tests}
 use Rattle.serde_json.specs.Data.{Data, depth}
@@ -23,7 +23,7 @@ use Rattle.place_model.specs.EnvelopeTexts.{plain_setting}
 use Rattle.place_model.specs.Layouts.{plain}
 use Rattle.place_model.specs.Names.{Bytes}
 use Rattle.place_model.specs.QueueKeys.{pop_keys}
-use Rattle.place_model.specs.Scripts.{Script, Over, Off, if_told, kept_by, next_words, null_array_in, on_popped, pop_script}
+use Rattle.place_model.specs.Scripts.{Over, if_told, kept_by, next_words, null_array_in, on_popped, pop_script}
 use Rattle.unacked.specs.Pops.{index_words, table_words, tag_in}
 use Rattle.unacked.specs.Steps.{begin_left, steps_left}
 use Rattle.mini_store.specs.Words.{Words}

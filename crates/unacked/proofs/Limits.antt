@@ -1,7 +1,7 @@
 -- The words of the commands are within the limits of a command.
-use Rattle.std.proofs.Common.{◌≡◌, ◌⊎◌, inl, inr, ℕ, zero, suc, ◌+◌, ◌*◌, ◌<◌, ◌≤◌, ◌^◌, List, [], ◌∷◌, ◌++◌, length, Bool, true, false, refl, sym, subst, ap, ◌∙◌, codes, decimal, arith, length-append, ◌&&◌, if◌then◌else◌, Result, Ok, Err}
+use Rattle.std.proofs.Common.{◌≡◌, ℕ, ◌+◌, ◌*◌, ◌<◌, ◌≤◌, ◌^◌, List, [], ◌∷◌, ◌++◌, length, true, sym, subst, codes, decimal, arith, length-append, Result, Ok, Err}
 use Rattle.std.specs.declared.alloc.AllocError.{AllocError}
-use Rattle.std.specs.Prelude.{All, IfOk, nat_lt, nat_le, not}
+use Rattle.std.specs.Prelude.{All, IfOk, nat_le}
 use Rattle.std.proofs.lemmas.Bool.Decides.{nat_tests}
 use Rattle.std.proofs.lemmas.List.Elements.{All-nil, All-cons, All-append}
 use Rattle.std.proofs.lemmas.Fmt.{length-decimal-le}
@@ -12,9 +12,9 @@ use Rattle.envelope.specs.declared.fault.EnvelopeFault.TheVariants.{TooLong}
 use Rattle.envelope.specs.Reading.{wanted}
 use Rattle.envelope.proofs.Said.{bind_ok, wanted_is}
 use Rattle.mini_store.specs.Words.{IsWithinLimits, Words}
-use Rattle.place_model.specs.Layouts.{Layout, plain}
-use Rattle.place_model.specs.Names.{Bytes, all_free, has_length, is_name, is_reserved}
-use Rattle.place_model.specs.QueueKeys.{key, keys_at, keys_by, pop_keys, queue_key, step_mark}
+use Rattle.place_model.specs.Layouts.{plain}
+use Rattle.place_model.specs.Names.{Bytes, is_name}
+use Rattle.place_model.specs.QueueKeys.{keys_at, keys_by, pop_keys, queue_key}
 use Rattle.place_model.proofs.CommandLimits.{IsShort, four_within, key_short}
 use Rattle.place_model.proofs.Lists.{length-pop_keys}
 use Rattle.unacked.specs.Queues.{are_names}

@@ -1,5 +1,5 @@
 -- A pop's trace goes on with each reply, and begins its block.
-use Rattle.std.proofs.Common.{◌≡◌, ◌⊎◌, inl, inr, ℕ, ◌*◌, ◌<◌, ◌≤◌, ◌^◌, List, [], ◌∷◌, ◌++◌, length, Bool, true, false, Option, None, Some, refl, sym, subst, ap, ◌∙◌, arith, Result, Ok, Err, ◌&&◌}
+use Rattle.std.proofs.Common.{◌≡◌, ◌⊎◌, inl, inr, ℕ, ◌*◌, ◌<◌, ◌≤◌, ◌^◌, List, [], ◌∷◌, ◌++◌, length, true, false, Option, None, Some, refl, sym, subst, ap, ◌∙◌, arith, Result, Ok, Err}
 use Rattle.serde_json.specs.View.{view as data_of}
 use Rattle.resp_wire.specs.declared.value.Value.{Value}
 use Rattle.std.specs.Prelude.{⊤}
@@ -22,7 +22,7 @@ use Rattle.schedule_laws.specs.Traces.{IsTrace, IsFrontOf}
 use Rattle.schedule_laws.proofs.Traces.{first_trace, next_trace, trace_front}
 use Rattle.unacked.specs.Pops.{IsRefused, found_left, index_words, pop_left, stage_left, table_words}
 use Rattle.unacked.specs.Steps.{answered_left, steps_left}
-use Rattle.unacked.specs.PopTraces.{EndTells, FoundTells, HasPopped, HasPoppedOn, IsPopEnd, IsPopEnded, StageTells, TellsPop}
+use Rattle.unacked.specs.PopTraces.{EndTells, FoundTells, HasPopped, HasPoppedOn, IsPopEnded, StageTells, TellsPop}
 use Rattle.unacked.specs.Queues.{are_names}
 use Rattle.unacked.specs.declared.pop.Delivery.{Delivery}
 use Rattle.unacked.specs.declared.queues.Queues.{Queues}

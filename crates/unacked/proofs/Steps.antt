@@ -5,11 +5,10 @@ use Rattle.resp_wire.specs.declared.value.Value.{Value}
 use Rattle.mini_store.specs.Words.{Words}
 use Rattle.place_model.specs.Answers.{numbers_of}
 use Rattle.place_model.specs.Cores.{is_off, is_saying}
-use Rattle.place_model.specs.Scripts.{Script, Over, Off, on_two_numbers, status_in}
-use Rattle.place_model.specs.Seen.{is_one}
+use Rattle.place_model.specs.Scripts.{Over, Off, on_two_numbers, status_in}
 use Rattle.unacked.specs.Steps.{HasRun, answered_left, progress_left, ran_by, steps_left}
 use Rattle.unacked.specs.declared.step.Progress.{Progress}
-use Rattle.unacked.specs.declared.step.Progress.TheVariants.{Next, Ran, Refused}
+use Rattle.unacked.specs.declared.step.Progress.TheVariants.{Next, Refused}
 use Rattle.unacked.specs.declared.step.Step.{Step}
 use Rattle.unacked.specs.declared.step.Step.TheVariants.{Begin, Index, Table, Run}
 use Rattle.unacked.proofs.Numbers.{two_are, two_off, two_on}

@@ -1,5 +1,5 @@
 -- What is left of an acknowledgement, and how it ended.
-use Rattle.std.specs.Prelude.{ℕ, List, [], ◌∷◌, codes, Option, None, Some}
+use Rattle.std.specs.Prelude.{ℕ, [], ◌∷◌, codes, Option, None}
 use Rattle.mini_store.specs.Words.{Words}
 use Rattle.envelope.specs.Tags.{tag_text}
 use Rattle.place_model.specs.EnvelopeTexts.{plain_setting}

@@ -1,5 +1,5 @@
 -- The transaction that changes the table of messages together with its index: what is left of it at each of its steps.
-use Rattle.std.specs.Prelude.{◌≡◌, ℕ, ℤ, Bool, List, [], ◌∷◌, codes, Option, None, Some}
+use Rattle.std.specs.Prelude.{◌≡◌, ℕ, ℤ, [], ◌∷◌, codes, Option, None, Some}
 use Rattle.resp_wire.specs.declared.value.Value.{Value}
 use Rattle.mini_store.specs.Words.{Words}
 use Rattle.place_model.specs.Answers.{integers}

@@ -1,5 +1,5 @@
 //! An acknowledgement: a message is taken out of the table of messages that are not acknowledged, for good.
-ghost use Rattle.std.specs.Prelude.{List as Listed, ◌≡◌, ◌∷◌, [], ◌<◌, ◌^◌, ℕ, codes, IfOk, IfSome, IsSome, Some, None};
+ghost use Rattle.std.specs.Prelude.{List as Listed, ◌≡◌, [], ◌<◌, ◌^◌, ℕ, IfOk, IfSome, IsSome, Some, None};
 ghost use Rattle.envelope.specs.Tags.{tag_text};
 ghost use Rattle.mini_store.specs.Words.{IsWithinLimits, Words as Said};
 ghost use Rattle.place_model.specs.Calls.{Call, call};

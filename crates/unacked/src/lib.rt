@@ -12,6 +12,3 @@ mod words;
 pub use end::EndCore;
 pub use laws::{ends_are_blocks, pops_are_blocks};
 pub use pop::PopCore;
-
-#[cfg(test)]
-mod tests;

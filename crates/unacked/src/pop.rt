@@ -1,12 +1,10 @@
 //! A pop: a message goes from the list of its queue into the table of messages that are not acknowledged.
-ghost use Rattle.std.specs.Prelude.{List as Listed, ◌≡◌, ◌∷◌, [], ◌++◌, ◌<◌, ◌≤◌, ◌^◌, ℕ, codes, IfOk, IfSome, IsSome, Some, None, length, option_map, unwrap_or};
+ghost use Rattle.std.specs.Prelude.{List as Listed, ◌≡◌, [], ◌<◌, ◌≤◌, ◌^◌, ℕ, IfOk, IfSome, IsSome, Some, None, length};
 ghost use Rattle.mini_store.specs.Replies.{pair};
 ghost use Rattle.mini_store.specs.Words.{IsWithinLimits, Words as Said};
 ghost use Rattle.place_model.specs.Calls.{Call, call};
 ghost use Rattle.place_model.specs.Cores.{HasTaken, is_off, is_saying};
 ghost use Rattle.place_model.specs.EnvelopeTexts.{plain_setting};
-ghost use Rattle.place_model.specs.QueueKeys.{pop_keys};
-ghost use Rattle.place_model.specs.Layouts.{plain};
 ghost use Rattle.place_model.specs.Scripts.{next_words, on_popped, kept_by, pop_script};
 ghost use Rattle.envelope.specs.Bodies.{tag_of_bytes};
 ghost use Rattle.serde_json.specs.View.{view as data_of};

@@ -1,5 +1,5 @@
 -- The words are LPUSH, the queue's key and the envelope, and are short.
-use Rattle.std.proofs.Common.{◌≡◌, ◌∙◌, ◌∷◌, ◌++◌, [], ap, codes}
+use Rattle.std.proofs.Common.{◌∙◌, ◌∷◌, ◌++◌, [], ap}
 use Rattle.std.specs.Prelude.{is_none}
 use Rattle.serde_json.specs.View.{view as data_of}
 use Rattle.place_model.specs.Names.{is_name}

@@ -1,4 +1,4 @@
-use Rattle.std.proofs.Common.{◌∙◌, ap, sym, Some, None}
+use Rattle.std.proofs.Common.{◌∙◌, ap, sym}
 use Rattle.unacked.specs.declared.end.EndStage.TheVariants.{Over}
 use Rattle.unacked.proofs.EndTraces.{end_given}
 use Rattle.unacked.proofs.end.EndCore.end.Goals as goal

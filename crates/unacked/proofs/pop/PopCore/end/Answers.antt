@@ -1,4 +1,4 @@
-use Rattle.std.proofs.Common.{◌∙◌, ap, sym, Some, None}
+use Rattle.std.proofs.Common.{◌∙◌, ap, sym}
 use Rattle.unacked.specs.declared.pop.PopStage.TheVariants.{Over}
 use Rattle.unacked.proofs.PopTraces.{end_traced}
 use Rattle.unacked.proofs.pop.PopCore.end.Goals as goal
