@@ -47,7 +47,13 @@ fn stage_of<R: Abort>(
 }
 
 /// Plays rows from an empty store, whose messages have these ways and priorities.
-fn play<R: Abort>(rt: &R, alloc: Global, rows: &[&str], way: (&str, &str), priorities: &[i64]) -> Result<(), Fail> {
+fn play<R: Abort>(
+    rt: &R,
+    alloc: Global,
+    rows: &[&str],
+    way: (&str, &str),
+    priorities: &[i64],
+) -> Result<(), Fail> {
     let mut stage = stage_of(rt, alloc, way, priorities)?;
     stage.play_all(rt, alloc, rows)?;
     Ok(())
@@ -87,7 +93,13 @@ fn rows_after_the_prelude(rt: HostRuntime) -> Result<(), Fail> {
 
 /// The client of the prelude is gone after so many of its rows; between them the message is at a place, and at another
 /// one after it.
-fn stop_after<R: Abort>(rt: &R, alloc: Global, calls: u64, held: &str, left: &str) -> Result<(), Fail> {
+fn stop_after<R: Abort>(
+    rt: &R,
+    alloc: Global,
+    calls: u64,
+    held: &str,
+    left: &str,
+) -> Result<(), Fail> {
     let mut stage = stage_of(rt, alloc, ("", "celery"), &[0])?;
     for row in prelude().iter().take(calls as usize) {
         stage.play(rt, alloc, row)?;
@@ -114,13 +126,23 @@ fn a_stop_within_a_pop_loses_the_message(rt: HostRuntime) -> Result<(), Fail> {
 }
 
 /// Plays a row with the number of the next entry before it.
-fn next_row<R: Abort>(rt: &R, alloc: Global, stage: &mut Stage, row: &str) -> Result<(), AllocError> {
+fn next_row<R: Abort>(
+    rt: &R,
+    alloc: Global,
+    stage: &mut Stage,
+    row: &str,
+) -> Result<(), AllocError> {
     let next = stage.next_number();
     stage.play(rt, alloc, format!(in alloc; "{next} {row}")?.as_str())
 }
 
 /// Plays rows with the numbers of the next entries before them.
-fn next_rows<R: Abort>(rt: &R, alloc: Global, stage: &mut Stage, rows: &[&str]) -> Result<(), AllocError> {
+fn next_rows<R: Abort>(
+    rt: &R,
+    alloc: Global,
+    stage: &mut Stage,
+    rows: &[&str],
+) -> Result<(), AllocError> {
     for row in rows {
         next_row(rt, alloc, stage, row)?;
     }
@@ -128,27 +150,47 @@ fn next_rows<R: Abort>(rt: &R, alloc: Global, stage: &mut Stage, rows: &[&str]) 
 }
 
 /// Client 1 publishes a message.
-fn pushed<R: Abort>(rt: &R, alloc: Global, stage: &mut Stage, counter: u64) -> Result<(), AllocError> {
+fn pushed<R: Abort>(
+    rt: &R,
+    alloc: Global,
+    stage: &mut Stage,
+    counter: u64,
+) -> Result<(), AllocError> {
     let row = format!(in alloc; "100 1 LPUSH celery env(7:{counter}) = :{counter}")?;
     next_row(rt, alloc, stage, row.as_str())
 }
 
 /// Client 2 pops a message at a moment.
-fn popped<R: Abort>(rt: &R, alloc: Global, stage: &mut Stage, at: u64, counter: u64) -> Result<(), AllocError> {
-    let row = format!(in alloc; "{at} 2 BRPOP celery celery/3 celery/6 celery/9 1 = *[$celery, $env(7:{counter})]")?;
+fn popped<R: Abort>(
+    rt: &R,
+    alloc: Global,
+    stage: &mut Stage,
+    at: u64,
+    counter: u64,
+) -> Result<(), AllocError> {
+    let row = format!(in alloc;
+        "{at} 2 BRPOP celery celery/3 celery/6 celery/9 1 = *[$celery, $env(7:{counter})]"
+    )?;
     next_row(rt, alloc, stage, row.as_str())?;
     let row = format!(in alloc; "{at} 2 MULTI = +OK")?;
     next_row(rt, alloc, stage, row.as_str())?;
     let row = format!(in alloc; "{at} 2 ZADD unacked_index {at} tag(7:{counter}) = +QUEUED")?;
     next_row(rt, alloc, stage, row.as_str())?;
-    let row = format!(in alloc; "{at} 2 HSET unacked tag(7:{counter}) entry(7:{counter}) = +QUEUED")?;
+    let row = format!(in alloc;
+        "{at} 2 HSET unacked tag(7:{counter}) entry(7:{counter}) = +QUEUED"
+    )?;
     next_row(rt, alloc, stage, row.as_str())?;
     let row = format!(in alloc; "{at} 2 EXEC = *[:1, :1]")?;
     next_row(rt, alloc, stage, row.as_str())
 }
 
 /// Client 3 returns a message in its pass.
-fn returned<R: Abort>(rt: &R, alloc: Global, stage: &mut Stage, counter: u64) -> Result<(), AllocError> {
+fn returned<R: Abort>(
+    rt: &R,
+    alloc: Global,
+    stage: &mut Stage,
+    counter: u64,
+) -> Result<(), AllocError> {
     next_row(rt, alloc, stage, "4000 3 WATCH unacked = +OK")?;
     let row = format!(in alloc; "4000 3 HGET unacked tag(7:{counter}) = $entry(7:{counter})")?;
     next_row(rt, alloc, stage, row.as_str())?;
