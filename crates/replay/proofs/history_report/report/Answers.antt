@@ -11,5 +11,5 @@ pub returns : goal.returns
 returns c =
     let h = history_of c.args.history.now in
     IfOk-weaker c.report_of.result _ (λ text. text ≡ report_text program_legend h)
-    (λ text told. told plain_setting h (sym c.entries.ensures) (ap all_placed c.as_slice.ensures.value ∙ c.in_ok-tags.ensures))
+    (λ text told. told plain_setting h (sym c.entries.ensures.entries) (ap all_placed c.as_slice.ensures.value ∙ c.in_ok-tags.ensures))
     c.report_of.ensures
