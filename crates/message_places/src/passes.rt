@@ -5,16 +5,16 @@ ghost use Rattle.mini_store.specs.declared.command.Command.TheVariants.{Zrevrang
 ghost use Rattle.mini_store.specs.declared.reply.Reply.{Reply};
 ghost use Rattle.place_model.specs.Calls.{Call};
 ghost use Rattle.place_model.specs.EnvelopeTexts.{texts};
-ghost use Rattle.place_model.specs.Histories.{History, IsHistoryPrefix, after, and_then};
+ghost use Rattle.place_model.specs.Histories.{History, IsHistoryPrefix, after, and_then, calls_of};
 ghost use Rattle.place_model.specs.Layouts.{Layout, is_layout};
 ghost use Rattle.place_model.specs.Names.{Bytes};
-ghost use Rattle.place_model.specs.PassBlocks.{Done, IsReturns, due_words, tags_among};
-ghost use Rattle.place_model.specs.Passes.{ReadsTags, due_members, gone_count, moved_count, stayed_count};
+ghost use Rattle.place_model.specs.PassBlocks.{Done, IsPassBlock, IsReturns, due_words, tags_among};
+ghost use Rattle.place_model.specs.Passes.{AccountsForAll, AreEarly, ReadsTags, due_members, gone_count, moved_count, stayed_count};
 ghost use Rattle.place_model.specs.ReturnBlocks.{ReturnEnd};
 ghost use Rattle.place_model.specs.Setting.{setting_of};
 ghost use Rattle.place_model.specs.Starts.{IsSound};
 ghost use Rattle.place_model.specs.declared.history.Entry.TheVariants.{Call as Called};
-ghost use Rattle.std.specs.Prelude.{◌≡◌, true, ◌+◌, ◌<◌, ◌^◌, [], ◌∷◌, ℕ, ℤ, List, length};
+ghost use Rattle.std.specs.Prelude.{◌≡◌, true, ◌+◌, ◌++◌, ◌<◌, ◌^◌, [], ◌∷◌, ℕ, ℤ, List, length};
 
 /// What a range of the index gives are its members with these scores, the highest first, and each of them is a tag.
 pub fn pass_reads<N>()
@@ -31,4 +31,11 @@ pub fn pass_accounts<N>()
         → IsSound σ h → IsHistoryPrefix (and_then p (Called c at (due_words σ at v) reply ∷ [])) h → at < 2 ^ 63 → v < 2 ^ 63
         → reply.answer ≡ bulks ms → IsReturns σ (tags_among σ ms) (Done ends) l
         → (ms ≡ due_members σ (after p) at v) × (moved_count ends + gone_count ends + stayed_count ends ≡ length ms) }
+{}
+
+/// So each pass among a client's calls that wasn't ended early accounts for all that it read.
+pub fn whole_pass<N>()
+    ensures { (κ : Layout) → is_layout κ ≡ true → let σ = setting_of κ texts in (h : History N) (c v : ℕ) (token : Bytes) (ends : List ReturnEnd) (earlier l rest : List Call) → IsSound σ h
+        → calls_of c h.entries ≡ earlier ++ (l ++ rest) → IsPassBlock σ token v (Done ends) l → AreEarly l → v < 2 ^ 63
+        → AccountsForAll σ h v ends }
 {}

@@ -20,6 +20,11 @@ ghost use Rattle.resp_wire.specs.declared.value.Value.{Value};
 ghost use Rattle.std.specs.FinMap.{get};
 ghost use Rattle.std.specs.Prelude.{◌≡◌, true, [], ◌∷◌, ℕ, List, Some};
 
+/// Each prefix of a sound history is sound.
+pub fn prefixes<N>()
+    ensures { (κ : Layout) → is_layout κ ≡ true → let σ = setting_of κ texts in (h p : History N) → IsSound σ h → IsHistoryPrefix p h → IsSound σ p }
+{}
+
 /// Each message that is accepted and single is in exactly one place, and in the table just where it is in the table's index.
 pub fn one_place<N>()
     ensures { (κ : Layout) → is_layout κ ≡ true → let σ = setting_of κ texts in (h p : History N) (t : Bytes) → IsSound σ h → IsHistoryPrefix p h

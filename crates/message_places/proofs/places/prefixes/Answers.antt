@@ -1,0 +1,6 @@
+-- What `prefixes` ensures.
+use Rattle.place_theorem.proofs.Prefixes.{prefix_sound}
+use Rattle.message_places.proofs.places.prefixes.Goals as goal
+
+pub returns : goal.returns
+returns g c = λ κ lawful. prefix_sound
