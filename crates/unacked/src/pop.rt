@@ -222,12 +222,7 @@ fn pop_words(alloc: Global, queues: &Queues) -> Result<Words, AllocError>
 }
 
 /// The words of a command of the transaction.
-fn keep_words(
-    alloc: Global,
-    delivery: &Delivery,
-    step: Step,
-    at: u64,
-) -> Result<Words, AllocError>
+fn keep_words(alloc: Global, delivery: &Delivery, step: Step, at: u64) -> Result<Words, AllocError>
     ensures words { IfOk result (λ words. let d = data_of delivery.now.envelope in Some words
         ≡ next_words (steps_left (index_words d) (table_words d) step) at) }
     ensures limits { IfOk result (λ words. IsWithinLimits words) }
