@@ -1,4 +1,2 @@
-pub mod Joins
-pub mod Sizes
 pub mod Reported
 pub mod Written

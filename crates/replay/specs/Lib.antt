@@ -1,4 +1,2 @@
-pub mod Bindings
 pub mod Kinds
 pub mod Legends
-pub mod Runs

@@ -1,0 +1,6 @@
+pub mod Joins
+pub mod Known
+pub mod Sayings
+pub mod Shelved
+pub mod Sizes
+pub mod Sizing
