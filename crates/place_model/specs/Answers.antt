@@ -54,6 +54,23 @@ pair_among (k ∷ v ∷ w ∷ ws) = None
 abbrev pub pair_of : Value → Option (Bytes × Bytes)
 pair_of r = option_and_then pair_among (items_of r)
 
+-- the two numbers, where both are there
+abbrev pub both_numbers : Option ℤ → Option ℤ → Option (ℤ × ℤ)
+both_numbers None y = None
+both_numbers (Some x) None = None
+both_numbers (Some x) (Some y) = Some (x, y)
+
+-- the two integers of a list of two
+abbrev pub numbers_among : List Value → Option (ℤ × ℤ)
+numbers_among [] = None
+numbers_among (x ∷ []) = None
+numbers_among (x ∷ y ∷ []) = both_numbers (number_of x) (number_of y)
+numbers_among (x ∷ y ∷ z ∷ zs) = None
+
+-- the two integers of an array of two
+abbrev pub numbers_of : Value → Option (ℤ × ℤ)
+numbers_of r = option_and_then numbers_among (items_of r)
+
 -- whether a layer is an error
 abbrev pub error_in : Value-F Value → Bool
 error_in (Value-F.Error text) = true

@@ -30,3 +30,4 @@ pub mod Shown
 pub mod Accepted
 pub mod Gathered
 pub mod GatheredLaws
+pub mod Cores

@@ -1,7 +1,7 @@
 //! Where messages are: the keys of queues, histories of a store's clients, and the place of each message.
 #![tactic(auto)]
 
-mod answer;
+pub mod answer;
 mod block;
 mod hands;
 mod heard;
@@ -17,7 +17,7 @@ mod told;
 mod transaction;
 mod walk;
 
-pub use block::Side;
+pub use block::{BlockEnd, CoreFault, Side};
 pub use heard::{Heard, Outcome};
 pub use history::{Entry, History};
 pub use keys::{pop_keys, queue_key, split_key, step_of};

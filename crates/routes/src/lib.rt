@@ -1,0 +1,6 @@
+//! Cores that send messages on their way, command by command.
+#![tactic(auto)]
+
+mod publish;
+
+pub use publish::PublishCore;

@@ -1,0 +1,81 @@
+-- What BRPOP's answer brings, by what was read of it.
+use Rattle.std.proofs.Common.{◌≡◌, ℕ, ◌≤◌, List, [], ◌∷◌, ◌++◌, length, Bool, true, false, Option, None, Some, option_map, option_and_then, refl, sym, ap, ◌∙◌, codes, arith, Result, Ok, Err, if◌then◌else◌}
+use Rattle.std.specs.Prelude.{nat_le, not}
+use Rattle.std.specs.Result.{result_ok}
+use Rattle.std.proofs.lemmas.Bool.Decides.{nat_tests}
+use Rattle.serde_json.specs.Data.{Data, depth}
+use Rattle.serde_json.specs.Read.{read}
+use Rattle.serde_json.specs.Written.{compact_text}
+use Rattle.resp_wire.specs.Layer.{layer}
+use Rattle.resp_wire.specs.declared.value.Value.{Value}
+use Rattle.envelope.specs.Bodies.{entry_of, entry_text, exchange_or, if_plain, parts_at, routing_key_or, tag_of_bytes}
+use Rattle.envelope.specs.Entries.{entry_data, entry_for}
+use Rattle.envelope.specs.Envelopes.{envelope_at, max_levels, parts_in}
+use Rattle.envelope.specs.Reading.{Fails}
+use Rattle.envelope.specs.Tags.{tag_text}
+use Rattle.envelope.specs.declared.fault.EnvelopeFault.{EnvelopeFault}
+use Rattle.envelope.specs.declared.fault.EnvelopeFault.TheVariants.{TooLong, NotJson, TooDeep, Float, Missing, Compressed, BadBody, Memory}
+use Rattle.envelope.proofs.BodyTexts.{envelope_from_read}
+use Rattle.envelope.proofs.Said.{IsPlain, said_is}
+use Rattle.place_model.specs.Answers.{pair_of}
+use Rattle.place_model.specs.EnvelopeTexts.{plain_setting}
+use Rattle.place_model.specs.Layouts.{plain}
+use Rattle.place_model.specs.Names.{Bytes}
+use Rattle.place_model.specs.QueueKeys.{pop_keys}
+use Rattle.place_model.specs.Scripts.{Script, Over, Off, if_told, kept_by, next_words, null_array_in, on_popped, pop_script}
+use Rattle.unacked.specs.Pops.{index_words, table_words, tag_in}
+use Rattle.unacked.specs.Steps.{begin_left, steps_left}
+use Rattle.unacked.specs.declared.step.Step.TheVariants.{Begin}
+
+-- ---- BRPOP
+
+-- the words of a pop
+pub asks : (names : List Bytes) (at : ℕ) → 1 ≤ length names → next_words (pop_script plain_setting names) at ≡ Some (codes "BRPOP" ∷ pop_keys plain names ++ codes "1" ∷ [])
+asks [] at h = absurd (omega (arith, h))
+asks (q ∷ qs) at h = refl
+
+-- after the null array a pop is over
+pub empty : (r : Value) → null_array_in (layer r) ≡ true → on_popped plain_setting r ≡ Over
+empty r e = ap (λ b. if b then Over else if_told (λ (p : Bytes × Bytes). kept_by plain_setting p.1 (tag_of_bytes p.1)) (pair_of r)) e
+
+-- another answer goes on by its element
+pub found : (r : Value) (p : Option (Bytes × Bytes)) → null_array_in (layer r) ≡ false → pair_of r ≡ p → on_popped plain_setting r ≡ if_told (λ (p : Bytes × Bytes). kept_by plain_setting p.1 (tag_of_bytes p.1)) p
+found r p e f =
+    ap (λ b. if b then Over else if_told (λ (p : Bytes × Bytes). kept_by plain_setting p.1 (tag_of_bytes p.1)) (pair_of r)) e
+    ∙ ap (if_told (λ (p : Bytes × Bytes). kept_by plain_setting p.1 (tag_of_bytes p.1))) f
+
+-- ---- an element that is an envelope
+
+tag_is : (d : Data) (v : Bytes) → envelope_at v ≡ Ok d → tag_of_bytes v ≡ Some (tag_in d)
+tag_is d v e = ap (λ r. option_map (λ p. tag_text p.tag) (option_map parts_in (result_ok r))) e
+
+plain_is : (d : Data) → IsPlain d → if_plain d ≡ Some d
+plain_is d h = let s : nat_le (depth d) max_levels ≡ true = let x = h.shallow in grind (arith, nat_tests) in rw (s, h.whole) refl
+
+entry_is : (d : Data) (v : Bytes) → envelope_at v ≡ Ok d → entry_of v ≡ compact_text (entry_data (entry_for d))
+entry_is d v e =
+    let is = envelope_from_read d v e in
+    let parts : parts_at v ≡ Some (parts_in d) = ap (λ r. option_map parts_in (result_ok r)) e in
+    ap (λ o. entry_text (exchange_or o) (routing_key_or o) (option_and_then if_plain (read v))) parts
+    ∙ ap (λ o. entry_text (parts_in d).exchange (parts_in d).routing_key (option_and_then if_plain o)) is.text
+    ∙ ap (λ o. entry_text (parts_in d).exchange (parts_in d).routing_key o) (plain_is d (said_is d (parts_in d) is.said).plain)
+
+-- what was read as an envelope is put into the table
+pub kept : (d : Data) (v : Bytes) → envelope_at v ≡ Ok d → steps_left (index_words d) (table_words d) Begin ≡ kept_by plain_setting v (tag_of_bytes v)
+kept d v e = sym (ap (kept_by plain_setting v) (tag_is d v e) ∙ ap (λ u. begin_left (index_words d) (codes "HSET" ∷ codes "unacked" ∷ tag_in d ∷ u ∷ [])) (entry_is d v e))
+
+-- ---- an element that is none
+
+failed : (v : Bytes) (f : EnvelopeFault) → envelope_at v ≡ Err f → kept_by plain_setting v (tag_of_bytes v) ≡ Over
+failed v f e = ap (λ r. kept_by plain_setting v (option_map (λ p. tag_text p.tag) (option_map parts_in (result_ok r)))) e
+
+-- what can't be read ends the pop
+pub unread : (v : Bytes) (f : EnvelopeFault) → (f ≡ Memory → ⊥) → Fails f (envelope_at v) → kept_by plain_setting v (tag_of_bytes v) ≡ Over
+unread v TooLong n h = failed v TooLong h
+unread v NotJson n h = failed v NotJson h
+unread v TooDeep n h = failed v TooDeep h
+unread v Float n h = failed v Float h
+unread v (Missing f) n h = failed v (Missing f) h
+unread v Compressed n h = failed v Compressed h
+unread v BadBody n h = failed v BadBody h
+unread v Memory n h = absurd (n refl)

@@ -1,0 +1,4 @@
+pub mod Numbers
+pub mod Steps
+pub mod Limits
+pub mod Kept

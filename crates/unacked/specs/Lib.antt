@@ -1,0 +1,4 @@
+pub mod Queues
+pub mod Steps
+pub mod Pops
+pub mod Ends

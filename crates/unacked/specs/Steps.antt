@@ -1,0 +1,56 @@
+-- The transaction that changes the table of messages together with its index: what is left of it at each of its steps.
+use Rattle.std.specs.Prelude.{◌≡◌, ℕ, ℤ, Bool, List, [], ◌∷◌, codes, Option, None, Some}
+use Rattle.resp_wire.specs.declared.value.Value.{Value}
+use Rattle.mini_store.specs.Words.{Words}
+use Rattle.place_model.specs.Answers.{integers}
+use Rattle.place_model.specs.Calls.{call}
+use Rattle.place_model.specs.Seen.{is_one}
+use Rattle.place_model.specs.Scripts.{Script, Over, Off, Say, plainly, on_done, on_queued, on_two_numbers, after_call}
+use Rattle.unacked.specs.declared.step.Progress.{Progress}
+use Rattle.unacked.specs.declared.step.Progress.TheVariants.{Next, Ran, Refused}
+use Rattle.unacked.specs.declared.step.Step.{Step}
+use Rattle.unacked.specs.declared.step.Step.TheVariants.{Begin, Index, Table, Run}
+
+-- EXEC is next, which two integers answer
+abbrev pub run_left : Script
+run_left = plainly (codes "EXEC" ∷ []) (on_two_numbers Over)
+
+-- the command on the table is next
+abbrev pub table_left : Words → Script
+table_left table = plainly table (on_queued run_left)
+
+-- the command on the index is next, by the moment
+abbrev pub index_left : (ℕ → Words) → Words → Script
+index_left index table = Say index (on_queued (table_left table))
+
+-- MULTI is next
+abbrev pub begin_left : (ℕ → Words) → Words → Script
+begin_left index table = plainly (codes "MULTI" ∷ []) (on_done (index_left index table))
+
+-- the transaction of these two commands, from a step on
+abbrev pub steps_left : (ℕ → Words) → Words → Step → Script
+steps_left index table Begin = begin_left index table
+steps_left index table Index = index_left index table
+steps_left index table Table = table_left table
+steps_left index table Run = run_left
+
+-- what goes on after an answer to the command of a step
+abbrev pub answered_left : (ℕ → Words) → Words → Step → Value → Script
+answered_left index table step answer = after_call (steps_left index table step) (call 0 [] answer)
+
+-- what is left by what an answer brings
+abbrev pub progress_left : (ℕ → Words) → Words → Progress → Script
+progress_left index table (Next step) = steps_left index table step
+progress_left index table (Ran removed) = Over
+progress_left index table Refused = Off
+
+-- a transaction that ran was answered two integers, and the second tells whether its command on the table counted one member
+abbrev pub HasRun : Progress → Value → Type 0
+HasRun (Next step) answer = Unit {0}
+HasRun (Ran removed) answer = (x : ℤ) × (y : ℤ) × (answer ≡ integers (x ∷ y ∷ [])) × (removed ≡ is_one (Some y))
+HasRun Refused answer = Unit {0}
+
+-- what two integers bring as EXEC's answer
+abbrev pub ran_by : Option (ℤ × ℤ) → Progress
+ran_by None = Refused
+ran_by (Some p) = Ran (is_one (Some p.1))

@@ -1,0 +1,69 @@
+//! The transaction by which the table of messages that are not acknowledged changes together with its index.
+ghost use Rattle.std.specs.Prelude.{◌≡◌, ℕ, if◌then◌else◌};
+ghost use Rattle.mini_store.specs.Words.{Words as Said};
+ghost use Rattle.place_model.specs.Answers.{numbers_of};
+ghost use Rattle.unacked.specs.Steps.{HasRun, answered_left, progress_left, ran_by};
+
+use place_model::answer::{is_status, is_unit, two_integers};
+use resp_wire::Value;
+
+/// Which command of the transaction comes next.
+#[derive(Clone, Copy, Debug)]
+pub(crate) enum Step {
+    /// MULTI.
+    Begin,
+    /// The command on the index.
+    Index,
+    /// The command on the table.
+    Table,
+    /// EXEC.
+    Run,
+}
+
+/// What an answer brings.
+#[derive(Clone, Copy, Debug)]
+pub(crate) enum Progress {
+    /// The next command may be sent.
+    Next(Step),
+    /// The transaction ran, and whether its command on the table counted one member.
+    Ran(bool),
+    /// The answer isn't a listed one.
+    Refused,
+}
+
+impl Step {
+    /// What an answer to the command of this step brings.
+    pub(crate) fn answered(self, answer: &Value) -> Progress
+        ensures left { (index : ℕ → Said) (table : Said)
+            → progress_left index table result ≡ answered_left index table self answer.now }
+        ensures ran { HasRun result answer.now }
+    {
+        match self {
+            Step::Begin => next_if(is_status(answer, b"OK"), Step::Index),
+            Step::Index => next_if(is_status(answer, b"QUEUED"), Step::Table),
+            Step::Table => next_if(is_status(answer, b"QUEUED"), Step::Run),
+            Step::Run => ran(answer),
+        }
+    }
+}
+
+/// The next step, where the answer is a listed one.
+fn next_if(listed: bool, step: Step) -> Progress
+    ensures { result ≡ (if listed then Progress.Next step else Progress.Refused) }
+{
+    if listed {
+        Progress::Next(step)
+    } else {
+        Progress::Refused
+    }
+}
+
+/// What an answer to EXEC brings.
+fn ran(answer: &Value) -> Progress
+    ensures { result ≡ ran_by (numbers_of answer.now) }
+{
+    match two_integers(answer) {
+        Some((_, removed)) => Progress::Ran(is_unit(removed)),
+        None => Progress::Refused,
+    }
+}
