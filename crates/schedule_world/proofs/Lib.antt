@@ -1,3 +1,4 @@
+pub mod Drafted
 pub mod Joins
 pub mod Known
 pub mod Sayings
