@@ -1,4 +1,8 @@
+pub mod Answered
+pub mod Bounds
+pub mod Directly
 pub mod Drafted
+pub mod Going
 pub mod Joins
 pub mod Known
 pub mod Sayings

@@ -57,12 +57,12 @@ more_none (Say w go) at e = absurd (none_some (sym e))
 -- ---- all of them
 
 went_on : (b : Bool) (f g : Said) (k : Said → Said) → f.room ≡ false → (cond b f g).room ≡ true → cond b f (k g) ≡ k (cond b f g)
-went_on true f g k no h = absurd (false_true (sym no ∙ h))
-went_on false f g k no h = refl
+went_on true f g k lacks h = absurd (false_true (sym lacks ∙ h))
+went_on false f g k lacks h = refl
 
 stood_still : (b : Bool) (f g k : Said) → g.room ≡ true → (cond b f g).room ≡ false → cond b f k ≡ cond b f g
-stood_still true f g k has h = refl
-stood_still false f g k has h = absurd (false_true (sym h ∙ has))
+stood_still true f g k room h = refl
+stood_still false f g k room h = absurd (false_true (sym h ∙ room))
 
 -- after a command that had room
 pub said_on : (d : Desk) (c : ℕ) (s : Script) (t : Said) → has_more s ≡ true → said_one d c s ≡ t → t.room ≡ true → said_all d c s ≡ said_all t.desk c t.left

@@ -1,4 +1,5 @@
 pub mod Bindings
+pub mod Blocks
 pub mod Books
 pub mod Desks
 pub mod Lefts

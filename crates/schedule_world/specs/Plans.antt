@@ -1,5 +1,5 @@
 -- What preparing a plan answers, and which lines are built.
-use Rattle.std.specs.Prelude.{◌≡◌, ℕ, suc, [], Result, Ok, Err, None, Some}
+use Rattle.std.specs.Prelude.{◌≡◌, ◌≤◌, ℕ, suc, length, [], Result, Ok, Err, None, Some}
 use Rattle.place_model.specs.Blocks.{drawn}
 use Rattle.place_model.specs.EnvelopeTexts.{plain_setting}
 use Rattle.place_model.specs.Scripts.{Plan, kind_of, script_of}
@@ -10,15 +10,15 @@ use Rattle.schedule_model.specs.declared.line.Asked.{Asked}
 use Rattle.schedule_model.specs.declared.line.Asked.TheVariants as asked
 use Rattle.schedule_model.specs.declared.line.Line.{Line}
 use Rattle.schedule_model.specs.declared.line.Line.TheVariants as line
-use Rattle.schedule_world.specs.Lefts.{script_left}
+use Rattle.schedule_world.specs.Blocks.{script_left}
 use Rattle.schedule_world.specs.declared.fault.LineFault.{LineFault}
 use Rattle.schedule_world.specs.declared.fault.LineFault.TheVariants.{Bad, Full, Memory}
 use Rattle.schedule_world.specs.declared.plan.Begun.{Begun}
 
--- what is begun is built: a publication to no exchange, a pop, or an acknowledgement
+-- what is begun is built: a publication to no exchange, a pop over 1 to 1,023 queues, or an acknowledgement
 abbrev pub IsBuiltBlock : Asked → Type 0
 IsBuiltBlock (asked.Publish x k p t j) = x ≡ []
-IsBuiltBlock (asked.Pop qs) = Unit {0}
+IsBuiltBlock (asked.Pop qs) = (1 ≤ length qs) × (length qs ≤ 1023)
 IsBuiltBlock (asked.Ack a b) = Unit {0}
 IsBuiltBlock other = ⊥
 

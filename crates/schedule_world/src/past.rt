@@ -41,7 +41,8 @@ impl Past {
     ghost use Rattle.schedule_model.specs.Desk.{Book, first_desk, said_all, said_one, with_call};
     ghost use Rattle.schedule_model.specs.Faults.{has_more};
     ghost use Rattle.schedule_world.specs.Desks.{desk_with};
-    ghost use Rattle.schedule_world.specs.Lefts.{after_answer, commands_left, script_left};
+    ghost use Rattle.schedule_world.specs.Blocks.{commands_left, script_left};
+    ghost use Rattle.schedule_world.specs.Lefts.{after_answer};
 
     /// Nothing happened yet; takes no memory.
     pub(crate) fn new(alloc: Global) -> Past
@@ -105,7 +106,7 @@ impl Past {
         ensures table { (history_of self.new.history).clients ≡ (history_of self.old.history).clients }
     {
         let reply = self.store.apply(alloc, self.moment, client, &words)?;
-        left.took(alloc, &reply.answer)?;
+        left.took(alloc, self.moment, &reply)?;
         let Some(cost) = call_cost(words.as_slice(), &reply) else {
             return Err(AllocError);
         };

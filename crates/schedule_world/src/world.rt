@@ -113,7 +113,7 @@ impl World {
             Book {
                 seed,
                 drawn: 0,
-                left: Left::Over,
+                left: Left::over(),
             },
         )?;
         Ok(())

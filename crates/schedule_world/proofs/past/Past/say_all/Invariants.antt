@@ -3,7 +3,7 @@ use Rattle.std.specs.FinMap.{FinMap}
 use Rattle.std.specs.Ordering.{nat_cmp}
 use Rattle.schedule_model.specs.Desk.{Book, said_all}
 use Rattle.schedule_world.specs.Desks.{desk_with}
-use Rattle.schedule_world.specs.Lefts.{commands_left, script_left}
+use Rattle.schedule_world.specs.Blocks.{commands_left, script_left}
 use Rattle.schedule_world.proofs.past.Past.say_all.Given as goal
 
 -- what is left is said as it was to be, and the table is as it was
