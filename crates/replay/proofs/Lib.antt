@@ -1,2 +1,4 @@
 pub mod Reported
 pub mod Written
+pub mod FirstBytes
+pub mod Shaped

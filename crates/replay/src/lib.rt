@@ -2,9 +2,16 @@
 #![tactic(auto)]
 
 mod entry_text;
+mod history_report;
+mod legend;
 mod note_text;
 mod place_text;
-mod report;
+mod report_lines;
 
-pub use report::report_of;
+pub use history_report::report;
+pub use legend::Celery;
+pub use report_lines::report_of;
 pub use schedule_world::{LineFault, RunFault, World, run_schedule};
+
+#[cfg(test)]
+mod tests;
