@@ -9,3 +9,4 @@ pub mod Sayings
 pub mod Shelved
 pub mod Sizes
 pub mod Sizing
+pub mod Numbered

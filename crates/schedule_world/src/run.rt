@@ -1,9 +1,15 @@
 //! A schedule run from its first line to its last.
 ghost use Rattle.std.specs.Prelude.{◌≡◌, IfOk};
+ghost use Rattle.line_text.specs.Lines.{text_fault};
+ghost use Rattle.line_text.specs.LinesLeft.{lines_left};
 ghost use Rattle.place_model.specs.EnvelopeTexts.{plain_setting};
 ghost use Rattle.place_model.specs.Shown.{history_of};
 ghost use Rattle.place_model.specs.Starts.{IsSound};
-ghost use Rattle.schedule_world.specs.Runs.{IsAnswer, IsEachPlaced};
+ghost use Rattle.schedule_model.specs.Desk.{first_desk};
+ghost use Rattle.schedule_model.specs.Programs.{program_craft};
+ghost use Rattle.schedule_model.specs.Schedules.{header_led, last_led};
+ghost use Rattle.schedule_world.specs.Runs.{IsAnswer, IsEachPlaced, IsHeaderTold, IsRun, fault_at, from_present, numbered_led};
+ghost use Rattle.schedule_world.specs.declared.run.RunFault.TheVariants.{Bad};
 
 use crate::{LineFault, World};
 use line_text::{BadLine, INPUT_LIMIT, LINE_LIMIT, Lines, Reason, line_text};
@@ -28,7 +34,9 @@ pub enum RunFault {
 /// `Bad` with the first bad line; `Full` where a history of 1,000,000 entries, or of costs of 2^30 bytes, was to grow;
 /// `Memory` is want of memory.
 pub fn run_schedule(alloc: Global, bytes: &[u8]) -> Result<History, RunFault>
-    ensures { IsAnswer bytes.now result }
+    ensures answer { IsAnswer bytes.now result }
+    ensures sound { IfOk result (λ h. IsSound plain_setting (history_of h)) }
+    ensures placed { IfOk result (λ h. IsEachPlaced (history_of h)) }
 {
     let is_cut = INPUT_LIMIT < bytes.len();
     let text = if is_cut { &bytes[..INPUT_LIMIT + 1] } else { bytes };
@@ -45,12 +53,14 @@ pub fn run_schedule(alloc: Global, bytes: &[u8]) -> Result<History, RunFault>
 
 /// Why a line is bad.
 fn bad(line: u64, reason: Reason) -> RunFault
+    ensures { result ≡ Bad (record { line = line; reason = reason }) }
 {
     RunFault::Bad(BadLine { line, reason })
 }
 
 /// Why a header is none, where the input may be cut off amid it.
 fn header_fault(is_cut: bool, line: &[u8]) -> Option<Reason>
+    ensures { IsHeaderTold (last_led is_cut (header_led line.now (text_fault 65536 line.now))) result }
 {
     if is_cut {
         return Some(Reason::Long);
@@ -64,6 +74,7 @@ fn header_fault(is_cut: bool, line: &[u8]) -> Option<Reason>
 
 /// The lines after the header, of which the first one stands before the others.
 fn lines_run<'a>(alloc: Global, is_cut: bool, first: Option<(u64, &'a [u8])>, mut lines: Lines<'a>) -> Result<History, RunFault>
+    ensures { IsRun (numbered_led program_craft is_cut first_desk (from_present first (lines_left lines))) result }
 {
     let mut world = World::new(alloc);
     let mut present = first;
@@ -81,6 +92,7 @@ fn lines_run<'a>(alloc: Global, is_cut: bool, first: Option<(u64, &'a [u8])>, mu
 
 /// The fault of a line, as one of the schedule.
 fn run_fault(line: u64, fault: LineFault) -> RunFault
+    ensures { result ≡ fault_at line fault }
 {
     match fault {
         LineFault::Bad(reason) => bad(line, reason),
