@@ -74,7 +74,7 @@ fn header_fault(is_cut: bool, line: &[u8]) -> Option<Reason>
 
 /// The lines after the header, of which the first one stands before the others.
 fn lines_run<'a>(alloc: Global, is_cut: bool, first: Option<(u64, &'a [u8])>, mut lines: Lines<'a>) -> Result<History, RunFault>
-    ensures { IsRun (numbered_led program_craft is_cut first_desk (from_present first (lines_left lines))) result }
+    ensures { IsRun (numbered_led program_craft is_cut first_desk (from_present first.entry (lines_left lines.entry))) result }
 {
     let mut world = World::new(alloc);
     let mut present = first;
