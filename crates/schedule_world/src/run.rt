@@ -1,13 +1,14 @@
 //! A schedule run from its first line to its last.
 ghost use Rattle.std.specs.Prelude.{◌≡◌, IfOk};
-ghost use Rattle.line_text.specs.Lines.{text_fault};
+ghost use Rattle.line_text.specs.Lines.{lines_of, text_fault};
 ghost use Rattle.line_text.specs.LinesLeft.{lines_left};
 ghost use Rattle.place_model.specs.EnvelopeTexts.{plain_setting};
 ghost use Rattle.place_model.specs.Shown.{history_of};
 ghost use Rattle.place_model.specs.Starts.{IsSound};
 ghost use Rattle.schedule_model.specs.Desk.{first_desk};
 ghost use Rattle.schedule_model.specs.Programs.{program_craft};
-ghost use Rattle.schedule_model.specs.Schedules.{header_led, last_led};
+ghost use Rattle.schedule_model.specs.Schedules.{header_led, header_on, last_led};
+ghost use Rattle.schedule_world.specs.Desks.{desk_of};
 ghost use Rattle.schedule_world.specs.Runs.{IsAnswer, IsEachPlaced, IsHeaderTold, IsRun, fault_at, from_present, numbered_led};
 ghost use Rattle.schedule_world.specs.declared.run.RunFault.TheVariants.{Bad};
 
@@ -40,15 +41,23 @@ pub fn run_schedule(alloc: Global, bytes: &[u8]) -> Result<History, RunFault>
 {
     let is_cut = INPUT_LIMIT < bytes.len();
     let text = if is_cut { &bytes[..INPUT_LIMIT + 1] } else { bytes };
+    text_run(alloc, World::new(alloc), is_cut, text)
+}
+
+/// The lines of a text, the header first, taken by a world before its first line.
+fn text_run(alloc: Global, world: World, is_cut: bool, text: &[u8]) -> Result<History, RunFault>
+    requires { desk_of world ≡ first_desk }
+    ensures { IsRun (header_on program_craft is_cut (lines_of text.now)) result }
+{
     let mut lines = Lines::new(text);
-    let Some((number, header)) = lines.next() else {
+    let Some((_, header)) = lines.next() else {
         return Err(bad(1, Reason::Header));
     };
-    let next = lines.next();
-    if let Some(reason) = header_fault(is_cut && next.is_none(), header) {
-        return Err(bad(number, reason));
+    let first = lines.next();
+    if let Some(reason) = header_fault(is_cut && first.is_none(), header) {
+        return Err(bad(1, reason));
     }
-    lines_run(alloc, is_cut, next, lines)
+    lines_run(alloc, world, is_cut, first, lines)
 }
 
 /// Why a line is bad.
@@ -72,11 +81,16 @@ fn header_fault(is_cut: bool, line: &[u8]) -> Option<Reason>
     }
 }
 
-/// The lines after the header, of which the first one stands before the others.
-fn lines_run<'a>(alloc: Global, is_cut: bool, first: Option<(u64, &'a [u8])>, mut lines: Lines<'a>) -> Result<History, RunFault>
-    ensures { IsRun (numbered_led program_craft is_cut first_desk (from_present first.entry (lines_left lines.entry))) result }
+/// The lines from the first one on, which stands before the others, taken by a world.
+fn lines_run<'a>(
+    alloc: Global,
+    mut world: World,
+    is_cut: bool,
+    first: Option<(u64, &'a [u8])>,
+    mut lines: Lines<'a>,
+) -> Result<History, RunFault>
+    ensures { IsRun (numbered_led program_craft is_cut (desk_of world) (from_present first.entry (lines_left lines.entry))) result }
 {
-    let mut world = World::new(alloc);
     let mut present = first;
     while let Some((number, line)) = present {
         present = lines.next();
