@@ -1,5 +1,5 @@
 use Rattle.std.proofs.Common.{sym, ◌∙◌}
-use Rattle.replay.proofs.Drafted.{each_ok}
+use Rattle.schedule_world.proofs.Drafted.{each_ok}
 use Rattle.replay.proofs.Shaped.{from_envelope, past_envelope}
 use Rattle.replay.proofs.legend.shape_of.Goals as goal
 
