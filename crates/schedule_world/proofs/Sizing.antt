@@ -1,0 +1,30 @@
+-- The bytes of a value's bulk strings, and what entries cost.
+use Rattle.std.proofs.Common.{◌≡◌, ◌+◌, ◌≤◌, ℕ, List, [], ◌∷◌, ◌++◌, length, take, refl, sym, ap, ◌∙◌, sum_by, zero-add, arith}
+use Rattle.std.proofs.lemmas.Grind.{common_steps}
+use Rattle.std.proofs.lemmas.List.Sums.{sum-map, sum_by-append}
+use Rattle.resp_wire.specs.declared.value.Value.{Value}
+use Rattle.resp_wire.specs.declared.value.Value.TheFolds.{fold-roll-Value}
+use Rattle.resp_wire.specs.declared.value.Value.TheOpen.{Value-F}
+use Rattle.resp_wire.specs.declared.value.Value.TheVariants.{Array, rolls-Array}
+use Rattle.place_model.specs.declared.heard.Heard.{Heard}
+use Rattle.place_model.specs.declared.history.Entry.{Entry}
+use Rattle.schedule_model.specs.Costs.{bulk_size, bulk_step, cost, total_cost}
+
+-- those of an array are those of its items
+pub bulk_size-array : (items : List Value) → bulk_size (Array items) ≡ sum_by bulk_size items
+bulk_size-array items = ap bulk_size (sym (rolls-Array items)) ∙ (fold-roll-Value ℕ bulk_step (Value-F.Array items) ∙ sum-map bulk_size items)
+
+take_whole : {A : Type 0} (i : ℕ) (xs : List A) → length xs ≤ i → take i xs ≡ xs
+take_whole i xs h = grind (arith, common_steps)
+
+-- those of all items
+pub whole_array : (v : Value) (items found : List Value) (i size : ℕ) → size ≡ sum_by bulk_size (take i found) → length found ≤ i → found ≡ items → v ≡ Array items → size ≡ bulk_size v
+whole_array v items found i size e h f is = e ∙ (ap (sum_by bulk_size) (take_whole i found h) ∙ (ap (sum_by bulk_size) f ∙ (sym (bulk_size-array items) ∙ ap bulk_size (sym is))))
+
+one_cost : (e : Entry Heard) → sum_by cost (e ∷ []) ≡ cost e
+one_cost e = zero-add (cost e)
+
+-- what one more entry makes of the cost
+pub cost_more : (es fs : List (Entry Heard)) (e : Entry Heard) (n m : ℕ) → fs ≡ es ++ e ∷ [] → n ≡ total_cost es → m ≡ cost e → n + m ≡ total_cost fs
+cost_more es fs e n m grown so_far more =
+    ap (λ k. k + m) so_far ∙ (ap (λ k. total_cost es + k) (more ∙ sym (one_cost e)) ∙ (sym (sum_by-append cost es (e ∷ [])) ∙ ap total_cost (sym grown)))

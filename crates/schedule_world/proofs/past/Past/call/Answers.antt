@@ -1,0 +1,28 @@
+use Rattle.std.proofs.Common.{◌≡◌, ◌+◌, rules, arith, ap, sym, ◌∙◌, ◌∷◌, [], ◌++◌}
+use Rattle.std.proofs.lemmas.Grind.{common_steps}
+use Rattle.place_model.specs.Shown.{history_of}
+use Rattle.place_model.specs.declared.history.Entry.TheVariants.{Call}
+use Rattle.schedule_model.specs.Costs.{reply_size, words_size}
+use Rattle.schedule_world.proofs.Going.{still_running}
+use Rattle.schedule_world.proofs.Known.{among}
+use Rattle.schedule_world.proofs.Sayings.{more_next}
+use Rattle.schedule_world.proofs.Sizing.{cost_more}
+use Rattle.schedule_world.specs.Blocks.{script_left}
+use Rattle.schedule_world.proofs.past.Past.call.Goals as goal
+
+pub add-requires : goal.add-requires
+add-requires c = (among c.args.client c.args.self.now.history.clients c.requires.known, c.args.self.now.running c.args.client)
+
+pub took-requires-clause-asked : goal.took-requires-clause-asked
+took-requires-clause-asked c = more_next (script_left c.args.left.now) c.args.self.now.moment c.args.words c.requires.next
+
+pub invariant_of-self-2 : goal.invariant_of-self-2
+invariant_of-self-2 c =
+    let grown : c.add.new.self.entries ≡ c.args.self.now.history.entries ++ Call c.args.client c.args.self.now.moment c.args.words c.in_ok-reply.reply ∷ [] = ap (λ h. h.entries) c.in_ok-add.ensures.ok in
+    let spoken : c.in-Some.cost ≡ 64 + words_size c.args.words + reply_size c.in_ok-reply.reply = c.in-Some.ensures ∙ ap (λ ws. 64 + words_size ws + reply_size c.in_ok-reply.reply) c.as_slice.ensures in
+    let whole : c.in-Some-checked_add.cost ≡ c.args.self.now.cost + c.in-Some.cost = first_of (search rules, grind (arith, common_steps), omega arith) in
+    record {
+      early = c.args.self.now.early;
+      running = still_running c.args.self.now.history.entries c.add.new.self.entries c.args.client c.args.self.now.moment c.args.words c.in_ok-reply.reply grown c.args.self.now.running;
+      costs = whole ∙ cost_more c.args.self.now.history.entries c.add.new.self.entries _ c.args.self.now.cost c.in-Some.cost grown c.args.self.now.costs spoken;
+    }

@@ -1,0 +1,11 @@
+use Rattle.std.proofs.Common.{◌≡◌, sym, ◌∙◌, Some, true}
+use Rattle.place_model.specs.Scripts.{next_words}
+use Rattle.schedule_world.proofs.Sayings.{more_next, said_full, said_next, said_none}
+use Rattle.schedule_world.specs.Blocks.{script_left}
+use Rattle.schedule_world.specs.Desks.{desk_with}
+use Rattle.schedule_world.proofs.past.Past.say_one.Goals as goal
+
+pub returns-clause-said : goal.returns-clause-said
+returns-clause-said c = λ bs.
+    said_next (desk_with c.args.self.now bs) c.args.client (script_left c.args.left.now) c.in-Some.words (sym c.in_ok-words.ensures.words ∙ c.in-Some.is) (sym c.is_full.ensures ∙ c.if-is_full.false)
+    ∙ (λ i. record { desk = sym (c.in_ok-call.ensures.desk bs) i; left = sym c.in_ok-call.ensures.left i; room = true })

@@ -1,0 +1,16 @@
+-- The books of clients, as a reader of schedules has them.
+use Rattle.std.specs.Prelude.{ℕ, false, map}
+use Rattle.std.specs.FinMap.{FinMap, entries, from_entries}
+use Rattle.std.specs.Ordering.{nat_cmp}
+use Rattle.schedule_model.specs.Desk as desk
+use Rattle.schedule_world.specs.Blocks.{script_left}
+use Rattle.schedule_world.specs.Shelves.{Shelf}
+use Rattle.schedule_world.specs.declared.book.Book.{Book}
+
+-- a client's book: it made no passes, and isn't stopped
+abbrev pub book_of : Book → desk.Book
+book_of b = record { seed = b.seed; drawn = b.drawn; passes = 0; left = script_left b.left; stopped = false }
+
+-- the books of all clients
+unfoldable pub books_of : Shelf → FinMap nat_cmp desk.Book
+books_of m = from_entries (map (λ e. (e.0, book_of e.1)) (entries m))

@@ -1,0 +1,15 @@
+-- The books of a schedule's clients as a finite map.
+use Rattle.std.specs.Prelude.{ℕ}
+use Rattle.std.specs.Coded.{Coded, coded_ℕ}
+use Rattle.std.specs.FinMap.{FinMap, code}
+use Rattle.std.specs.Ordering.{nat_cmp}
+use Rattle.schedule_world.specs.declared.book.Book.{Book}
+use Rattle.schedule_world.specs.contracts.book.Book.{the_row as book_row}
+
+-- books by the numbers of their clients
+abbrev pub Shelf : Type 0
+Shelf = FinMap nat_cmp Book
+
+-- they can stand in a model
+abbrev pub shelf_code : Coded Shelf
+shelf_code = code coded_ℕ book_row.coded

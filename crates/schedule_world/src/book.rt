@@ -1,0 +1,93 @@
+//! What is kept of each client.
+ghost use Rattle.std.specs.FinMap as map;
+ghost use Rattle.std.specs.Option.{option_copied};
+ghost use Rattle.std.specs.Prelude.{◌≡◌, OnErr, OnOk};
+ghost use Rattle.schedule_world.specs.Rests.{IsBusy};
+
+use crate::left::Left;
+use line_text::Reason;
+use std::alloc::{AllocError, Global};
+use std::collections::BTreeMap;
+use std::marker::Model;
+
+/// What is kept of a client: its seed, how many tags it drew, and what is left of its block.
+#[derive(Debug, Drop)]
+pub struct Book {
+    /// The seed of its tags.
+    pub seed: u64,
+    /// How many tags it drew.
+    pub drawn: u64,
+    /// What is left of its block.
+    pub left: Left,
+}
+
+/// The clients' books by their numbers, seen by contracts as a finite map.
+#[derive(Debug, Drop)]
+pub struct Books {
+    kept: BTreeMap<u32, Book>,
+}
+
+impl Model for Books {
+    ghost use Rattle.schedule_world.specs.Shelves.{Shelf, shelf_code};
+    ghost use Rattle.std.specs.FinMap as map;
+
+    ghost Value = { Shelf };
+
+    ghost coded = { shelf_code };
+
+    ghost view = { λ b. map.from_entries b.kept.entries };
+}
+
+impl Books {
+    /// No books; takes no memory.
+    pub fn new(alloc: Global) -> Self
+        ensures { result ≡ map.empty }
+    {
+        Books {
+            kept: BTreeMap::new(alloc),
+        }
+    }
+
+    /// A client's book.
+    pub fn get(&self, client: u32) -> Option<&Book>
+        ensures { option_copied result ≡ map.get self.now client }
+    {
+        self.kept.get(&client)
+    }
+
+    /// Takes the book of a client out that has a block to go on with.
+    ///
+    /// # Errors
+    /// `UnknownClient`, `Stopped` since an answer wasn't listed, or `Idle`; then nothing changed.
+    pub fn take_busy(&mut self, client: u32) -> Result<Book, Reason>
+        ensures taken { IsBusy (map.get self.old client) result }
+        ensures kept { OnErr result (self.new ≡ self.old) }
+        ensures removed { OnOk result (self.new ≡ map.remove self.old client) }
+    {
+        let book = self.get(client).ok_or(Reason::UnknownClient)?;
+        if book.left.is_off() {
+            return Err(Reason::Stopped);
+        }
+        if !book.left.has_more() {
+            return Err(Reason::Idle);
+        }
+        self.take(client).ok_or(Reason::UnknownClient)
+    }
+
+    /// Takes a client's book out.
+    fn take(&mut self, client: u32) -> Option<Book>
+        ensures taken { result ≡ map.get self.old client }
+        ensures removed { self.new ≡ map.remove self.old client }
+    {
+        self.kept.remove(&client)
+    }
+
+    /// Sets a client's book; without memory the table is as it was.
+    pub fn set(&mut self, client: u32, book: Book) -> Result<(), AllocError>
+        ensures ok { OnOk result (self.new ≡ map.insert self.old client book) }
+        ensures err { OnErr result (self.new ≡ self.old) }
+    {
+        self.kept.insert(client, book)?;
+        Ok(())
+    }
+}
