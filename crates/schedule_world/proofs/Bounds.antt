@@ -9,7 +9,7 @@ use Rattle.mini_store.specs.Words.{Words}
 use Rattle.place_model.specs.Answers.{items_of, number_of, pair_of}
 use Rattle.place_model.specs.EnvelopeTexts.{plain_setting}
 use Rattle.place_model.specs.Names.{Bytes}
-use Rattle.place_model.specs.Scripts.{Script, Over, Off, Say, end_script, if_told, kept_by, null_array_in, on_done, on_queued, on_two, on_two_numbers, pop_script, popping, publish_script, status_in, told_by}
+use Rattle.place_model.specs.Scripts.{Script, Over, Off, end_script, if_told, kept_by, null_array_in, on_done, on_queued, on_two, pop_script, popping, publish_script, status_in, told_by}
 use Rattle.place_model.specs.Setting.{Setting}
 use Rattle.routes.specs.Publishes.{GoesDirectly}
 use Rattle.unacked.specs.Steps.{begin_left, index_left, run_left, table_left}

@@ -1,6 +1,5 @@
-use Rattle.std.proofs.Common.{◌≡◌, ◌+◌, rules, arith, ap, sym, ◌∙◌, ◌∷◌, [], ◌++◌}
+use Rattle.std.proofs.Common.{◌≡◌, ◌+◌, rules, arith, ap, ◌∙◌, ◌∷◌, [], ◌++◌}
 use Rattle.std.proofs.lemmas.Grind.{common_steps}
-use Rattle.place_model.specs.Shown.{history_of}
 use Rattle.place_model.specs.declared.history.Entry.TheVariants.{Call}
 use Rattle.schedule_model.specs.Costs.{reply_size, words_size}
 use Rattle.schedule_world.proofs.Going.{still_running}
