@@ -1,5 +1,6 @@
 -- The task that a publish line drafts (Celery's message protocol, version 2), and its sealed envelope.
-use Rattle.std.specs.Prelude.{ℕ, ◌&&◌, not, nat_le, if◌then◌else◌, List, length, codes, Option, None, Some, option_and_then, is_some, pos}
+use Rattle.std.specs.Prelude.{ℕ, Bool, ◌&&◌, not, nat_le, if◌then◌else◌, List, length, codes, Option, None, Some, option_and_then, is_some, pos}
+use Rattle.std.specs.Str.{is_utf8}
 use Rattle.base64.specs.Engines.{standard}
 use Rattle.base64.specs.GeneralPurpose.{encode_of}
 use Rattle.serde_json.specs.Data.{Data, null, number, unsigned, string, array, object, no_members, member, no_items, item, depth}
@@ -8,7 +9,7 @@ use Rattle.serde_json.specs.Written.{compact_text, has_float}
 use Rattle.envelope.specs.Envelopes.{json_at, are_short, max_bytes, max_text}
 use Rattle.envelope.specs.Marks.{marked}
 use Rattle.envelope.specs.Sealed.{sealed_tree, sealed_properties, sealed_info}
-use Rattle.envelope.specs.Tags.{tag}
+use Rattle.envelope.specs.Tags.{is_tag, tag}
 use Rattle.place_model.specs.Names.{Bytes}
 
 -- ---- arguments
@@ -60,13 +61,24 @@ task_tree t exchange routing_key priority task args =
 
 -- ---- the seal
 
--- the text of the tree, unless a name or a text is too long
-abbrev pub if_sealed : Bytes → Bytes → Data → Option Bytes
-if_sealed exchange routing_key d =
-    if are_short exchange routing_key && nat_le (length (compact_text d)) max_bytes && nat_le (length (compact_text (marked d))) max_text
-    then Some (compact_text d) else None
+-- whether the names are UTF-8
+abbrev pub are_texts : Bytes → Bytes → Bytes → Bool
+are_texts exchange routing_key task = is_utf8 exchange && is_utf8 routing_key && is_utf8 task
+
+-- whether an envelope can tell these: the names are UTF-8, the tag has a text, and the priority is a byte
+abbrev pub are_told : Bytes → Bytes → Bytes → ℕ → Bytes → Bool
+are_told t exchange routing_key priority task = are_texts exchange routing_key task && is_tag t && nat_le priority 255
+
+-- whether the exchange, the routing key and the texts of the tree are short enough
+abbrev pub are_within : Bytes → Bytes → Data → Bool
+are_within exchange routing_key d = are_short exchange routing_key && nat_le (length (compact_text d)) max_bytes && nat_le (length (compact_text (marked d))) max_text
+
+-- the text of the tree of a task with these arguments, where it can be told and is short enough
+abbrev pub if_sealed : Bytes → Bytes → Bytes → ℕ → Bytes → Data → Option Bytes
+if_sealed t exchange routing_key priority task args =
+    let d = task_tree t exchange routing_key priority task args in
+    if are_told t exchange routing_key priority task && are_within exchange routing_key d then Some (compact_text d) else None
 
 -- the envelope of a task, by the seed and counter of its tag, exchange, routing key, priority, task and arguments
 unfoldable pub sealed_task : ℕ → ℕ → Bytes → Bytes → ℕ → Bytes → Bytes → Option Bytes
-sealed_task s n exchange routing_key priority task j =
-    option_and_then (λ args. if_sealed exchange routing_key (task_tree (tag s n) exchange routing_key priority task args)) (arguments_of j)
+sealed_task s n exchange routing_key priority task j = option_and_then (if_sealed (tag s n) exchange routing_key priority task) (arguments_of j)

@@ -31,8 +31,8 @@ entry_or_tag (Err fault) t = tag_shape t
 
 -- an envelope, or else what it spells besides
 abbrev pub envelope_or : Result Data EnvelopeFault → Shape → Shape
-envelope_or (Ok d) other = envelope_shape d
-envelope_or (Err fault) other = other
+envelope_or (Ok d) rest = envelope_shape d
+envelope_or (Err fault) rest = rest
 
 -- what a word spells
 unfoldable pub shape_of : Bytes → Shape

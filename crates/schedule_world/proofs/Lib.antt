@@ -1,8 +1,11 @@
 pub mod Answered
 pub mod Bounds
 pub mod Directly
+pub mod Drafted
 pub mod Going
+pub mod Joins
 pub mod Known
 pub mod Sayings
 pub mod Shelved
+pub mod Sizes
 pub mod Sizing

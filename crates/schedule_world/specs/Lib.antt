@@ -1,7 +1,12 @@
+pub mod Bindings
 pub mod Blocks
 pub mod Books
 pub mod Desks
 pub mod Lefts
+pub mod Plans
 pub mod Rests
 pub mod Running
+pub mod Runs
 pub mod Shelves
+pub mod Tasks
+pub mod Told

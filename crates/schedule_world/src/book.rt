@@ -2,7 +2,7 @@
 ghost use Rattle.std.specs.FinMap as map;
 ghost use Rattle.std.specs.Option.{option_copied};
 ghost use Rattle.std.specs.Prelude.{◌≡◌, OnErr, OnOk};
-ghost use Rattle.schedule_world.specs.Rests.{IsBusy};
+ghost use Rattle.schedule_world.specs.Rests.{IsBusy, IsResting};
 
 use crate::left::Left;
 use line_text::Reason;
@@ -12,18 +12,15 @@ use std::marker::Model;
 
 /// What is kept of a client: its seed, how many tags it drew, and what is left of its block.
 #[derive(Debug, Drop)]
-pub struct Book {
-    /// The seed of its tags.
-    pub seed: u64,
-    /// How many tags it drew.
-    pub drawn: u64,
-    /// What is left of its block.
-    pub left: Left,
+pub(crate) struct Book {
+    pub(crate) seed: u64,
+    pub(crate) drawn: u64,
+    pub(crate) left: Left,
 }
 
 /// The clients' books by their numbers, seen by contracts as a finite map.
 #[derive(Debug, Drop)]
-pub struct Books {
+pub(crate) struct Books {
     kept: BTreeMap<u32, Book>,
 }
 
@@ -40,7 +37,7 @@ impl Model for Books {
 
 impl Books {
     /// No books; takes no memory.
-    pub fn new(alloc: Global) -> Self
+    pub(crate) fn new(alloc: Global) -> Self
         ensures { result ≡ map.empty }
     {
         Books {
@@ -49,17 +46,34 @@ impl Books {
     }
 
     /// A client's book.
-    pub fn get(&self, client: u32) -> Option<&Book>
+    pub(crate) fn get(&self, client: u32) -> Option<&Book>
         ensures { option_copied result ≡ map.get self.now client }
     {
         self.kept.get(&client)
+    }
+
+    /// The seed of a client that has no block to go on with, and how many tags it drew.
+    ///
+    /// # Errors
+    /// `UnknownClient`, `Stopped` since an answer wasn't listed, or `Busy`.
+    pub(crate) fn resting(&self, client: u32) -> Result<(u64, u64), Reason>
+        ensures { IsResting (map.get self.now client) result }
+    {
+        let book = self.get(client).ok_or(Reason::UnknownClient)?;
+        if book.left.is_off() {
+            return Err(Reason::Stopped);
+        }
+        if book.left.has_more() {
+            return Err(Reason::Busy);
+        }
+        Ok((book.seed, book.drawn))
     }
 
     /// Takes the book of a client out that has a block to go on with.
     ///
     /// # Errors
     /// `UnknownClient`, `Stopped` since an answer wasn't listed, or `Idle`; then nothing changed.
-    pub fn take_busy(&mut self, client: u32) -> Result<Book, Reason>
+    pub(crate) fn take_busy(&mut self, client: u32) -> Result<Book, Reason>
         ensures taken { IsBusy (map.get self.old client) result }
         ensures kept { OnErr result (self.new ≡ self.old) }
         ensures removed { OnOk result (self.new ≡ map.remove self.old client) }
@@ -83,7 +97,7 @@ impl Books {
     }
 
     /// Sets a client's book; without memory the table is as it was.
-    pub fn set(&mut self, client: u32, book: Book) -> Result<(), AllocError>
+    pub(crate) fn set(&mut self, client: u32, book: Book) -> Result<(), AllocError>
         ensures ok { OnOk result (self.new ≡ map.insert self.old client book) }
         ensures err { OnErr result (self.new ≡ self.old) }
     {

@@ -15,7 +15,7 @@ use unacked::{EndCore, PopCore};
 
 /// Which commands are left: none, none since an answer wasn't listed, or those of a core.
 #[derive(Debug, Drop)]
-pub enum Core {
+pub(crate) enum Core {
     Over,
     Off,
     Publish(PublishCore),
@@ -25,7 +25,7 @@ pub enum Core {
 
 /// What is left of a client's block, with how many commands that are at most.
 #[derive(Debug, Drop)]
-pub struct Left {
+pub(crate) struct Left {
     core: Core,
     commands: u8,
     ghost few: { ∥ IsAtMost commands (core_left core) ∥₁ },
@@ -45,7 +45,7 @@ impl Left {
     ghost use Rattle.serde_json.specs.Written.{compact_text};
 
     /// No block.
-    pub fn over() -> Left
+    pub(crate) fn over() -> Left
         ensures { script_left result ≡ Over }
     {
         Left {
@@ -55,7 +55,7 @@ impl Left {
     }
 
     /// A publication of an envelope that goes to its queue directly.
-    pub fn publication(envelope: Envelope) -> Left
+    pub(crate) fn publication(envelope: Envelope) -> Left
         requires { GoesDirectly (data_of envelope) }
         ensures { script_left result ≡ publish_script plain_setting (compact_text (data_of envelope)) }
     {
@@ -66,7 +66,7 @@ impl Left {
     }
 
     /// A pop over queues.
-    pub fn pop(queues: List<QueueName>) -> Left
+    pub(crate) fn pop(queues: List<QueueName>) -> Left
         requires some { 1 ≤ length queues }
         requires few { length queues ≤ 1023 }
         ensures { script_left result ≡ pop_script plain_setting queues }
@@ -78,7 +78,7 @@ impl Left {
     }
 
     /// An acknowledgement of a tag.
-    pub fn acknowledgement(tag: Tag) -> Left
+    pub(crate) fn acknowledgement(tag: Tag) -> Left
         ensures { script_left result ≡ end_script plain_setting (tag_text tag.0) }
     {
         Left {
@@ -88,7 +88,7 @@ impl Left {
     }
 
     /// Whether an answer wasn't listed.
-    pub fn is_off(&self) -> bool
+    pub(crate) fn is_off(&self) -> bool
         ensures { result ≡ is_off (script_left self.now) }
     {
         match &self.core {
@@ -101,7 +101,7 @@ impl Left {
     }
 
     /// Whether there is a command to come.
-    pub fn has_more(&self) -> bool
+    pub(crate) fn has_more(&self) -> bool
         ensures { result ≡ has_more (script_left self.now) }
     {
         match &self.core {
@@ -113,7 +113,7 @@ impl Left {
     }
 
     /// The words of the next command, at this moment. None where none is left.
-    pub fn next(&self, alloc: Global, at: u64) -> Result<Option<Words>, AllocError>
+    pub(crate) fn next(&self, alloc: Global, at: u64) -> Result<Option<Words>, AllocError>
         ensures words { IfOk result (λ words. words ≡ next_words (script_left self.now) at) }
         ensures limits { IfOk result (λ words. IfSome words IsWithinLimits) }
     {
@@ -126,7 +126,7 @@ impl Left {
     }
 
     /// Takes the reply to the next command.
-    pub fn took(&mut self, alloc: Global, at: u64, reply: &Reply) -> Result<(), AllocError>
+    pub(crate) fn took(&mut self, alloc: Global, at: u64, reply: &Reply) -> Result<(), AllocError>
         requires moment { at < 2 ^ 40 }
         requires asked { has_more (script_left self.old) ≡ true }
         ensures left { OnOk result (script_left self.new ≡ after_answer (script_left self.old) reply.now.answer) }

@@ -1,14 +1,26 @@
-//! What a schedule's reader keeps: each client's block as far as it was said, and what happened so far.
+//! Schedules run: lines are read one after the other, and clients' commands go to a store.
 //!
-//! `Past` is the present moment, the history with its running cost, and the store; `Left` is what is left of a client's
-//! block, and `Books` is the table of clients. What a command does is defined by `schedule_model`.
+//! `World` takes the lines after the header, `run_schedule` a whole schedule. What a line leads to is defined by
+//! `schedule_model`.
 #![tactic(auto)]
 
+mod asked;
 mod book;
+mod built;
 mod cost;
+mod fault;
 mod left;
+mod line;
 mod past;
+mod plan;
+mod run;
+mod task;
+#[cfg(test)]
+mod tests;
+mod word;
+mod world;
 
-pub use book::{Book, Books};
-pub use left::{Core, Left};
-pub use past::Past;
+pub use fault::LineFault;
+pub use line::line_of;
+pub use run::{RunFault, run_schedule};
+pub use world::World;

@@ -20,11 +20,11 @@ const COST_LIMIT: u64 = 1 << 30;
 
 /// The present moment in seconds, the history with what its entries cost, and the store that answered.
 #[derive(Debug, Drop)]
-pub struct Past {
-    moment: u64,
-    history: History,
-    cost: u64,
-    store: Store,
+pub(crate) struct Past {
+    pub(crate) moment: u64,
+    pub(crate) history: History,
+    pub(crate) cost: u64,
+    pub(crate) store: Store,
     ghost early: { moment < 2 ^ 40 },
     ghost running: { AreRunning (history_of history).entries },
     ghost costs: { cost ≡ total_cost (history_of history).entries },
@@ -45,7 +45,7 @@ impl Past {
     ghost use Rattle.schedule_world.specs.Lefts.{after_answer};
 
     /// Nothing happened yet; takes no memory.
-    pub fn new(alloc: Global) -> Past
+    pub(crate) fn new(alloc: Global) -> Past
         ensures { desk_with result empty ≡ first_desk }
     {
         Past {
@@ -57,49 +57,49 @@ impl Past {
     }
 
     /// The present moment in seconds.
-    pub fn moment(&self) -> u64
+    pub(crate) fn moment(&self) -> u64
         ensures { result ≡ self.now.moment }
     {
         self.moment
     }
 
     /// What the history's entries cost, in bytes.
-    pub fn cost(&self) -> u64
+    pub(crate) fn cost(&self) -> u64
         ensures { result ≡ total_cost (history_of self.now.history).entries }
     {
         self.cost
     }
 
     /// The history so far.
-    pub fn into_history(self) -> History
+    pub(crate) fn into_history(self) -> History
         ensures { result ≡ self.history }
     {
         self.history
     }
 
     /// How many entries there are.
-    pub fn entry_count(&self) -> u64
+    pub(crate) fn entry_count(&self) -> u64
         ensures { result ≡ length (history_of self.now.history).entries }
     {
         self.history.entries().len() as u64
     }
 
     /// Whether the history may not grow any more.
-    pub fn is_full(&self) -> bool
+    pub(crate) fn is_full(&self) -> bool
         ensures { result ≡ is_full (history_of self.now.history).entries }
     {
         ENTRY_LIMIT <= self.history.entries().len() || COST_LIMIT <= self.cost
     }
 
     /// Whether a client has this number or this seed.
-    pub fn has_client(&self, client: u32, seed: u64) -> bool
+    pub(crate) fn has_client(&self, client: u32, seed: u64) -> bool
         ensures { result ≡ (has_number client (history_of self.now.history).clients || has_seed seed (history_of self.now.history).clients) }
     {
         has_number(self.history.clients(), client) || has_seed(self.history.clients(), seed)
     }
 
     /// Another moment is the present one.
-    pub fn set_moment(&mut self, moment: u64)
+    pub(crate) fn set_moment(&mut self, moment: u64)
         requires { moment < 2 ^ 40 }
         ensures { (bs : FinMap nat_cmp Book) → desk_with self.new bs ≡ record (desk_with self.old bs) { moment = moment } }
     {
@@ -107,7 +107,7 @@ impl Past {
     }
 
     /// Adds a client; without memory nothing changes.
-    pub fn add_client(&mut self, alloc: Global, client: u32, seed: u64) -> Result<(), AllocError>
+    pub(crate) fn add_client(&mut self, alloc: Global, client: u32, seed: u64) -> Result<(), AllocError>
         requires number { has_number client (history_of self.old.history).clients ≡ false }
         requires seed { has_seed seed (history_of self.old.history).clients ≡ false }
         ensures ok { OnOk result ((bs : FinMap nat_cmp Book) → desk_with self.new bs ≡ record (desk_with self.old bs) { clients = (history_of self.old.history).clients ++ (client, seed) ∷ [] }) }
@@ -154,7 +154,7 @@ impl Past {
     }
 
     /// A client says the next command of its block, if there is one. False where the history has no room for it.
-    pub fn say_one(
+    pub(crate) fn say_one(
         &mut self,
         alloc: Global,
         client: u32,
@@ -176,7 +176,7 @@ impl Past {
     }
 
     /// A client says its block to the end. False where the history has no room for all of it.
-    pub fn say_all(
+    pub(crate) fn say_all(
         &mut self,
         alloc: Global,
         client: u32,

@@ -1,0 +1,40 @@
+-- What preparing a plan answers, and which lines are built.
+use Rattle.std.specs.Prelude.{◌≡◌, ◌≤◌, ℕ, suc, length, [], Result, Ok, Err, None, Some}
+use Rattle.place_model.specs.Blocks.{drawn}
+use Rattle.place_model.specs.EnvelopeTexts.{plain_setting}
+use Rattle.place_model.specs.Scripts.{Plan, kind_of, script_of}
+use Rattle.schedule_model.specs.Faults.{asked_tests, first_reason}
+use Rattle.schedule_model.specs.Programs.{program_craft}
+use Rattle.schedule_model.specs.Schedules.{plan_of}
+use Rattle.schedule_model.specs.declared.line.Asked.{Asked}
+use Rattle.schedule_model.specs.declared.line.Asked.TheVariants as asked
+use Rattle.schedule_model.specs.declared.line.Line.{Line}
+use Rattle.schedule_model.specs.declared.line.Line.TheVariants as line
+use Rattle.schedule_world.specs.Blocks.{script_left}
+use Rattle.schedule_world.specs.declared.fault.LineFault.{LineFault}
+use Rattle.schedule_world.specs.declared.fault.LineFault.TheVariants.{Bad, Full, Memory}
+use Rattle.schedule_world.specs.declared.plan.Begun.{Begun}
+
+-- what is begun is built: a publication to no exchange, a pop over 1 to 1,023 queues, or an acknowledgement
+abbrev pub IsBuiltBlock : Asked → Type 0
+IsBuiltBlock (asked.Publish x k p t j) = x ≡ []
+IsBuiltBlock (asked.Pop qs) = (1 ≤ length qs) × (length qs ≤ 1023)
+IsBuiltBlock (asked.Ack a b) = Unit {0}
+IsBuiltBlock other = ⊥
+
+-- the line is built
+abbrev pub IsBuiltLine : Line → Type 0
+IsBuiltLine (line.Begin c a) = IsBuiltBlock a
+IsBuiltLine (line.Stop c) = ⊥
+IsBuiltLine other = Unit {0}
+
+-- what is begun by the plan of a client of this seed that drew n tags
+abbrev pub IsBegun : ℕ → ℕ → Plan → Begun → Type 0
+IsBegun s n p b = (script_left b.left ≡ script_of plain_setting s 0 p) × (b.drawn ≡ drawn (kind_of p) n)
+
+-- an answer to what a client of this seed that drew n tags asks to begin: its plan is begun, or the first of its tests that holds; want of memory may be answered at any time
+abbrev pub IsPrepared : ℕ → ℕ → Asked → Result Begun LineFault → Type 0
+IsPrepared s n a (Ok b) = (first_reason (asked_tests program_craft s (suc n) a) ≡ None) × ((p : Plan) × (plan_of program_craft s (suc n) a ≡ Some p) × IsBegun s n p b)
+IsPrepared s n a (Err (Bad r)) = first_reason (asked_tests program_craft s (suc n) a) ≡ Some r
+IsPrepared s n a (Err (Full m cost)) = ⊥
+IsPrepared s n a (Err Memory) = Unit {0}

@@ -1,0 +1,167 @@
+//! What a client begins, prepared: the tests of the line, and the block's first state.
+ghost use Rattle.std.specs.Prelude.{◌≡◌, ◌≤◌, [], IfOk, length};
+ghost use Rattle.std.specs.List.{list_any};
+ghost use Rattle.place_model.specs.EnvelopeTexts.{plain_setting};
+ghost use Rattle.place_model.specs.Names.{is_reserved};
+ghost use Rattle.place_model.specs.Scripts.{publish_script};
+ghost use Rattle.schedule_model.specs.Faults.{is_no_name};
+ghost use Rattle.schedule_world.specs.Blocks.{script_left};
+ghost use Rattle.schedule_world.specs.Tasks.{envelope_text};
+ghost use Rattle.schedule_model.specs.declared.line.Asked.TheVariants.{Ack, Pop, Publish};
+ghost use Rattle.schedule_world.specs.Plans.{IsBuiltBlock, IsPrepared};
+
+use crate::LineFault;
+use crate::left::Left;
+use crate::task::{Publication, arguments, sealed};
+use envelope::{Envelope, Tag, write};
+use line_text::Reason;
+use place_model::{QueueName, is_name, is_reserved};
+use resp_wire::{Bytes, List, Words};
+use schedule_model::Asked;
+use std::alloc::{AllocError, Global};
+
+/// A block that was begun, and how many tags its client drew by then.
+#[derive(Debug, Drop)]
+pub(crate) struct Begun {
+    pub(crate) left: Left,
+    pub(crate) drawn: u64,
+}
+
+/// What a client of a seed that drew so many tags asks to begin.
+///
+/// # Errors
+/// `Bad` with the first reason that holds; `Memory` is want of memory, or of a tag that the client could draw.
+pub(crate) fn prepared(alloc: Global, seed: u64, drawn: u64, asked: Asked) -> Result<Begun, LineFault>
+    requires { IsBuiltBlock asked }
+    ensures { IsPrepared seed drawn asked result }
+{
+    match asked {
+        Asked::Publish { exchange, routing_key, priority, task, arguments } => {
+            publication(alloc, seed, drawn, &exchange, &routing_key, priority, &task, &arguments)
+        }
+        Asked::Pop { queues } => popping(alloc, seed, drawn, &queues),
+        Asked::Ack { seed: of, counter } => acknowledging(seed, drawn, of, counter),
+        Asked::Declare { .. }
+        | Asked::Undeclare { .. }
+        | Asked::Restore { .. }
+        | Asked::Requeue { .. }
+        | Asked::Pass { .. } => unreachable!(),
+    }
+}
+
+/// A publication on the empty exchange.
+fn publication(
+    alloc: Global,
+    seed: u64,
+    drawn: u64,
+    exchange: &Bytes,
+    routing_key: &Bytes,
+    priority: u8,
+    task: &Bytes,
+    text: &Bytes,
+) -> Result<Begun, LineFault>
+    requires { exchange.now ≡ [] }
+    ensures { IsPrepared seed drawn (Publish exchange.now routing_key.now priority task.now text.now) result }
+{
+    if is_no_name(routing_key) {
+        return Err(LineFault::Bad(Reason::Name));
+    }
+    if is_reserved(routing_key.as_slice()) {
+        return Err(LineFault::Bad(Reason::Reserved));
+    }
+    let Some(tree) = arguments(alloc, text.as_slice())? else {
+        return Err(LineFault::Bad(Reason::Json));
+    };
+    let Some(counter) = drawn.checked_add(1) else {
+        return Err(LineFault::Memory);
+    };
+    let asked = Publication {
+        exchange: exchange.as_slice(),
+        routing_key: routing_key.as_slice(),
+        priority,
+        task: task.as_slice(),
+    };
+    let Some(envelope) = sealed(alloc, seed, counter, &asked, &tree)? else {
+        return Err(LineFault::Bad(Reason::Task));
+    };
+    let left = sent(alloc, envelope)?;
+    Ok(Begun {
+        left,
+        drawn: counter,
+    })
+}
+
+/// An envelope on its way to its queue.
+fn sent(alloc: Global, envelope: Envelope) -> Result<Left, AllocError>
+    ensures { IfOk result (λ left. script_left left ≡ publish_script plain_setting (envelope_text envelope)) }
+{
+    let _text = write(alloc, &envelope)?;
+    if !envelope.exchange().is_empty() || !is_name(envelope.routing_key()) {
+        return Err(AllocError);
+    }
+    Ok(Left::publication(envelope))
+}
+
+/// A pop over queues.
+fn popping(alloc: Global, seed: u64, drawn: u64, queues: &Words) -> Result<Begun, LineFault>
+    requires some { 1 ≤ length queues.now }
+    requires few { length queues.now ≤ 1023 }
+    ensures { IsPrepared seed drawn (Pop queues.now) result }
+{
+    if has_no_name(queues.as_slice()) {
+        return Err(LineFault::Bad(Reason::Name));
+    }
+    if has_reserved(queues.as_slice()) {
+        return Err(LineFault::Bad(Reason::Reserved));
+    }
+    let names = queue_names(alloc, queues.as_slice())?;
+    Ok(Begun {
+        left: Left::pop(names),
+        drawn,
+    })
+}
+
+/// An acknowledgement of a tag.
+fn acknowledging(seed: u64, drawn: u64, of: u64, counter: u64) -> Result<Begun, LineFault>
+    ensures { IsPrepared seed drawn (Ack of counter) result }
+{
+    Ok(Begun {
+        left: Left::acknowledgement(Tag::of(of, counter)),
+        drawn,
+    })
+}
+
+/// Whether the name of a queue isn't lawful, where reserved names are looked at later.
+fn is_no_name(name: &Bytes) -> bool
+    ensures { result ≡ is_no_name name.now }
+{
+    !is_name(name.as_slice()) && !is_reserved(name.as_slice())
+}
+
+/// Whether one of the names isn't lawful, where reserved names are looked at later.
+fn has_no_name(names: &[Bytes]) -> bool
+    ensures { result ≡ list_any is_no_name names.now }
+{
+    names.iter().any(|name| is_no_name(name))
+}
+
+/// Whether one of the names is kept for another key.
+fn has_reserved(names: &[Bytes]) -> bool
+    ensures { result ≡ list_any is_reserved names.now }
+{
+    names.iter().any(|name| is_reserved(name.as_slice()))
+}
+
+/// The names of queues, as names.
+fn queue_names(alloc: Global, names: &[Bytes]) -> Result<List<QueueName>, AllocError>
+    ensures { IfOk result (λ made. made ≡ names.now) }
+{
+    let mut made = List::new();
+    for name in names {
+        match QueueName::new(alloc, name.as_slice()) {
+            Ok(queue) => made.push(alloc, queue)?,
+            Err(_) => return Err(AllocError),
+        }
+    }
+    Ok(made)
+}

@@ -1,0 +1,183 @@
+//! The world of a schedule: its clients, their blocks, and what happened so far.
+ghost use Rattle.place_model.specs.Shown.{history_of};
+ghost use Rattle.schedule_world.specs.Running.{AreKnown};
+
+use crate::LineFault;
+use crate::book::{Book, Books};
+use crate::built::waits;
+use crate::left::Left;
+use crate::line::line_of;
+use crate::past::Past;
+use crate::plan::prepared;
+use line_text::{LINE_LIMIT, MOMENT_LIMIT, Reason, line_text, words};
+use place_model::History;
+use schedule_model::{Asked, Line};
+use std::alloc::Global;
+
+/// A schedule being taken line by line: contracts see the desk of its reader.
+///
+/// After want of memory the world is spent: what its desk is then isn't told.
+#[derive(Debug, Drop)]
+pub struct World {
+    past: Past,
+    books: Books,
+    ghost known: { AreKnown books (history_of past.history).clients },
+}
+
+impl World {
+    ghost use Rattle.std.specs.Prelude.{◌≡◌, Some};
+    ghost use Rattle.line_text.specs.Words.{words_of};
+    ghost use Rattle.schedule_model.specs.Desk.{first_desk};
+    ghost use Rattle.schedule_model.specs.Programs.{program_craft};
+    ghost use Rattle.schedule_model.specs.Schedules.{led_by, line_led, words_led};
+    ghost use Rattle.schedule_model.specs.Schedules as schedules;
+    ghost use Rattle.schedule_model.specs.declared.line.Line.TheVariants.{At, Begin, Client, Run, Step};
+    ghost use Rattle.schedule_world.specs.Desks.{desk_of};
+    ghost use Rattle.schedule_world.specs.Plans.{IsBuiltBlock, IsBuiltLine};
+    ghost use Rattle.schedule_world.specs.Told.{IsRoom, IsTold};
+
+    /// A world before its first line; takes no memory.
+    pub fn new(alloc: Global) -> World
+        ensures { desk_of result ≡ first_desk }
+    {
+        World {
+            past: Past::new(alloc),
+            books: Books::new(alloc),
+        }
+    }
+
+    /// Takes a line after the header, without its line feed.
+    ///
+    /// # Errors
+    /// `Bad` with the first reason that holds of the line; then nothing changed. `Full` where the history was to grow
+    /// past a limit: 1,000,000 entries, or 2^30 bytes of cost; then it stands as it is. `Memory` is want of memory; the
+    /// world is spent from then on.
+    pub fn line(&mut self, alloc: Global, text: &[u8]) -> Result<(), LineFault>
+        ensures { IsTold (line_led program_craft (desk_of self.old) text.now) (desk_of self.old) (desk_of self.new) result }
+    {
+        match line_text(LINE_LIMIT, text) {
+            Ok(line) => self.spoken_line(alloc, line),
+            Err(reason) => Err(LineFault::Bad(reason)),
+        }
+    }
+
+    /// The history so far.
+    pub fn into_history(self) -> History
+        ensures { history_of result ≡ schedules.history_of (desk_of self) }
+    {
+        self.past.history
+    }
+
+    /// Takes the words of a line.
+    fn spoken_line(&mut self, alloc: Global, line: &str) -> Result<(), LineFault>
+        ensures { IsTold (words_led program_craft (desk_of self.old) (words_of line.now)) (desk_of self.old) (desk_of self.new) result }
+    {
+        let words = words(alloc, line)?;
+        if waits(words.as_slice()) {
+            return Err(LineFault::Bad(Reason::Later));
+        }
+        match line_of(alloc, words.as_slice())? {
+            Some(line) => self.built_line(alloc, line),
+            None => Err(LineFault::Bad(Reason::Syntax)),
+        }
+    }
+
+    /// Takes a line that is built.
+    fn built_line(&mut self, alloc: Global, line: Line) -> Result<(), LineFault>
+        requires { IsBuiltLine line }
+        ensures { IsTold (led_by program_craft (desk_of self.old) (Some line)) (desk_of self.old) (desk_of self.new) result }
+    {
+        match line {
+            Line::Client { client, seed } => self.client_line(alloc, client, seed),
+            Line::At { moment } => self.at_line(moment),
+            Line::Begin { client, asked } => self.begin_line(alloc, client, asked),
+            Line::Step { client } => self.step_line(alloc, client),
+            Line::Run { client } => self.run_line(alloc, client),
+            Line::Stop { .. } => unreachable!(),
+        }
+    }
+
+    /// A client more.
+    fn client_line(&mut self, alloc: Global, client: u32, seed: u64) -> Result<(), LineFault>
+        ensures { IsTold (led_by program_craft (desk_of self.old) (Some (Client client seed))) (desk_of self.old) (desk_of self.new) result }
+    {
+        if let Some(book) = self.books.get(client) && book.left.is_off() {
+            return Err(LineFault::Bad(Reason::Stopped));
+        }
+        if self.past.has_client(client, seed) {
+            return Err(LineFault::Bad(Reason::Repeated));
+        }
+        self.past.add_client(alloc, client, seed)?;
+        self.books.set(
+            client,
+            Book {
+                seed,
+                drawn: 0,
+                left: Left::over(),
+            },
+        )?;
+        Ok(())
+    }
+
+    /// Another moment.
+    fn at_line(&mut self, moment: u64) -> Result<(), LineFault>
+        ensures { IsTold (led_by program_craft (desk_of self.old) (Some (At moment))) (desk_of self.old) (desk_of self.new) result }
+    {
+        if MOMENT_LIMIT <= moment || moment < self.past.moment {
+            return Err(LineFault::Bad(Reason::Moment));
+        }
+        self.past.set_moment(moment);
+        Ok(())
+    }
+
+    /// A client begins a block.
+    fn begin_line(&mut self, alloc: Global, client: u32, asked: Asked) -> Result<(), LineFault>
+        requires { IsBuiltBlock asked }
+        ensures { IsTold (led_by program_craft (desk_of self.old) (Some (Begin client asked))) (desk_of self.old) (desk_of self.new) result }
+    {
+        let (seed, drawn) = self.books.resting(client)?;
+        let begun = prepared(alloc, seed, drawn, asked)?;
+        self.books.set(
+            client,
+            Book {
+                seed,
+                drawn: begun.drawn,
+                left: begun.left,
+            },
+        )?;
+        Ok(())
+    }
+
+    /// A client's next command.
+    fn step_line(&mut self, alloc: Global, client: u32) -> Result<(), LineFault>
+        ensures { IsTold (led_by program_craft (desk_of self.old) (Some (Step client))) (desk_of self.old) (desk_of self.new) result }
+    {
+        let mut book = self.books.take_busy(client)?;
+        let has_room = self.past.say_one(alloc, client, &mut book.left)?;
+        self.books.set(client, book)?;
+        self.room_or_full(has_room)
+    }
+
+    /// A client's commands to the end of its block.
+    fn run_line(&mut self, alloc: Global, client: u32) -> Result<(), LineFault>
+        ensures { IsTold (led_by program_craft (desk_of self.old) (Some (Run client))) (desk_of self.old) (desk_of self.new) result }
+    {
+        let mut book = self.books.take_busy(client)?;
+        let has_room = self.past.say_all(alloc, client, &mut book.left)?;
+        self.books.set(client, book)?;
+        self.room_or_full(has_room)
+    }
+
+    /// Nothing, or that the history is full.
+    fn room_or_full(&self, has_room: bool) -> Result<(), LineFault>
+        ensures { IsRoom (desk_of self.now) has_room result }
+    {
+        if has_room {
+            return Ok(());
+        }
+        Err(LineFault::Full {
+            entries: self.past.entry_count(),
+            bytes: self.past.cost,
+        })
+    }
+}
