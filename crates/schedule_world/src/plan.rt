@@ -33,13 +33,33 @@ pub(crate) struct Begun {
 ///
 /// # Errors
 /// `Bad` with the first reason that holds; `Memory` is want of memory, or of a tag that the client could draw.
-pub(crate) fn prepared(alloc: Global, seed: u64, drawn: u64, asked: Asked) -> Result<Begun, LineFault>
+pub(crate) fn prepared(
+    alloc: Global,
+    seed: u64,
+    drawn: u64,
+    asked: Asked,
+) -> Result<Begun, LineFault>
     requires { IsBuiltBlock asked }
     ensures { IsPrepared seed drawn asked result }
 {
     match asked {
-        Asked::Publish { exchange, routing_key, priority, task, arguments } => {
-            publication(alloc, seed, drawn, &exchange, &routing_key, priority, &task, &arguments)
+        Asked::Publish {
+            exchange,
+            routing_key,
+            priority,
+            task,
+            arguments,
+        } => {
+            publication(
+                alloc,
+                seed,
+                drawn,
+                &exchange,
+                &routing_key,
+                priority,
+                &task,
+                &arguments,
+            )
         }
         Asked::Pop { queues } => popping(alloc, seed, drawn, &queues),
         Asked::Ack { seed: of, counter } => acknowledging(seed, drawn, of, counter),
@@ -176,8 +196,9 @@ fn queue_name(alloc: Global, name: &[u8]) -> Result<QueueName, AllocError>
     match QueueName::new(alloc, name) {
         Ok(queue) => Ok(queue),
         Err(NameFault::Memory) => Err(AllocError),
-        Err(NameFault::Empty) | Err(NameFault::Long) | Err(NameFault::Byte(_)) | Err(NameFault::Reserved) => {
-            unreachable!()
-        }
+        Err(NameFault::Empty)
+        | Err(NameFault::Long)
+        | Err(NameFault::Byte(_))
+        | Err(NameFault::Reserved) => { unreachable!() }
     }
 }

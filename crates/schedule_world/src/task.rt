@@ -141,7 +141,9 @@ fn text_of(bytes: &[u8]) -> &str
 fn content_of(alloc: Global, args: &str) -> Result<String, AllocError>
     ensures { IfOk result (λ text. string_bytes text ≡ content_around args.now) }
 {
-    format!(in alloc; "[{args},{{}},{{\"callbacks\":null,\"chain\":null,\"chord\":null,\"errbacks\":null}}]")
+    format!(in alloc;
+        "[{args},{{}},{{\"callbacks\":null,\"chain\":null,\"chord\":null,\"errbacks\":null}}]"
+    )
 }
 
 /// The bytes of a text.
