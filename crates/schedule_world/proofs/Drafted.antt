@@ -118,7 +118,8 @@ envelope_texts : (made : Option Envelope) → option_map envelope_text made ≡ 
 envelope_texts None = refl
 envelope_texts (Some e) = refl
 
-text_of_tag : (s n : ℕ) → s < 2 ^ 64 → n < 2 ^ 64 → tag_text (tag_number s n) ≡ tag s n
+-- the text of a tag of 64 bits each
+pub text_of_tag : (s n : ℕ) → s < 2 ^ 64 → n < 2 ^ 64 → tag_text (tag_number s n) ≡ tag s n
 text_of_tag s n a b =
     let c : nat_lt s (2 ^ 64) ≡ true = grind (arith, nat_tests) in
     let d : nat_lt n (2 ^ 64) ≡ true = grind (arith, nat_tests) in

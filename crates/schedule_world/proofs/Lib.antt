@@ -5,6 +5,8 @@ pub mod Drafted
 pub mod Going
 pub mod Joins
 pub mod Known
+pub mod Named
+pub mod Prepared
 pub mod Sayings
 pub mod Shelved
 pub mod Sizes

@@ -1,5 +1,5 @@
 -- Whether a client may begin a block, or go on with one.
-use Rattle.std.specs.Prelude.{◌≡◌, ℕ, false, true, not, List, [], ◌∷◌, ◌++◌, Option, None, Some, option_map, Result, Ok, Err}
+use Rattle.std.specs.Prelude.{◌≡◌, ℕ, false, not, List, [], ◌∷◌, ◌++◌, Option, None, Some, option_map, Result, Ok, Err}
 use Rattle.line_text.specs.declared.reason.Reason.{Reason}
 use Rattle.line_text.specs.declared.reason.Reason.TheVariants.{Busy, Idle}
 use Rattle.schedule_model.specs.Faults.{Test, first_reason, has_more, is_busy, is_off, present_tests}

@@ -3,6 +3,7 @@ use Rattle.std.specs.Prelude.{◌≡◌, ◌≤◌, ℕ, pos, ◌++◌, codes, f
 use Rattle.serde_json.specs.Data.{Data}
 use Rattle.serde_json.specs.View.{view as data_of}
 use Rattle.serde_json.specs.Written.{compact_text, has_float}
+use Rattle.envelope.specs.Envelopes.{parts_in}
 use Rattle.envelope.specs.declared.envelope.Envelope.{Envelope}
 use Rattle.envelope.specs.declared.sealing.Draft.{Draft}
 use Rattle.place_model.specs.Names.{Bytes}
@@ -26,3 +27,8 @@ pub record IsDraftOf (t exchange routing_key : Bytes) (priority : ℕ) (task : B
   pub routing_key_is : draft.routing_key ≡ routing_key
   pub priority_is : draft.priority ≡ pos priority
   pub is_byte : priority ≤ 255
+
+-- the tree of an envelope names this exchange and this routing key
+pub record Names (exchange routing_key : Bytes) (d : Data) : Type 0 where
+  pub exchange_is : (parts_in d).exchange ≡ exchange
+  pub routing_key_is : (parts_in d).routing_key ≡ routing_key

@@ -1,8 +1,10 @@
 //! What a client begins, prepared: the tests of the line, and the block's first state.
-ghost use Rattle.std.specs.Prelude.{◌≡◌, ◌≤◌, [], IfOk, length};
-ghost use Rattle.std.specs.List.{list_any};
+ghost use Rattle.std.specs.Prelude.{◌≡◌, ◌≤◌, [], IfOk, length, true};
+ghost use Rattle.std.specs.List.{list_all, list_any};
+ghost use Rattle.serde_json.specs.View.{view as data_of};
+ghost use Rattle.envelope.specs.Envelopes.{parts_in};
 ghost use Rattle.place_model.specs.EnvelopeTexts.{plain_setting};
-ghost use Rattle.place_model.specs.Names.{is_reserved};
+ghost use Rattle.place_model.specs.Names.{is_name, is_reserved};
 ghost use Rattle.place_model.specs.Scripts.{publish_script};
 ghost use Rattle.schedule_model.specs.Faults.{is_no_name};
 ghost use Rattle.schedule_world.specs.Blocks.{script_left};
@@ -15,7 +17,7 @@ use crate::left::Left;
 use crate::task::{Publication, arguments, sealed};
 use envelope::{Envelope, Tag, write};
 use line_text::Reason;
-use place_model::{QueueName, is_name, is_reserved};
+use place_model::{NameFault, QueueName, is_name, is_reserved};
 use resp_wire::{Bytes, List, Words};
 use schedule_model::Asked;
 use std::alloc::{AllocError, Global};
@@ -31,13 +33,33 @@ pub(crate) struct Begun {
 ///
 /// # Errors
 /// `Bad` with the first reason that holds; `Memory` is want of memory, or of a tag that the client could draw.
-pub(crate) fn prepared(alloc: Global, seed: u64, drawn: u64, asked: Asked) -> Result<Begun, LineFault>
+pub(crate) fn prepared(
+    alloc: Global,
+    seed: u64,
+    drawn: u64,
+    asked: Asked,
+) -> Result<Begun, LineFault>
     requires { IsBuiltBlock asked }
     ensures { IsPrepared seed drawn asked result }
 {
     match asked {
-        Asked::Publish { exchange, routing_key, priority, task, arguments } => {
-            publication(alloc, seed, drawn, &exchange, &routing_key, priority, &task, &arguments)
+        Asked::Publish {
+            exchange,
+            routing_key,
+            priority,
+            task,
+            arguments,
+        } => {
+            publication(
+                alloc,
+                seed,
+                drawn,
+                &exchange,
+                &routing_key,
+                priority,
+                &task,
+                &arguments,
+            )
         }
         Asked::Pop { queues } => popping(alloc, seed, drawn, &queues),
         Asked::Ack { seed: of, counter } => acknowledging(seed, drawn, of, counter),
@@ -72,6 +94,7 @@ fn publication(
     let Some(tree) = arguments(alloc, text.as_slice())? else {
         return Err(LineFault::Bad(Reason::Json));
     };
+    // No history has room for 2^64 tags.
     let Some(counter) = drawn.checked_add(1) else {
         return Err(LineFault::Memory);
     };
@@ -93,12 +116,12 @@ fn publication(
 
 /// An envelope on its way to its queue.
 fn sent(alloc: Global, envelope: Envelope) -> Result<Left, AllocError>
+    requires exchange { (parts_in (data_of envelope)).exchange ≡ [] }
+    requires queue { is_name (parts_in (data_of envelope)).routing_key ≡ true }
     ensures { IfOk result (λ left. script_left left ≡ publish_script plain_setting (envelope_text envelope)) }
 {
+    // What is written is read again as the same tree.
     let _text = write(alloc, &envelope)?;
-    if !envelope.exchange().is_empty() || !is_name(envelope.routing_key()) {
-        return Err(AllocError);
-    }
     Ok(Left::publication(envelope))
 }
 
@@ -154,14 +177,28 @@ fn has_reserved(names: &[Bytes]) -> bool
 
 /// The names of queues, as names.
 fn queue_names(alloc: Global, names: &[Bytes]) -> Result<List<QueueName>, AllocError>
+    requires { list_all is_name names.now ≡ true }
     ensures { IfOk result (λ made. made ≡ names.now) }
 {
     let mut made = List::new();
     for name in names {
-        match QueueName::new(alloc, name.as_slice()) {
-            Ok(queue) => made.push(alloc, queue)?,
-            Err(_) => return Err(AllocError),
-        }
+        let queue = queue_name(alloc, name.as_slice())?;
+        made.push(alloc, queue)?;
     }
     Ok(made)
+}
+
+/// The lawful name of a queue, as a name.
+fn queue_name(alloc: Global, name: &[u8]) -> Result<QueueName, AllocError>
+    requires { is_name name.now ≡ true }
+    ensures { IfOk result (λ made. made ≡ name.now) }
+{
+    match QueueName::new(alloc, name) {
+        Ok(queue) => Ok(queue),
+        Err(NameFault::Memory) => Err(AllocError),
+        Err(NameFault::Empty)
+        | Err(NameFault::Long)
+        | Err(NameFault::Byte(_))
+        | Err(NameFault::Reserved) => { unreachable!() }
+    }
 }

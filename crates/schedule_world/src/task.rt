@@ -1,5 +1,5 @@
 //! The task that a publish line drafts, and its sealed envelope (Celery's message protocol, version 2).
-ghost use Rattle.std.specs.Prelude.{◌≡◌, IfOk, IsUtf8, Some, option_map, string_bytes};
+ghost use Rattle.std.specs.Prelude.{◌≡◌, IfOk, IfSome, IsUtf8, Some, option_map, string_bytes};
 ghost use Rattle.std.specs.Result.{result_ok};
 ghost use Rattle.std.specs.Str.{is_utf8};
 ghost use Rattle.serde_json.specs.Data.{Data};
@@ -9,7 +9,7 @@ ghost use Rattle.envelope.specs.Sealed.{seal_of};
 ghost use Rattle.envelope.specs.Tags.{tag_text};
 ghost use Rattle.place_model.specs.Names.{Bytes};
 ghost use Rattle.schedule_model.specs.Drafts.{are_texts, arguments_of, headers_tree, if_arguments, sealed_task};
-ghost use Rattle.schedule_world.specs.Tasks.{IsDraftOf, content_around, envelope_text};
+ghost use Rattle.schedule_world.specs.Tasks.{IsDraftOf, Names, content_around, envelope_text};
 
 use envelope::walk::{holds_float, nests_within};
 use envelope::{Draft, Envelope, EnvelopeFault, Tag, Tree, seal};
@@ -69,9 +69,11 @@ pub(crate) fn sealed(
     arguments: &Tree,
 ) -> Result<Option<Envelope>, AllocError>
     // Whatever text spells the arguments.
-    ensures { IfOk result (λ made. (j : Bytes) → arguments_of j ≡ Some (data_of arguments.now)
+    ensures text { IfOk result (λ made. (j : Bytes) → arguments_of j ≡ Some (data_of arguments.now)
         → option_map envelope_text made ≡ sealed_task seed counter
         asked.now.exchange.now asked.now.routing_key.now asked.now.priority asked.now.task.now j) }
+    ensures names { IfOk result (λ made. IfSome made (λ e.
+        Names asked.now.exchange.now asked.now.routing_key.now (data_of e))) }
 {
     if !are_texts(asked) {
         return Ok(None);
@@ -178,10 +180,16 @@ fn sealed_draft(alloc: Global, draft: &Draft, tag: Tag) -> Result<Option<Envelop
     requires id { IsUtf8 draft.now.id }
     requires exchange { IsUtf8 draft.now.exchange }
     requires routing_key { IsUtf8 draft.now.routing_key }
-    ensures { IfOk result (λ made. option_map data_of made ≡ result_ok (seal_of draft.now tag.0)) }
+    ensures tree { IfOk result (λ made. option_map data_of made ≡ result_ok (seal_of draft.now tag.0)) }
+    ensures names { IfOk result (λ made. IfSome made (λ e.
+        Names draft.now.exchange draft.now.routing_key (data_of e))) }
 {
     match seal(alloc, draft, tag) {
-        Ok(envelope) => Ok(Some(envelope)),
+        Ok(envelope) => {
+            // Each envelope's tree is one that can be read.
+            let _tree = envelope.tree();
+            Ok(Some(envelope))
+        }
         Err(EnvelopeFault::Memory) => Err(AllocError),
         Err(_) => Ok(None),
     }

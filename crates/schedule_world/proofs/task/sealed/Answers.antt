@@ -3,10 +3,11 @@ use Rattle.std.specs.Prelude.{IsUtf8}
 use Rattle.serde_json.specs.View.{view as data_of}
 use Rattle.envelope.proofs.TagTexts.{tag_ascii}
 use Rattle.schedule_world.proofs.Drafted.{each_ok, sealed_is, texts_are, unsealed}
+use Rattle.schedule_world.proofs.Named.{each_some, same_names}
 use Rattle.schedule_world.proofs.task.sealed.Goals as goal
 
-pub returns-then-not-are_texts : goal.returns-then-not-are_texts
-returns-then-not-are_texts c = λ j spells.
+pub returns-then-not-are_texts-clause-text : goal.returns-then-not-are_texts-clause-text
+returns-then-not-are_texts-clause-text c = λ j spells.
     let a = c.args.asked.now in
     unsealed c.args.seed c.args.counter a.exchange.now a.routing_key.now a.priority a.task.now j (data_of c.args.arguments.now) (sym c.if-not-are_texts.ensures) spells
 
@@ -24,10 +25,17 @@ pub sealed_draft-requires-clause-routing_key : goal.sealed_draft-requires-clause
 sealed_draft-requires-clause-routing_key c =
     let a = c.args.asked.now in subst IsUtf8 (sym c.in_ok-draft.ensures.routing_key_is) (texts_are a.exchange.now a.routing_key.now a.task.now (sym c.if-not-are_texts.ensures)).1
 
-pub returns : goal.returns
-returns c =
+pub returns-clause-text : goal.returns-clause-text
+returns-clause-text c =
     let a = c.args.asked.now in
     each_ok _ _
     (λ made h j spells. sealed_is c.args.seed c.args.counter c.of-tag.result.0 a.exchange.now a.routing_key.now a.priority a.task.now j (data_of c.args.arguments.now) c.in_ok-draft.draft
     made c.of-tag.ensures c.ranges.seed.fits c.ranges.counter.fits c.in_ok-draft.ensures.is_byte (sym c.if-not-are_texts.ensures) spells c.in_ok-draft.ensures h)
-    c.sealed_draft.result c.sealed_draft.ensures
+    c.sealed_draft.result c.sealed_draft.ensures.tree
+
+pub returns-clause-names : goal.returns-clause-names
+returns-clause-names c =
+    let a = c.args.asked.now in
+    each_ok _ _
+    (λ made h. each_some _ _ (λ e n. same_names c.in_ok-draft.draft.exchange a.exchange.now c.in_ok-draft.draft.routing_key a.routing_key.now (data_of e) c.in_ok-draft.ensures.exchange_is c.in_ok-draft.ensures.routing_key_is n) made h)
+    c.sealed_draft.result c.sealed_draft.ensures.names
