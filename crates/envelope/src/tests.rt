@@ -558,6 +558,11 @@ fn entries_are_read_and_written(rt: HostRuntime) -> Result<(), Fail> {
     for (before, after, fault) in arrays() {
         assert_eq!(rt; fault_within(alloc, before, after)?, *fault, "{after}");
     }
+    let longest = repeated(alloc, "a", 1_048_576, "")?;
+    assert_eq!(rt;
+        entry_fault(alloc, longest.as_str()),
+        Some(EnvelopeFault::NotJson)
+    );
     let long = repeated(alloc, "a", 1_048_577, "")?;
     assert_eq!(rt;
         entry_fault(alloc, long.as_str()),

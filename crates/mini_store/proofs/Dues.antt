@@ -7,9 +7,9 @@ use Rattle.std.specs.Map.{keys_of}
 use Rattle.std.specs.declared.cmp.Ordering.TheVariants.{Less, Equal, Greater}
 use Rattle.std.specs.Ordering.{eq_by_cmp, is_eq, is_lt}
 use Rattle.std.specs.declared.cmp.Ordering.{Ordering}
-use Rattle.std.specs.Cmp.{eq_by_cmp_equiv}
+use Rattle.std.specs.Cmp.{IsTotalOrder, eq_by_cmp_equiv}
 use Rattle.std.specs.Cmp.Lexicographic.{texts_ties}
-use Rattle.std.specs.FinMap.{FinMap, get, entries, entries_sorted, same_entries_map, from_entries, same_map, get-from_entries, get-retain_keys}
+use Rattle.std.specs.FinMap.{FinMap, IsAntisymmetric, get, entries, entries_sorted, same_entries_map, from_entries, same_map, get-from_entries, get-retain_keys}
 use Rattle.std.specs.FinMap.Entries.{find, below_all, is_sorted}
 use Rattle.resp_wire.specs.Order.{bytes_cmp}
 use Rattle.store_tables.proofs.Maps.{bytes_total, bytes_anti, entries_made}
@@ -77,7 +77,7 @@ live_made at es h =
 
 -- ---- marks
 
-any_false : {A : Type 0} (ws : List A) → list_any (λ w. false) ws ≡ false
+pub any_false : {A : Type 0} (ws : List A) → list_any (λ w. false) ws ≡ false
 any_false [] = refl
 any_false (w ∷ ws) = any_false ws
 
@@ -95,7 +95,7 @@ any_swap : (ks ws : List Bytes) → list_any (λ k. list_any (bytes_eq k) ws) ks
 any_swap [] ws = sym (any_false ws)
 any_swap (k ∷ ks) ws = ap (λ b. list_any (bytes_eq k) ws || b) (any_swap ks ws) ∙ sym (any_or (bytes_eq k) (λ w. list_any (λ k. bytes_eq k w) ks) ws)
 
-any_same : {A : Type 0} (p q : A → Bool) (ws : List A) → ((w : A) → p w ≡ q w) → list_any p ws ≡ list_any q ws
+pub any_same : {A : Type 0} (p q : A → Bool) (ws : List A) → ((w : A) → p w ≡ q w) → list_any p ws ≡ list_any q ws
 any_same p q ws h = ap (λ f. list_any f ws) (λ i w. h w i)
 
 tied : (k w : Bytes) → bytes_eq k w ≡ eq_by_cmp bytes_cmp w k
@@ -119,18 +119,22 @@ due_among at w (e ∷ es) h =
     any_moved (is_over at e.1.expiry) w e.0 (due_keys at es)
     ∙ one_due at w e es (eq_by_cmp bytes_cmp w e.0) (is_over at e.1.expiry) refl (absent_at w e es h.0) (due_among at w es h.1)
 
-below_strictly : {X : Type 0} (x : Bytes) (es : List (Bytes × X)) → T (below_all bytes_cmp x es) → AllByRecursion (λ y. bytes_cmp x y ≡ Less) (keys_of es)
-below_strictly x [] h = tt
-below_strictly x (e ∷ es) h = (less (bytes_cmp x e.0) (first (is_lt (bytes_cmp x e.0)) (below_all bytes_cmp x es) h), below_strictly x es (second (is_lt (bytes_cmp x e.0)) (below_all bytes_cmp x es) h))
+below_strictly : {K X : Type 0} (R : K → K → Ordering) (x : K) (es : List (K × X)) → T (below_all R x es) → AllByRecursion (λ y. R x y ≡ Less) (keys_of es)
+below_strictly R x [] h = tt
+below_strictly R x (e ∷ es) h = (less (R x e.0) (first (is_lt (R x e.0)) (below_all R x es) h), below_strictly R x es (second (is_lt (R x e.0)) (below_all R x es) h))
 
-sorted_strictly : {X : Type 0} (es : List (Bytes × X)) → T (is_sorted bytes_cmp es) → IsStrictlySortedBy bytes_cmp (keys_of es)
+sorted_strictly : {K X : Type 0} (R : K → K → Ordering) (es : List (K × X)) → T (is_sorted R es) → IsStrictlySortedBy R (keys_of es)
 unfolding IsStrictlySortedBy
-sorted_strictly [] h = tt
-sorted_strictly (e ∷ es) h = (below_strictly e.0 es (first (below_all bytes_cmp e.0 es) (is_sorted bytes_cmp es) h), sorted_strictly es (second (below_all bytes_cmp e.0 es) (is_sorted bytes_cmp es) h))
+sorted_strictly R [] h = tt
+sorted_strictly R (e ∷ es) h = (below_strictly R e.0 es (first (below_all R e.0 es) (is_sorted R es) h), sorted_strictly R es (second (below_all R e.0 es) (is_sorted R es) h))
 
 -- a map's keys rise
-strictly : {X : Type 0} (m : FinMap bytes_cmp X) → IsStrictlySortedBy bytes_cmp (keys_of (entries m))
-strictly m = sorted_strictly (entries m) (entries_sorted m)
+pub strictly : {K X : Type 0} {R : K → K → Ordering} (m : FinMap R X) → IsStrictlySortedBy R (keys_of (entries m))
+strictly {R = R} m = sorted_strictly R (entries m) (entries_sorted m)
+
+-- a map is made of its entries
+pub made_again : {K X : Type 0} {R : K → K → Ordering} → IsTotalOrder R → IsAntisymmetric R → (m : FinMap R X) → from_entries {R = R} (entries m) ≡ m
+made_again total anti m = same_entries_map _ _ (entries_made total anti (entries m) (strictly m))
 
 -- one of the keys that are due is watched exactly where a watched key is due
 pub due_hit : (at : ℕ) (es : List (Bytes × Held)) → IsStrictlySortedBy bytes_cmp (keys_of es) → (ws : List Bytes) → list_any (λ w. is_due at (get (from_entries {R = bytes_cmp} es) w)) ws ≡ hit (due_keys at (entries (from_entries {R = bytes_cmp} es))) ws
@@ -143,7 +147,7 @@ due_hit at es h ws =
 pub touch_due_is : (at : ℕ) (m : Keys) (c : Conn) → touch_due at m c ≡ touch (due_keys at (entries m)) c
 touch_due_is at m c =
     let es = entries m in
-    let made : from_entries es ≡ m = same_entries_map _ _ (entries_made bytes_total bytes_anti es (strictly m)) in
+    let made : from_entries es ≡ m = made_again bytes_total bytes_anti m in
     let same : list_any (λ w. is_due at (get m w)) c.watched ≡ hit (due_keys at (entries m)) c.watched =
     ap (λ t. list_any (λ w. is_due at (get t w)) c.watched) (sym made) ∙ due_hit at es (strictly m) c.watched ∙ ap (λ t. hit (due_keys at (entries t)) c.watched) made in
     λ i. record c { marked = c.marked || same i }

@@ -1,3 +1,4 @@
+pub mod Calm
 pub mod Dues
 pub mod Ends
 pub mod Expiries

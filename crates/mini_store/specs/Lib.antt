@@ -2,6 +2,7 @@ pub mod Integers
 pub mod Words
 pub mod Replies
 pub mod Keys
+pub mod Expiries
 pub mod Texts
 pub mod Lists
 pub mod Sets

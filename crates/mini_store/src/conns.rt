@@ -190,6 +190,9 @@ impl Connections {
     pub fn mark(&mut self, keys: &Deque<Bytes>)
         ensures { self.new ≡ touched keys.now self.old }
     {
+        if keys.is_empty() {
+            return;
+        }
         mark_all(&mut self.kept, keys);
     }
 

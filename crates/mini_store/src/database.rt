@@ -84,10 +84,20 @@ impl Database {
         }
     }
 
+    /// The keys with what they hold.
+    pub fn keys(&self) -> &Keyspace
+        ensures { result.now ≡ self.now.keys }
+    {
+        &self.keys
+    }
+
     /// Drops what is due, and marks who watches it.
     pub fn settle(&mut self, at: u64)
         ensures { self.new ≡ settled self.old at }
     {
+        if self.keys.is_calm(at) {
+            return;
+        }
         self.conns.mark_due(&self.keys, at);
         self.keys.drop_due(at);
     }

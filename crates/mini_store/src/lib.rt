@@ -21,13 +21,16 @@ mod run;
 mod sets;
 mod sorted_sets;
 mod store;
+#[cfg(test)]
+mod tests;
 mod texts;
 mod words;
 
 pub use command::{Command, Fault};
 pub use connection::{Conn, Queue};
 pub use held::{Held, Stored};
+pub use keyspace::Keyspace;
 pub use laws::unaltered_keys;
 pub use reply::Reply;
 pub use store::Store;
-pub use words::command_of;
+pub use words::{command_of, is_within_limits};

@@ -3,8 +3,8 @@ ghost use Rattle.mini_store.specs.Store.{apply_of, empty_state, gone_of, ready_o
 ghost use Rattle.mini_store.specs.Words.{IsWithinLimits};
 ghost use Rattle.std.specs.Prelude.{◌≡◌, ◌<◌, ◌^◌, IfOk, IsErr, IsTrue, OnErr, OnOk, false, true};
 
-use crate::Reply;
 use crate::database::Database;
+use crate::{Keyspace, Reply};
 use resp_wire::Words;
 use std::alloc::{AllocError, Global};
 use std::marker::Model;
@@ -65,6 +65,13 @@ impl Store {
         let reply = self.database.apply(alloc, at, conn, words)?;
         self.spent = false;
         Ok(reply)
+    }
+
+    /// The keys with what they hold, also those that are due and not yet dropped; takes no memory.
+    pub fn keys(&self) -> &Keyspace
+        ensures { result.now ≡ self.now.state.keys }
+    {
+        self.database.keys()
     }
 
     /// Drops all that a connection has; takes no memory.

@@ -1,13 +1,26 @@
 //! How commands are spelled as words.
 ghost use Rattle.mini_store.specs.Integers.{integer_of, natural_of};
-ghost use Rattle.mini_store.specs.Words.{bare, brpop_of, command_of, connection_command, faulty, hash_command, key_command, lasting, list_command, named, range_of, select_of, expire_of, zadd_of, set_command, set_of, sorted_set_command, transaction_command, upper_byte, with_one, with_rest, with_some, with_three, with_two, zrevrangebyscore_of};
-ghost use Rattle.std.specs.Prelude.{◌≡◌, Bool, List, [], ◌∷◌, IfOk, MatchOption, map as mapped, ℕ};
+ghost use Rattle.mini_store.specs.Words.{IsWithinLimits, bare, brpop_of, command_of, connection_command, faulty, hash_command, key_command, lasting, list_command, named, range_of, select_of, expire_of, zadd_of, set_command, set_of, sorted_set_command, transaction_command, upper_byte, with_one, with_rest, with_some, with_three, with_two, zrevrangebyscore_of};
+ghost use Rattle.std.specs.Prelude.{All, ◌≡◌, ◌≤◌, ◌↔◌, length, Bool, IsTrue, List, [], ◌∷◌, IfOk, MatchOption, map as mapped, ℕ};
 
 use crate::integer::{integer, natural, seconds};
 use crate::{Command, Fault};
 use resp_wire::{Bytes, Words};
 use std::alloc::{AllocError, Global};
 use store_tables::Deque;
+
+/// Whether a store takes these words: at most 4,096, each of at most 1,048,576 bytes.
+pub fn is_within_limits(words: &Words) -> bool
+    ensures { IsTrue result ↔ IsWithinLimits words.now }
+{
+    words.as_slice().len() <= 4096 && are_short(words.as_slice())
+}
+
+fn are_short(words: &[Bytes]) -> bool
+    ensures { IsTrue result ↔ All (λ word. length word ≤ 1048576) words.now }
+{
+    words.iter().all(|word| word.len() <= 1_048_576)
+}
 
 /// The byte as a capital letter.
 pub fn upper_byte(byte: u8) -> u8

@@ -18,3 +18,9 @@ pub mod Messages
 pub mod Layers
 pub mod Seats
 pub mod Numbers
+pub mod Tellings
+pub mod StoreLeft
+pub mod Lookups
+pub mod Acceptance
+pub mod Takings
+pub mod CommandLimits

@@ -1,7 +1,6 @@
 -- The place that is read off what was gathered is the defined one.
-use Rattle.std.proofs.Common.{◌≡◌, ℕ, zero, suc, ◌+◌, List, [], ◌∷◌, ◌++◌, Bool, true, false, cond, ◌&&◌, ◌||◌, ◌==◌, if◌then◌else◌, nat_le, refl, sym, ap, subst, ◌∙◌, arith, map, Option, None, Some, option_map, is_some, T, append_assoc}
+use Rattle.std.proofs.Common.{◌≡◌, ℕ, zero, suc, ◌+◌, List, [], ◌∷◌, ◌++◌, Bool, true, false, cond, ◌&&◌, ◌||◌, ◌==◌, if◌then◌else◌, refl, sym, ap, subst, ◌∙◌, arith, map, Option, None, Some, option_map, is_some, T, append_assoc}
 use Rattle.std.proofs.lemmas.Cmp.{nat_cmp_total}
-use Rattle.std.proofs.lemmas.Grind.{common_steps}
 use Rattle.std.specs.Ordering.{nat_cmp, eq_by_cmp, is_eq}
 use Rattle.std.specs.FinMap.{FinMap, empty, entries, entries-from_sorted, entries_sorted, from_sorted, get, get-empty, get-entries, get-from_sorted, get-insert, insert, nat_cmp-IsAntisymmetric, same_map}
 use Rattle.std.specs.FinMap.Entries.{below_all, find, is_sorted}
@@ -21,7 +20,7 @@ use Rattle.place_model.specs.Seen.{seen, tag_weight}
 use Rattle.place_model.specs.Setting.{Setting}
 use Rattle.place_model.specs.declared.heard.Heard.{Heard}
 use Rattle.place_model.specs.declared.place.Place.{Place}
-use Rattle.place_model.specs.declared.place.Place.TheVariants.{Unacked, Hand, Ended, Lost, Copies, Never}
+use Rattle.place_model.specs.declared.place.Place.TheVariants.{Unacked, Hand, Ended, Lost, Never}
 use Rattle.place_model.specs.declared.seat.Seat.{Seat}
 use Rattle.place_model.specs.declared.walk.Walk.{Walk}
 use Rattle.place_model.proofs.Gathers.{is_number, positive, positive-plus, positive-times}
@@ -273,31 +272,3 @@ module _ (σ : Setting) (t : ℕ) (x : Bytes) (tells : (u : Bytes) → same u x 
     where
       zero_plus : (n : ℕ) → 0 + n ≡ n
       zero_plus n = omega arith
-
--- ---- by the counts
-
-none_there : (n c : ℕ) (p : Place) → positive n ≡ false → Never ≡ by_counts n c p
-none_there zero c p e = refl
-none_there (suc n) c p e = cc
-
-pub never_pushed : (t : ℕ) (xs : List ℕ) (c : ℕ) (p : Place) → has t xs ≡ false → Never ≡ by_counts (times t xs) c p
-never_pushed t xs c p e = none_there (times t xs) c p (positive-times t xs ∙ e)
-
-some_copied : (n : ℕ) (p : Place) → positive n ≡ true → Copies ≡ by_counts n 1 p
-some_copied zero p e = cc
-some_copied (suc zero) p e = refl
-some_copied (suc (suc n)) p e = refl
-
-pub pushed_copied : (t : ℕ) (xs ys : List ℕ) (p : Place) → has t xs ≡ true → has t ys ≡ true → Copies ≡ by_counts (times t xs) (if has t ys then 1 else 0) p
-pushed_copied t xs ys p e f = some_copied (times t xs) p (positive-times t xs ∙ e) ∙ ap (λ b. by_counts (times t xs) (if b then 1 else 0) p) (sym f)
-
-two_at_least : (n : ℕ) → nat_le 2 (suc (suc n)) ≡ true
-two_at_least n = grind (arith, common_steps)
-
-just_one : (n : ℕ) (p : Place) → positive n ≡ true → nat_le 2 n ≡ false → p ≡ by_counts n 0 p
-just_one zero p e f = cc
-just_one (suc zero) p e f = refl
-just_one (suc (suc n)) p e f = let g = two_at_least n in cc
-
-pub pushed_once : (t : ℕ) (xs ys : List ℕ) (p : Place) → has t xs ≡ true → nat_le 2 (times t xs) ≡ false → has t ys ≡ false → p ≡ by_counts (times t xs) (if has t ys then 1 else 0) p
-pushed_once t xs ys p e g f = just_one (times t xs) p (positive-times t xs ∙ e) g ∙ ap (λ b. by_counts (times t xs) (if b then 1 else 0) p) (sym f)

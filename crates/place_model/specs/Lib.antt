@@ -14,6 +14,7 @@ pub mod TakeBlocks
 pub mod ReturnBlocks
 pub mod PassBlocks
 pub mod Blocks
+pub mod Takable
 pub mod Histories
 pub mod Seen
 pub mod Counts
@@ -30,4 +31,9 @@ pub mod Shown
 pub mod Accepted
 pub mod Gathered
 pub mod GatheredLaws
+pub mod Tallies
+pub mod Stored
+pub mod Kept
+pub mod Indexed
+pub mod Placed
 pub mod Cores

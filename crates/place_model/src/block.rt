@@ -24,25 +24,17 @@ pub enum BlockEnd {
     /// A binding was added or removed.
     Declared,
     /// A message was pushed to so many queues.
-    Sent {
-        tag: Tag,
-        queues: u32,
-    },
+    Sent { tag: Tag, queues: u32 },
     /// A message went to no queue, since no binding of its exchange takes it.
     NoQueue(Tag),
     /// No message was there to pop.
     Empty,
     /// A message was popped from the list under this key, and put into the table of those that aren't acknowledged.
-    Popped {
-        envelope: Envelope,
-        key: Bytes,
-    },
+    Popped { envelope: Envelope, key: Bytes },
     /// What was popped is no envelope.
     Unreadable,
     /// A message was acknowledged, and whether it stood in the table until then.
-    Acked {
-        removed: bool,
-    },
+    Acked { removed: bool },
     /// A message returned to its queues.
     Moved,
     /// A message that was to return isn't in the table.
@@ -52,11 +44,7 @@ pub enum BlockEnd {
     /// A message that was to return stays in the table, since others changed the table at each of eight tries.
     Contended(Tag),
     /// A pass is over that returned so many messages, found so many gone, and left so many.
-    Done {
-        moved: u32,
-        gone: u32,
-        stayed: u32,
-    },
+    Done { moved: u32, gone: u32, stayed: u32 },
     /// Another client holds the mutex of passes.
     Held,
     /// A command that concerns no message was answered.

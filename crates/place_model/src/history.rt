@@ -1,9 +1,6 @@
 //! Histories: what a store's clients called, noted and left.
 ghost use Rattle.std.specs.Prelude.{◌≡◌, [], ◌∷◌, OnOk, OnErr};
-ghost use Rattle.std.specs.FinMap.{empty};
-ghost use Rattle.place_model.specs.Histories.{and_then, conn_of, connections, seeds};
-ghost use Rattle.place_model.specs.QueueKeys.{IsAway};
-ghost use Rattle.place_model.specs.Shown.{IsRunning, and_client, history_of, seed_of};
+ghost use Rattle.place_model.specs.Takable.{AreTakable};
 
 use crate::Heard;
 use mini_store::Reply;
@@ -37,9 +34,17 @@ pub enum Entry<N> {
 pub struct History {
     clients: List<(u32, u64)>,
     entries: List<Entry<Heard>>,
+    // A store can take each entry.
+    ghost takable: { ∥ AreTakable entries ∥₁ },
 }
 
 impl History {
+    ghost use Rattle.std.specs.FinMap.{empty};
+    ghost use Rattle.place_model.specs.Histories.{and_then, conn_of, connections, seeds};
+    ghost use Rattle.place_model.specs.QueueKeys.{IsAway};
+    ghost use Rattle.place_model.specs.Shown.{IsRunning, and_client, history_of, seed_of};
+    ghost use Rattle.place_model.specs.Takable.{IsTakable};
+
     /// No clients and no entries; takes no memory.
     pub fn new() -> History
         ensures { history_of result ≡ record { start = empty; used = []; clients = []; entries = [] } }
@@ -60,9 +65,11 @@ impl History {
         Ok(self.clients.push(alloc, (conn, seed))?)
     }
 
-    /// Adds an entry of a client that isn't gone; without memory nothing changes.
+    /// Adds an entry of a client that isn't gone; without memory nothing changes. The moment of a call is below 2^40
+    /// seconds, and its words are within the limits of RESP2 here: 4,096 words, of 1,048,576 bytes each.
     pub fn add(&mut self, alloc: Global, entry: Entry<Heard>) -> Result<(), AllocError>
-        requires { IsRunning (history_of self.old) (conn_of entry) }
+        requires running { IsRunning (history_of self.old) (conn_of entry) }
+        requires takable { IsTakable entry }
         ensures ok { OnOk result (history_of self.new ≡ and_then (history_of self.old) (entry ∷ [])) }
         ensures err { OnErr result (self.new ≡ self.old) }
     {
@@ -71,7 +78,8 @@ impl History {
 
     /// The entries in order.
     pub fn entries(&self) -> &[Entry<Heard>]
-        ensures { result.now ≡ (history_of self.now).entries }
+        ensures entries { result.now ≡ (history_of self.now).entries }
+        ensures takable { AreTakable result.now }
     {
         self.entries.as_slice()
     }

@@ -6,13 +6,18 @@ mod block;
 mod hands;
 mod heard;
 mod history;
+mod index;
+mod kept;
 mod keys;
 mod laws;
 mod numbered;
 mod place;
-mod placed;
+mod placing;
 mod queue_name;
 mod seat;
+mod standing;
+mod stored;
+mod tagged;
 mod told;
 mod transaction;
 mod walk;
@@ -22,4 +27,8 @@ pub use heard::{Heard, Outcome};
 pub use history::{Entry, History};
 pub use keys::{pop_keys, queue_key, split_key, step_of};
 pub use place::Place;
+pub use placing::{place_of, places};
 pub use queue_name::{NameFault, QueueName, is_name, is_reserved};
+
+#[cfg(test)]
+mod tests;

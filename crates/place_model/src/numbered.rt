@@ -1,5 +1,5 @@
 //! A table from connections to values.
-ghost use Rattle.std.specs.Prelude.{◌≡◌, OnOk};
+ghost use Rattle.std.specs.Prelude.{◌≡◌, OnOk, is_some};
 ghost use Rattle.std.specs.FinMap as map;
 
 use std::alloc::{AllocError, Global};
@@ -32,6 +32,13 @@ impl<V> Numbered<V> {
         Numbered {
             kept: BTreeMap::new(alloc),
         }
+    }
+
+    /// Whether a connection has a value.
+    pub(crate) fn has(&self, conn: u32) -> bool
+        ensures { result ≡ is_some (map.get self.now conn) }
+    {
+        self.kept.contains_key(&conn)
     }
 }
 

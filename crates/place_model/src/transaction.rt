@@ -111,7 +111,7 @@ fn pushed(alloc: Global, acts: &[Act]) -> Result<List<u128>, AllocError>
 }
 
 /// Whether a number is among them.
-pub(crate) fn has(number: u128, numbers: &[u128]) -> bool
+fn has(number: u128, numbers: &[u128]) -> bool
     ensures { result ≡ has number numbers.now }
 {
     for one in numbers {
@@ -123,7 +123,7 @@ pub(crate) fn has(number: u128, numbers: &[u128]) -> bool
 }
 
 /// Whether a number is among them at least twice.
-pub(crate) fn is_twice(number: u128, numbers: &[u128]) -> bool
+fn is_twice(number: u128, numbers: &[u128]) -> bool
     ensures { result ≡ nat_le 2 (times number numbers.now) }
 {
     let mut found = false;

@@ -122,7 +122,7 @@ impl Walk {
 }
 
 /// The clients of a table.
-fn seated(alloc: Global, clients: &[(u32, u64)]) -> Result<Numbered<Seat>, AllocError>
+pub(crate) fn seated(alloc: Global, clients: &[(u32, u64)]) -> Result<Numbered<Seat>, AllocError>
     ensures { IfOk result (λ seats. seats ≡ (walk_start clients.now).seats) }
 {
     let mut seats = Numbered::new(alloc);

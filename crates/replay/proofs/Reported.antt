@@ -14,7 +14,8 @@ use Rattle.place_model.specs.declared.history.Entry.{Entry}
 use Rattle.place_model.specs.declared.place.Place.{Place}
 use Rattle.replay.proofs.Written.{piece}
 use Rattle.replay.specs.Kinds.{totals}
-use Rattle.replay.specs.Legends.{all_placed, number_or, placed}
+use Rattle.place_model.specs.Placed.{all_placed, placed}
+use Rattle.schedule_model.specs.Legends.{number_or}
 use Rattle.schedule_model.specs.Reports.{Legend, entry_line, entry_lines, line, place_line, report_text, total_line}
 use Rattle.place_model.specs.Accepted.{places}
 

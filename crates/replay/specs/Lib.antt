@@ -1,2 +1,5 @@
+pub mod Bindings
 pub mod Kinds
-pub mod Legends
+pub mod Openings
+pub mod Runs
+pub mod Tasks

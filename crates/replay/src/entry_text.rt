@@ -6,7 +6,7 @@ ghost use Rattle.std.specs.List.{flat_map};
 ghost use Rattle.line_text.specs.Short.{short_value, short_word};
 ghost use Rattle.place_model.specs.Setting.{Setting};
 ghost use Rattle.place_model.specs.declared.history.Entry.TheVariants.{Call};
-ghost use Rattle.replay.specs.Legends.{legend_of};
+ghost use Rattle.schedule_model.specs.Legends.{legend_of};
 ghost use Rattle.schedule_model.specs.Reports.{entry_line, entry_lines, line, note_words, reply_text};
 
 use crate::note_text::note;

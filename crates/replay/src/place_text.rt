@@ -7,7 +7,8 @@ ghost use Rattle.envelope.specs.Tags.{tag_text};
 ghost use Rattle.line_text.specs.Short.{tag_short};
 ghost use Rattle.place_model.specs.Setting.{Setting};
 ghost use Rattle.replay.specs.Kinds.{is_of, totals};
-ghost use Rattle.replay.specs.Legends.{all_placed, legend_of, placed};
+ghost use Rattle.place_model.specs.Placed.{all_placed, placed};
+ghost use Rattle.schedule_model.specs.Legends.{legend_of};
 ghost use Rattle.schedule_model.specs.Reports.{place_line, place_words, total_line};
 
 use envelope::Tag;

@@ -1,1 +1,2 @@
 pub mod Publishes
+pub mod PublishTraces

@@ -1,12 +1,15 @@
 //! A publication: a message is pushed to the list of its queue.
-ghost use Rattle.std.specs.Prelude.{◌≡◌, ◌∷◌, [], ◌<◌, ◌^◌, true, ℕ, codes, IfOk, IfSome, IsSome, Some, None, Ok};
+ghost use Rattle.std.specs.Prelude.{List as Listed, ◌≡◌, ◌∷◌, [], ◌<◌, ◌^◌, true, ℕ, codes, IfOk, IfSome, IsSome, Some, None, Ok};
 ghost use Rattle.envelope.specs.Envelopes.{envelope_at, parts_in, priority_of};
-ghost use Rattle.mini_store.specs.Words.{IsWithinLimits};
+ghost use Rattle.mini_store.specs.Words.{IsWithinLimits, Words as Said};
+ghost use Rattle.place_model.specs.Calls.{Call, call};
 ghost use Rattle.place_model.specs.Cores.{HasTaken, is_off, is_saying};
 ghost use Rattle.place_model.specs.EnvelopeTexts.{plain_setting};
 ghost use Rattle.place_model.specs.Names.{is_name};
 ghost use Rattle.place_model.specs.Scripts.{next_words, publish_script, pushes};
 ghost use Rattle.routes.specs.Publishes.{GoesDirectly, direct_key, publish_end, publish_left};
+ghost use Rattle.routes.specs.PublishTraces.{HasPublished, HasPublishedOn, IsPublishEnded};
+ghost use Rattle.serde_json.specs.Data.{Data};
 ghost use Rattle.serde_json.specs.View.{view as data_of};
 ghost use Rattle.serde_json.specs.Written.{compact_text};
 
@@ -44,6 +47,7 @@ impl PublishCore {
         requires { GoesDirectly (data_of e) }
         ensures left { publish_left result ≡ publish_script plain_setting (compact_text (data_of e)) }
         ensures end { publish_end result ≡ None }
+        ensures traced { HasPublished (data_of e) [] result }
     {
         PublishCore {
             envelope: e,
@@ -72,8 +76,15 @@ impl PublishCore {
     pub fn took(&mut self, alloc: Global, at: u64, reply: &Reply) -> Result<(), CoreFault>
         requires moment { at < 2 ^ 40 }
         requires asked { IsSome (next_words (publish_left self.old) at) }
-        ensures { HasTaken (publish_left self.old) (publish_left self.new) at reply.now result }
+        ensures taken { HasTaken (publish_left self.old) (publish_left self.new) at reply.now result }
+        // Whatever calls a core had before, now it has had one more.
+        ensures traced { (d : Data) (calls : Listed Call) (words : Said)
+            → HasPublished d calls self.old → next_words (publish_left self.old) at ≡ Some words
+            → HasPublishedOn d calls (call at words reply.now.answer) self.new result }
     {
+        let PublishStage::Pushing = &self.stage else {
+            unreachable!()
+        };
         match integer(&reply.answer) {
             Some(_) => {
                 let tag = self.envelope.tag();
@@ -93,6 +104,9 @@ impl PublishCore {
         ensures given { result ≡ publish_end self.old }
         ensures once { publish_end self.new ≡ None }
         ensures left { publish_left self.new ≡ publish_left self.old }
+        // What is given tells of the calls that the core has had, which are a whole block.
+        ensures traced { (d : Data) (calls : Listed Call) → HasPublished d calls self.old
+            → HasPublished d calls self.new × IsPublishEnded d calls result }
     {
         match &mut self.stage {
             PublishStage::Over(end) => end.take(),

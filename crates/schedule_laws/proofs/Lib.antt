@@ -17,3 +17,4 @@ pub mod Decided
 pub mod Sounds
 pub mod Crafts
 pub mod Determined
+pub mod Traces

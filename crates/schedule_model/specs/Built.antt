@@ -1,5 +1,5 @@
 -- Which lines of a schedule are built; every other one is put off until later.
-use Rattle.std.specs.Prelude.{Bool, true, false, not, ◌&&◌, ◌||◌, bytes_eq, List, [], ◌∷◌, codes}
+use Rattle.std.specs.Prelude.{Bool, false, not, ◌&&◌, ◌||◌, bytes_eq, List, [], ◌∷◌, codes}
 use Rattle.std.specs.List.{list_any}
 use Rattle.place_model.specs.Names.{Bytes}
 

@@ -1,5 +1,5 @@
 -- The two limits of a history: its entries, and what they cost.
-use Rattle.std.specs.Prelude.{ℕ, ◌+◌, ◌^◌, Bool, ◌||◌, nat_le, List, [], ◌∷◌, length, sum, sum_by}
+use Rattle.std.specs.Prelude.{ℕ, ◌+◌, ◌^◌, Bool, ◌||◌, nat_le, List, length, sum, sum_by}
 use Rattle.resp_wire.specs.declared.value.Value.{Value}
 use Rattle.resp_wire.specs.declared.value.Value.TheFolds.{fold-Value}
 use Rattle.resp_wire.specs.declared.value.Value.TheOpen.{Value-F}

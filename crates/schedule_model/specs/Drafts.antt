@@ -1,5 +1,5 @@
 -- The task that a publish line drafts (Celery's message protocol, version 2), and its sealed envelope.
-use Rattle.std.specs.Prelude.{ℕ, Bool, ◌&&◌, not, nat_le, if◌then◌else◌, List, length, codes, Option, None, Some, option_and_then, is_some, pos}
+use Rattle.std.specs.Prelude.{ℕ, Bool, ◌&&◌, not, nat_le, if◌then◌else◌, length, codes, Option, None, Some, option_and_then, is_some, pos}
 use Rattle.std.specs.Str.{is_utf8}
 use Rattle.base64.specs.Engines.{standard}
 use Rattle.base64.specs.GeneralPurpose.{encode_of}

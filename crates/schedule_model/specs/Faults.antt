@@ -1,12 +1,12 @@
 -- Why a line of a schedule is bad: its tests in their order.
-use Rattle.std.specs.Prelude.{ℕ, suc, ◌^◌, Bool, true, false, not, ◌&&◌, ◌||◌, nat_le, nat_lt, nat_eq, is_none, if◌then◌else◌, List, [], ◌∷◌, ◌++◌, length, Option, None, Some}
-use Rattle.std.specs.List.{list_any, list_all}
+use Rattle.std.specs.Prelude.{ℕ, suc, ◌^◌, Bool, true, false, not, ◌&&◌, ◌||◌, nat_le, nat_lt, nat_eq, is_none, if◌then◌else◌, List, [], ◌∷◌, ◌++◌, Option, None, Some}
+use Rattle.std.specs.List.{list_any}
 use Rattle.std.specs.FinMap.{get}
 use Rattle.line_text.specs.declared.reason.Reason.{Reason}
 use Rattle.line_text.specs.declared.reason.Reason.TheVariants.{UnknownClient, Stopped, Busy, Idle, Repeated, Moment, Name, Reserved, Json, Task}
 use Rattle.place_model.specs.Bindings.{is_part}
 use Rattle.place_model.specs.Names.{Bytes, is_name, is_reserved}
-use Rattle.place_model.specs.Scripts.{Script, Over, Off, Say}
+use Rattle.place_model.specs.Scripts.{Script, Off, Say}
 use Rattle.place_model.specs.Setting.{Setting}
 use Rattle.schedule_model.specs.Built.{Built}
 use Rattle.schedule_model.specs.Desk.{Desk, Book}

@@ -2,7 +2,9 @@ pub mod Built
 pub mod Costs
 pub mod Desk
 pub mod Drafts
+pub mod EachPlaced
 pub mod Faults
+pub mod Legends
 pub mod Lines
 pub mod Programs
 pub mod Reports

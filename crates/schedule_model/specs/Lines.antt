@@ -1,5 +1,5 @@
 -- How the lines of a schedule are spelled.
-use Rattle.std.specs.Prelude.{ℕ, ◌^◌, ◌-◌, Bool, ◌&&◌, nat_le, if◌then◌else◌, bytes_eq, List, [], ◌∷◌, length, codes, Option, Some, None, option_map}
+use Rattle.std.specs.Prelude.{ℕ, ◌^◌, ◌-◌, ◌&&◌, nat_le, if◌then◌else◌, bytes_eq, List, [], ◌∷◌, length, codes, Option, Some, None, option_map}
 use Rattle.std.specs.List.{list_all, join_with_byte}
 use Rattle.line_text.specs.Numbers.{number_in, moment_in, tag_in}
 use Rattle.line_text.specs.Words.{is_word}

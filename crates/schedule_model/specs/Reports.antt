@@ -1,11 +1,10 @@
 -- The report of a history: its entries, the places of its messages, and how many there are of each.
-use Rattle.std.specs.Prelude.{ℕ, suc, ◌+◌, ◌/◌, ◌%◌, ◌^◌, Bool, true, false, List, [], ◌∷◌, ◌++◌, codes, decimal, count_by, map}
+use Rattle.std.specs.Prelude.{ℕ, ◌+◌, ◌/◌, ◌%◌, ◌^◌, Bool, true, false, List, [], ◌∷◌, ◌++◌, codes, decimal, count_by, map}
 use Rattle.std.specs.Fmt.{signed_decimal}
 use Rattle.std.specs.List.{flat_map}
 use Rattle.line_text.specs.Forms.{quoted}
 use Rattle.line_text.specs.Short.{short_word, short_value, tag_short}
 use Rattle.line_text.specs.declared.short.Shape.{Shape}
-use Rattle.resp_wire.specs.declared.value.Value.{Value}
 use Rattle.mini_store.specs.declared.reply.Reply.{Reply}
 use Rattle.envelope.specs.declared.tag.Tag.{Tag}
 use Rattle.place_model.specs.Accepted.{places}

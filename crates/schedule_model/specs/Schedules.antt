@@ -1,5 +1,5 @@
 -- What a schedule determines: a history, its first bad line, or a history that was full.
-use Rattle.std.specs.Prelude.{◌≡◌, ℕ, suc, ◌+◌, Bool, true, false, nat_lt, if◌then◌else◌, bytes_eq, List, [], ◌∷◌, length, take, codes, Option, None, Some}
+use Rattle.std.specs.Prelude.{ℕ, ◌+◌, Bool, true, false, nat_lt, if◌then◌else◌, bytes_eq, List, [], ◌∷◌, length, take, codes, Option, None, Some}
 use Rattle.std.specs.FinMap.{get, empty}
 use Rattle.line_text.specs.Lines.{lines_of, text_fault}
 use Rattle.line_text.specs.Words.{words_of}

@@ -1,5 +1,5 @@
 -- What a word spells, as a report shows it: an envelope, an entry of the table, a tag's text, or none of these.
-use Rattle.std.specs.Prelude.{ℕ, ◌/◌, ◌%◌, ◌^◌, List, Option, None, Some, Result, Ok, Err}
+use Rattle.std.specs.Prelude.{ℕ, ◌/◌, ◌%◌, ◌^◌, Option, None, Some, Result, Ok, Err}
 use Rattle.serde_json.specs.Data.{Data}
 use Rattle.envelope.specs.Entries.{entry_at}
 use Rattle.envelope.specs.Entries as entries

@@ -139,7 +139,9 @@ fn text_of(bytes: &[u8]) -> &str
 fn content_of(alloc: Global, args: &str) -> Result<String, AllocError>
     ensures { IfOk result (λ text. string_bytes text ≡ content_around args.now) }
 {
-    format!(in alloc; "[{args},{{}},{{\"callbacks\":null,\"chain\":null,\"chord\":null,\"errbacks\":null}}]")
+    format!(in alloc;
+        "[{args},{{}},{{\"callbacks\":null,\"chain\":null,\"chord\":null,\"errbacks\":null}}]"
+    )
 }
 
 /// The bytes of a text.
@@ -182,5 +184,126 @@ fn sealed_draft(alloc: Global, draft: &Draft, tag: Tag) -> Result<Option<Envelop
         Ok(envelope) => Ok(Some(envelope)),
         Err(EnvelopeFault::Memory) => Err(AllocError),
         Err(_) => Ok(None),
+    }
+}
+
+#[cfg(test)]
+mod tests {
+    use super::*;
+    use envelope::write;
+    use std::test::Fail;
+
+    /// What is sealed of a task with arguments of two numbers, under the tag of seed 7 and counter 1.
+    fn first_sealed() -> &'static str {
+        r#"{"body":"W1syLDNdLHt9LHsiY2FsbGJhY2tzIjpudWxsLCJjaGFpbiI6bnVsbCwiY2hvcmQiOm51bGwsImVycmJhY2tzIjpudWxsfV0=","content-encoding":"utf-8","content-type":"application/json","headers":{"argsrepr":"[2,3]","eta":null,"expires":null,"group":null,"id":"00000000-0000-0007-0000-000000000001","kwargsrepr":"{}","lang":"py","origin":"node","parent_id":null,"retries":0,"root_id":"00000000-0000-0007-0000-000000000001","task":"tasks.add","timelimit":[null,null]},"properties":{"body_encoding":"base64","correlation_id":"00000000-0000-0007-0000-000000000001","delivery_info":{"exchange":"","routing_key":"celery"},"delivery_mode":2,"delivery_tag":"00000000-0000-0007-0000-000000000001","priority":9,"reply_to":""}}"#
+    }
+
+    /// Its content.
+    fn first_content() -> &'static str {
+        r#"[[2,3],{},{"callbacks":null,"chain":null,"chord":null,"errbacks":null}]"#
+    }
+
+    /// JSON texts that are no arguments.
+    fn refused() -> &'static [&'static str] {
+        &[
+            "",
+            "2",
+            "{}",
+            "[2",
+            "[2] 3",
+            "[1.5]",
+            "[1.0]",
+            "[1e2]",
+            "[-0]",
+            "[1e400]",
+            "[18446744073709551616]",
+            r#"[{"a":1,"a":1.5}]"#,
+        ]
+    }
+
+    /// JSON texts that are arguments.
+    fn taken() -> &'static [&'static str] {
+        &[
+            "[]",
+            " [2, 3]",
+            "[18446744073709551615, -9223372036854775808]",
+            r#"[{"a":1.5,"a":1}]"#,
+        ]
+    }
+
+    /// Arrays in one another, so many deep.
+    fn nested(alloc: Global, levels: u32) -> Result<Vec<u8>, AllocError> {
+        let mut text = Vec::new(alloc);
+        for _ in 0..levels {
+            text.push(b'[')?;
+        }
+        for _ in 0..levels {
+            text.push(b']')?;
+        }
+        Ok(text)
+    }
+
+    /// What is written of the sealed envelope, if it isn't refused.
+    fn sealed_text(
+        alloc: Global,
+        asked: &Publication,
+        text: &str,
+    ) -> Result<Option<Bytes>, AllocError> {
+        let Some(tree) = arguments(alloc, text.as_bytes())? else {
+            return Ok(None);
+        };
+        match sealed(alloc, 7, 1, asked, &tree)? {
+            Some(envelope) => Ok(Some(write(alloc, &envelope)?)),
+            None => Ok(None),
+        }
+    }
+
+    /// A publication of `tasks.add`.
+    fn add<'a>(exchange: &'a [u8], routing_key: &'a [u8]) -> Publication<'a> {
+        Publication {
+            exchange,
+            routing_key,
+            priority: 9,
+            task: b"tasks.add",
+        }
+    }
+
+    #[test]
+    fn task_of_two_numbers(rt: HostRuntime) -> Result<(), Fail> {
+        let alloc = rt.alloc();
+        let text = sealed_text(alloc, &add(b"", b"celery"), "[ 2, 3 ]")?.ok_or("refused")?;
+        assert_eq!(rt; text.as_slice(), first_sealed().as_bytes());
+        let envelope = envelope::read(alloc, text.as_slice())?;
+        assert_eq!(rt; envelope.content(), first_content().as_bytes());
+        assert_eq!(rt; envelope.tag(), Tag::of(7, 1));
+        assert_eq!(rt; envelope.priority(), 9);
+        Ok(())
+    }
+
+    #[test]
+    fn arguments_in_bounds(rt: HostRuntime) -> Result<(), Fail> {
+        let alloc = rt.alloc();
+        for text in refused() {
+            assert!(rt; arguments(alloc, text.as_bytes())?.is_none(), "{text}");
+        }
+        for text in taken() {
+            assert!(rt; arguments(alloc, text.as_bytes())?.is_some(), "{text}");
+        }
+        assert!(rt; arguments(alloc, b"[\"\xff\"]")?.is_none());
+        assert!(rt; arguments(alloc, nested(alloc, 90)?.as_slice())?.is_some());
+        assert!(rt; arguments(alloc, nested(alloc, 91)?.as_slice())?.is_none());
+        Ok(())
+    }
+
+    #[test]
+    fn names_in_bounds(rt: HostRuntime) -> Result<(), Fail> {
+        let alloc = rt.alloc();
+        let long = [b'a'; 256];
+        let fits = &long[..255];
+        assert!(rt; sealed_text(alloc, &add(fits, fits), "[]")?.is_some());
+        assert!(rt; sealed_text(alloc, &add(&long, b"celery"), "[]")?.is_none());
+        assert!(rt; sealed_text(alloc, &add(b"", &long), "[]")?.is_none());
+        assert!(rt; sealed_text(alloc, &add(b"", b"\xff"), "[]")?.is_none());
+        Ok(())
     }
 }

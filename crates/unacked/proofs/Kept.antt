@@ -1,6 +1,7 @@
 -- What BRPOP's answer brings, by what was read of it.
-use Rattle.std.proofs.Common.{◌≡◌, ℕ, ◌≤◌, List, [], ◌∷◌, ◌++◌, length, Bool, true, false, Option, None, Some, option_map, option_and_then, refl, sym, ap, ◌∙◌, codes, arith, Result, Ok, Err, if◌then◌else◌}
-use Rattle.std.specs.Prelude.{nat_le, not}
+use Rattle.std.proofs.Common.{◌≡◌, ℕ, ◌≤◌, List, [], ◌∷◌, ◌++◌, length, Bool, true, false, Option, None, Some, option_map, option_and_then, refl, sym, ap, ◌∙◌, codes, decimal, arith, Result, Ok, Err, if◌then◌else◌}
+use Rattle.std.specs.declared.alloc.AllocError.{AllocError}
+use Rattle.std.specs.Prelude.{IfOk, insert, nat_le, not}
 use Rattle.std.specs.Result.{result_ok}
 use Rattle.std.proofs.lemmas.Bool.Decides.{nat_tests}
 use Rattle.serde_json.specs.Data.{Data, depth}
@@ -25,7 +26,9 @@ use Rattle.place_model.specs.QueueKeys.{pop_keys}
 use Rattle.place_model.specs.Scripts.{Script, Over, Off, if_told, kept_by, next_words, null_array_in, on_popped, pop_script}
 use Rattle.unacked.specs.Pops.{index_words, table_words, tag_in}
 use Rattle.unacked.specs.Steps.{begin_left, steps_left}
-use Rattle.unacked.specs.declared.step.Step.TheVariants.{Begin}
+use Rattle.mini_store.specs.Words.{Words}
+use Rattle.unacked.specs.declared.step.Step.{Step}
+use Rattle.unacked.specs.declared.step.Step.TheVariants.{Begin, Index, Table}
 
 -- ---- BRPOP
 
@@ -79,3 +82,24 @@ unread v (Missing f) n h = failed v (Missing f) h
 unread v Compressed n h = failed v Compressed h
 unread v BadBody n h = failed v BadBody h
 unread v Memory n h = absurd (n refl)
+
+-- ---- words that were made
+
+-- the words of BRPOP
+pub asked_words : (names out pushed inserted v keys slice : List Bytes) (b one : Bytes) → out ≡ pushed → pushed ≡ inserted ++ one ∷ [] → inserted ≡ insert v 0 b → b ≡ codes "BRPOP" → one ≡ codes "1" → v ≡ keys → keys ≡ pop_keys plain slice → slice ≡ names
+    → out ≡ codes "BRPOP" ∷ pop_keys plain names ++ codes "1" ∷ []
+asked_words names out pushed inserted v keys slice b one e f g h i j k l =
+    let all : v ≡ pop_keys plain names = j ∙ k ∙ ap (pop_keys plain) l in
+    e ∙ f ∙ ap (λ x. x ++ one ∷ []) g ∙ (λ t. (h t ∷ all t) ++ i t ∷ [])
+
+-- the command on the index
+pub index_said : (r : Result Words AllocError) (d : Data) (step : Step) (at : ℕ) (moment tag : Bytes) → step ≡ Index → IfOk r (λ w. w ≡ codes "ZADD" ∷ codes "unacked_index" ∷ moment ∷ tag ∷ []) → moment ≡ decimal at → tag ≡ tag_in d
+    → IfOk r (λ w. Some w ≡ next_words (steps_left (index_words d) (table_words d) step) at)
+index_said (Ok w) d step at moment tag is e m t = ap (λ (w : Words). Some w) (e ∙ (λ i. codes "ZADD" ∷ codes "unacked_index" ∷ m i ∷ t i ∷ [])) ∙ sym (ap (λ s. next_words (steps_left (index_words d) (table_words d) s) at) is)
+index_said (Err f) d step at moment tag is e m t = tt
+
+-- the command on the table
+pub table_said : (r : Result Words AllocError) (d : Data) (step : Step) (at : ℕ) (tag entry : Bytes) → step ≡ Table → IfOk r (λ w. w ≡ codes "HSET" ∷ codes "unacked" ∷ tag ∷ entry ∷ []) → tag ≡ tag_in d → entry ≡ compact_text (entry_data (entry_for d))
+    → IfOk r (λ w. Some w ≡ next_words (steps_left (index_words d) (table_words d) step) at)
+table_said (Ok w) d step at tag entry is e t u = ap (λ (w : Words). Some w) (e ∙ (λ i. codes "HSET" ∷ codes "unacked" ∷ t i ∷ u i ∷ [])) ∙ sym (ap (λ s. next_words (steps_left (index_words d) (table_words d) s) at) is)
+table_said (Err f) d step at tag entry is e t u = tt

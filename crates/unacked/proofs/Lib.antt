@@ -1,4 +1,7 @@
 pub mod Numbers
 pub mod Steps
+pub mod Names
 pub mod Limits
 pub mod Kept
+pub mod PopTraces
+pub mod EndTraces

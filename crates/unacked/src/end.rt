@@ -1,12 +1,16 @@
 //! An acknowledgement: a message is taken out of the table of messages that are not acknowledged, for good.
-ghost use Rattle.std.specs.Prelude.{◌≡◌, ◌∷◌, [], ◌<◌, ◌^◌, ℕ, codes, IfOk, IfSome, IsSome, Some, None};
+ghost use Rattle.std.specs.Prelude.{List as Listed, ◌≡◌, ◌∷◌, [], ◌<◌, ◌^◌, ℕ, codes, IfOk, IfSome, IsSome, Some, None};
 ghost use Rattle.envelope.specs.Tags.{tag_text};
-ghost use Rattle.mini_store.specs.Words.{IsWithinLimits};
+ghost use Rattle.mini_store.specs.Words.{IsWithinLimits, Words as Said};
+ghost use Rattle.place_model.specs.Calls.{Call, call};
 ghost use Rattle.place_model.specs.Cores.{HasTaken, is_off, is_saying};
 ghost use Rattle.place_model.specs.EnvelopeTexts.{plain_setting};
 ghost use Rattle.place_model.specs.Scripts.{end_script, next_words};
 ghost use Rattle.unacked.specs.Ends.{acknowledged_end, end_left, index_words, table_words};
+ghost use Rattle.unacked.specs.EndTraces.{HasAcknowledged, HasAcknowledgedOn, IsAcknowledgedWhole};
 ghost use Rattle.unacked.specs.Steps.{steps_left};
+ghost use Rattle.unacked.specs.declared.end.EndStage.TheVariants.{Saying};
+ghost use Rattle.unacked.specs.declared.step.Step.TheVariants.{Begin};
 
 use crate::step::{Progress, Step};
 use crate::words::{one_word, three_words};
@@ -41,9 +45,19 @@ impl EndCore {
     pub fn new(tag: Tag) -> EndCore
         ensures left { end_left result ≡ end_script plain_setting (tag_text tag.0) }
         ensures end { acknowledged_end result ≡ None }
+        ensures traced { HasAcknowledged tag.0 [] result }
+    {
+        EndCore::begin(tag.0)
+    }
+
+    /// The acknowledgement of the tag of this number.
+    fn begin(number: u128) -> EndCore
+        ensures tag { result.tag.0 ≡ number }
+        ensures stage { result.stage ≡ Saying Begin }
+        ensures traced { HasAcknowledged number [] result }
     {
         EndCore {
-            tag,
+            tag: Tag(number),
             stage: EndStage::Saying(Step::Begin),
         }
     }
@@ -69,7 +83,11 @@ impl EndCore {
     pub fn took(&mut self, alloc: Global, at: u64, reply: &Reply) -> Result<(), CoreFault>
         requires moment { at < 2 ^ 40 }
         requires asked { IsSome (next_words (end_left self.old) at) }
-        ensures { HasTaken (end_left self.old) (end_left self.new) at reply.now result }
+        ensures taken { HasTaken (end_left self.old) (end_left self.new) at reply.now result }
+        // Whatever calls a core had before, now it has had one more.
+        ensures traced { (tag : ℕ) (calls : Listed Call) (words : Said)
+            → HasAcknowledged tag calls self.old → next_words (end_left self.old) at ≡ Some words
+            → HasAcknowledgedOn tag calls (call at words reply.now.answer) self.new result }
     {
         let EndStage::Saying(step) = &self.stage else {
             unreachable!()
@@ -96,6 +114,9 @@ impl EndCore {
         ensures given { result ≡ acknowledged_end self.old }
         ensures once { acknowledged_end self.new ≡ None }
         ensures left { end_left self.new ≡ end_left self.old }
+        // What is given tells of the calls that the core has had, which are a whole block.
+        ensures traced { (tag : ℕ) (calls : Listed Call) → HasAcknowledged tag calls self.old
+            → HasAcknowledged tag calls self.new × IsAcknowledgedWhole tag calls result }
     {
         match &mut self.stage {
             EndStage::Over(end) => end.take(),

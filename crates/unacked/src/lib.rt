@@ -3,10 +3,15 @@
 #![tactic(auto)]
 
 mod end;
+mod laws;
 mod pop;
 mod queues;
 mod step;
 mod words;
 
 pub use end::EndCore;
+pub use laws::{ends_are_blocks, pops_are_blocks};
 pub use pop::PopCore;
+
+#[cfg(test)]
+mod tests;

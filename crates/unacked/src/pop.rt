@@ -1,6 +1,8 @@
 //! A pop: a message goes from the list of its queue into the table of messages that are not acknowledged.
-ghost use Rattle.std.specs.Prelude.{◌≡◌, ◌∷◌, [], ◌++◌, ◌<◌, ◌≤◌, ◌^◌, ℕ, codes, IfOk, IfSome, IsSome, Some, None, length, option_map, unwrap_or};
-ghost use Rattle.mini_store.specs.Words.{IsWithinLimits};
+ghost use Rattle.std.specs.Prelude.{List as Listed, ◌≡◌, ◌∷◌, [], ◌++◌, ◌<◌, ◌≤◌, ◌^◌, ℕ, codes, IfOk, IfSome, IsSome, Some, None, length, option_map, unwrap_or};
+ghost use Rattle.mini_store.specs.Replies.{pair};
+ghost use Rattle.mini_store.specs.Words.{IsWithinLimits, Words as Said};
+ghost use Rattle.place_model.specs.Calls.{Call, call};
 ghost use Rattle.place_model.specs.Cores.{HasTaken, is_off, is_saying};
 ghost use Rattle.place_model.specs.EnvelopeTexts.{plain_setting};
 ghost use Rattle.place_model.specs.QueueKeys.{pop_keys};
@@ -9,6 +11,7 @@ ghost use Rattle.place_model.specs.Scripts.{next_words, on_popped, kept_by, pop_
 ghost use Rattle.envelope.specs.Bodies.{tag_of_bytes};
 ghost use Rattle.serde_json.specs.View.{view as data_of};
 ghost use Rattle.unacked.specs.Pops.{IsRefused, closed, found_left, index_words, pop_end, pop_left, stage_left, table_words};
+ghost use Rattle.unacked.specs.PopTraces.{FoundTells, HasPopped, HasPoppedOn, IsPopEnded};
 ghost use Rattle.unacked.specs.Steps.{steps_left};
 
 use crate::queues::Queues;
@@ -58,6 +61,7 @@ impl PopCore {
         requires few { length queues ≤ 1023 }
         ensures left { pop_left result ≡ pop_script plain_setting queues }
         ensures end { pop_end result ≡ None }
+        ensures traced { HasPopped queues [] result }
     {
         PopCore {
             stage: PopStage::Asking(Queues::new(queues)),
@@ -89,7 +93,11 @@ impl PopCore {
     pub fn took(&mut self, alloc: Global, at: u64, reply: &Reply) -> Result<(), CoreFault>
         requires moment { at < 2 ^ 40 }
         requires asked { IsSome (next_words (pop_left self.old) at) }
-        ensures { HasTaken (pop_left self.old) (pop_left self.new) at reply.now result }
+        ensures taken { HasTaken (pop_left self.old) (pop_left self.new) at reply.now result }
+        // Whatever calls a core had before, now it has had one more.
+        ensures traced { (names : Listed (Listed ℕ)) (calls : Listed Call) (words : Said)
+            → HasPopped names calls self.old → next_words (pop_left self.old) at ≡ Some words
+            → HasPoppedOn names calls (call at words reply.now.answer) self.new result }
     {
         match &mut self.stage {
             PopStage::Asking(_) => match popped(alloc, &reply.answer)? {
@@ -119,6 +127,9 @@ impl PopCore {
         ensures given { result ≡ pop_end self.old }
         ensures once { pop_end self.new ≡ None }
         ensures left { pop_left self.new ≡ pop_left self.old }
+        // What is given tells of the calls that the core has had, which are a whole block of a pop.
+        ensures traced { (names : Listed (Listed ℕ)) (calls : Listed Call) → HasPopped names calls self.old
+            → HasPopped names calls self.new × IsPopEnded names calls result }
     {
         match &mut self.stage {
             PopStage::Over(end) => end.take(),
@@ -171,7 +182,8 @@ impl PopCore {
 
 /// What an answer to BRPOP brings; None where it isn't a listed one.
 fn popped(alloc: Global, answer: &Value) -> Result<Option<PopStage>, AllocError>
-    ensures { IfOk result (λ stage. found_left stage ≡ on_popped plain_setting answer.now) }
+    ensures left { IfOk result (λ stage. found_left stage ≡ on_popped plain_setting answer.now) }
+    ensures tells { IfOk result (λ stage. FoundTells stage answer.now) }
 {
     if is_null_array(answer) {
         return Ok(Some(PopStage::Over(Some(BlockEnd::Empty))));
@@ -184,8 +196,9 @@ fn popped(alloc: Global, answer: &Value) -> Result<Option<PopStage>, AllocError>
 
 /// What an element that was popped from the list under a key brings.
 fn delivered(alloc: Global, key: &[u8], element: &[u8]) -> Result<PopStage, AllocError>
-    ensures { IfOk result (λ stage. stage_left stage
+    ensures left { IfOk result (λ stage. stage_left stage
         ≡ kept_by plain_setting element.now (tag_of_bytes element.now)) }
+    ensures tells { IfOk result (λ stage. FoundTells (Some stage) (pair key.now element.now)) }
 {
     match read(alloc, element) {
         Ok(envelope) => {

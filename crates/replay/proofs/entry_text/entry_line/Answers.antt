@@ -1,6 +1,6 @@
 use Rattle.std.proofs.Common.{◌++◌, ◌∙◌, ap, sym}
 use Rattle.place_model.specs.declared.history.Entry.TheVariants.{Call}
-use Rattle.replay.specs.Legends.{legend_of}
+use Rattle.schedule_model.specs.Legends.{legend_of}
 use Rattle.schedule_model.specs.Reports.{entry_line}
 use Rattle.replay.proofs.entry_text.entry_line.Goals as goal
 

@@ -1,5 +1,6 @@
 use Rattle.std.proofs.Common.{arith}
-use Rattle.replay.specs.Legends.{legend_of, placed}
+use Rattle.place_model.specs.Placed.{placed}
+use Rattle.schedule_model.specs.Legends.{legend_of}
 use Rattle.replay.proofs.Written.{all_of_them, one_more}
 use Rattle.schedule_model.specs.Reports.{place_line}
 use Rattle.replay.proofs.place_text.place_lines.Goals as goal

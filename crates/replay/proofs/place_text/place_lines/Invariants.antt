@@ -1,7 +1,8 @@
 use Rattle.std.proofs.Common.{◌≡◌, ◌++◌, take}
 use Rattle.std.specs.List.{flat_map}
 use Rattle.place_model.specs.Setting.{Setting}
-use Rattle.replay.specs.Legends.{legend_of, placed}
+use Rattle.place_model.specs.Placed.{placed}
+use Rattle.schedule_model.specs.Legends.{legend_of}
 use Rattle.schedule_model.specs.Reports.{place_line}
 use Rattle.replay.proofs.place_text.place_lines.Given as goal
 

@@ -1,6 +1,6 @@
 use Rattle.std.proofs.Common.{◌∙◌, sym}
 use Rattle.replay.specs.Kinds.{is_of}
-use Rattle.replay.specs.Legends.{placed}
+use Rattle.place_model.specs.Placed.{placed}
 use Rattle.replay.proofs.Reported.{count_by-map}
 use Rattle.replay.proofs.place_text.total.Goals as goal
 

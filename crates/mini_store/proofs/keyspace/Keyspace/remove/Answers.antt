@@ -1,6 +1,9 @@
-use Rattle.std.proofs.Common.{ap, sym, ◌∙◌}
+use Rattle.std.proofs.Common.{ap, sym, ◌∙◌, subst}
 use Rattle.std.specs.FinMap as map
 use Rattle.store_tables.proofs.Maps.{get_made, removed_made, bytes_total, bytes_anti}
+use Rattle.mini_store.specs.Keys.{Keys}
+use Rattle.mini_store.specs.Expiries.{EndsFrom}
+use Rattle.mini_store.proofs.Calm.{ends_remove}
 use Rattle.mini_store.proofs.keyspace.Keyspace.remove.Goals as goal
 
 pub returns-clause-held : goal.returns-clause-held
@@ -8,3 +11,11 @@ returns-clause-held c = c.remove.ensures.value ∙ sym (get_made bytes_total byt
 
 pub returns-clause-removed : goal.returns-clause-removed
 returns-clause-removed c = removed_made bytes_total bytes_anti c.self.inside.kept.entries c.remove.new.self.entries c.args.key.now c.remove.ensures.updates.0 ∙ ap (λ m. map.remove m c.args.key.now) c.self.view_is
+
+pub invariant_of-self : goal.invariant_of-self
+invariant_of-self c =
+    let n = c.self.inside.soonest in
+    let m : Keys = map.from_entries c.self.inside.kept.entries in
+    let P : Keys → Type 0 = λ m. EndsFrom n m in
+    subst P (sym (removed_made bytes_total bytes_anti c.self.inside.kept.entries c.remove.new.self.entries c.args.key.now c.remove.ensures.updates.0))
+    (ends_remove n m c.args.key.now c.self.invariant)

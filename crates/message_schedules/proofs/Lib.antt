@@ -1,0 +1,4 @@
+pub mod Octets
+pub mod TaskTrees
+pub mod Seals
+pub mod Program

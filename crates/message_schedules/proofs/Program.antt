@@ -1,0 +1,54 @@
+-- What the program's schedules determine.
+use Rattle.std.proofs.Common.{◌≡◌, true, length, ◌≤◌, refl, subst, arith}
+use Rattle.place_model.specs.EnvelopeTexts.{plain_setting, texts}
+use Rattle.place_model.specs.Histories.{History}
+use Rattle.place_model.specs.Layouts.{is_layout, plain}
+use Rattle.place_model.specs.Names.{Bytes, same}
+use Rattle.place_model.specs.Starts.{IsSound}
+use Rattle.place_model.specs.declared.heard.Heard.{Heard}
+use Rattle.place_theorem.proofs.Sound.{placed_one}
+use Rattle.message_places.proofs.Serving.{exchanges, facts, full}
+use Rattle.schedule_model.specs.EachPlaced.{IsEachPlaced}
+use Rattle.schedule_model.specs.Desk.{Desk}
+use Rattle.schedule_model.specs.Programs.{program_craft}
+use Rattle.schedule_model.specs.Schedules.{Determined, Whole, Full, Bad_line, history_of, schedule_run}
+use Rattle.schedule_laws.specs.Sound.{IsCraft, IsSoundlyDetermined}
+use Rattle.schedule_laws.proofs.Crafts.{layout_craft}
+use Rattle.schedule_laws.proofs.Determined.{schedule_sound}
+use Rattle.message_schedules.specs.Laws.{ArePlaced, HistoriesPlaced, HistoriesSound}
+use Rattle.message_schedules.proofs.Seals.{seals_tell}
+
+lawful : is_layout plain ≡ true
+unfolding same
+lawful = refl
+
+few : length plain.steps ≤ 4
+few = omega arith
+
+pub craft : IsCraft program_craft
+craft = layout_craft plain texts program_craft lawful few refl facts exchanges seals_tell
+
+pub sound : HistoriesSound
+sound bytes = schedule_sound program_craft craft bytes
+
+-- in a sound history each message is in its place
+placed : (h : History Heard) → IsSound plain_setting h → IsEachPlaced h
+placed h is p t front accepted single = placed_one (full plain lawful) h p t is front accepted single
+
+all_placed : (r : Determined) → IsSoundlyDetermined plain_setting r → ArePlaced r
+all_placed (Whole d) s = placed (history_of d) s.history
+all_placed (Full n cost) s = (s.0, placed (history_of s.0) s.1.history, s.2, s.3, s.4)
+all_placed (Bad_line n reason) s = tt
+
+pub each_placed : HistoriesPlaced
+each_placed bytes = all_placed (schedule_run program_craft bytes) (sound bytes)
+
+-- ---- of a whole history
+
+-- the history that a schedule determines is sound
+pub whole_sound : (bytes : Bytes) (d : Desk) → schedule_run program_craft bytes ≡ Whole d → IsSound plain_setting (history_of d)
+whole_sound bytes d e = (subst (IsSoundlyDetermined plain_setting) e (sound bytes)).history
+
+-- and its messages are in their places
+pub whole_placed : (bytes : Bytes) (d : Desk) → schedule_run program_craft bytes ≡ Whole d → IsEachPlaced (history_of d)
+whole_placed bytes d e = placed (history_of d) (whole_sound bytes d e)

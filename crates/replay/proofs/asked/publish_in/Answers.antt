@@ -1,0 +1,5 @@
+use Rattle.replay.proofs.Sizes.{few_publish}
+use Rattle.replay.proofs.asked.publish_in.Goals as goal
+
+pub returns-in-empty : goal.returns-in-empty
+returns-in-empty c = few_publish (λ word. word.now) c.args.words.now c.in-empty.len_below

@@ -1,0 +1,28 @@
+-- Drafts of tasks, and the texts of envelopes.
+use Rattle.std.specs.Prelude.{◌≡◌, ◌≤◌, ℕ, pos, ◌++◌, codes, false, IsUtf8}
+use Rattle.serde_json.specs.Data.{Data}
+use Rattle.serde_json.specs.View.{view as data_of}
+use Rattle.serde_json.specs.Written.{compact_text, has_float}
+use Rattle.envelope.specs.declared.envelope.Envelope.{Envelope}
+use Rattle.envelope.specs.declared.sealing.Draft.{Draft}
+use Rattle.place_model.specs.Names.{Bytes}
+use Rattle.schedule_model.specs.Drafts.{content_tree, headers_tree}
+
+-- the compact text of an envelope's tree
+abbrev pub envelope_text : Envelope → Bytes
+envelope_text e = compact_text (data_of e)
+
+-- the content of a task around the text of its arguments
+abbrev pub content_around : Bytes → Bytes
+content_around args = codes "[" ++ (args ++ codes ",{},{\"callbacks\":null,\"chain\":null,\"chord\":null,\"errbacks\":null}]")
+
+-- the draft is that of a task under this tag's text: its exchange, routing key, priority, name, and arguments without a float
+pub record IsDraftOf (t exchange routing_key : Bytes) (priority : ℕ) (task : Bytes) (args : Data) (draft : Draft) : Type 0 where
+  pub content : has_float args ≡ false → draft.content ≡ compact_text (content_tree args)
+  pub is_text : IsUtf8 draft.content
+  pub headers : has_float args ≡ false → data_of draft.headers ≡ headers_tree t task args
+  pub id : draft.id ≡ t
+  pub exchange_is : draft.exchange ≡ exchange
+  pub routing_key_is : draft.routing_key ≡ routing_key
+  pub priority_is : draft.priority ≡ pos priority
+  pub is_byte : priority ≤ 255

@@ -1,0 +1,279 @@
+//! What a line of a schedule begins, as its words spell it.
+ghost use Rattle.std.specs.Prelude.{◌≡◌, ◌∷◌, IfOk, List, map, option_map, ℕ};
+ghost use Rattle.line_text.specs.Numbers.{number_in};
+ghost use Rattle.schedule_model.specs.Lines.{asked_in, dashed_in, declare_in, name_in, pass_in, publish_in, queues_in, tagged_in, with_four, with_one};
+ghost use Rattle.replay.specs.Bindings.{bound};
+ghost use Rattle.schedule_model.specs.declared.line.Asked.{Asked as Begun};
+ghost use Rattle.schedule_model.specs.declared.line.Asked.TheVariants.{Ack, Declare, Pop, Publish, Requeue, Restore, Undeclare};
+
+use crate::word::{dashed_in, joined, name_in, priority_in, queues_in, visibility_in};
+use line_text::tag_in;
+use resp_wire::Bytes;
+use schedule_model::Asked;
+use std::alloc::{AllocError, Global};
+
+/// What these words begin, the word of the block before the others. None where they spell nothing that can be begun.
+pub(crate) fn asked_in(
+    alloc: Global,
+    block: &str,
+    words: &[&str],
+) -> Result<Option<Asked>, AllocError>
+    ensures { IfOk result (λ found. found
+        ≡ asked_in block.now (map (λ word. word.now) words.now)) }
+{
+    if block == "publish" {
+        publish_in(alloc, words)
+    } else if block == "declare" {
+        declare_in(alloc, words)
+    } else if block == "undeclare" {
+        undeclare_in(alloc, words)
+    } else if block == "pop" {
+        pop_in(alloc, words)
+    } else if block == "ack" {
+        Ok(ack_in(words))
+    } else if block == "restore" {
+        Ok(restore_in(words))
+    } else if block == "requeue" {
+        Ok(requeue_in(words))
+    } else if block == "pass" {
+        Ok(pass_in(words))
+    } else {
+        Ok(None)
+    }
+}
+
+/// A publication, whose arguments are the rest of the line.
+fn publish_in(alloc: Global, words: &[&str]) -> Result<Option<Asked>, AllocError>
+    ensures { IfOk result (λ found. found ≡ publish_in (map (λ word. word.now) words.now)) }
+{
+    match words {
+        [] | [_] => Ok(None),
+        [exchange, routing_key, rest @ ..] => publish_to(alloc, exchange, routing_key, rest),
+    }
+}
+
+/// A publication to an exchange by a routing key.
+fn publish_to(
+    alloc: Global,
+    exchange: &str,
+    routing_key: &str,
+    words: &[&str],
+) -> Result<Option<Asked>, AllocError>
+    ensures { IfOk result (λ found. found
+        ≡ publish_in (exchange.now ∷ routing_key.now ∷ map (λ word. word.now) words.now)) }
+{
+    match words {
+        [] | [_] => Ok(None),
+        [priority, task, rest @ ..] => {
+            publish_task(alloc, exchange, routing_key, priority, task, rest)
+        }
+    }
+}
+
+/// A publication of a task, whose arguments are these words.
+fn publish_task(
+    alloc: Global,
+    exchange: &str,
+    routing_key: &str,
+    priority: &str,
+    task: &str,
+    words: &[&str],
+) -> Result<Option<Asked>, AllocError>
+    ensures { IfOk result (λ found. found ≡ publish_in (exchange.now ∷ routing_key.now
+        ∷ priority.now ∷ task.now ∷ map (λ word. word.now) words.now)) }
+{
+    match words {
+        [] => Ok(None),
+        [_, ..] => {
+            let arguments = joined(alloc, words)?;
+            publication(alloc, exchange, routing_key, priority, task, arguments)
+        }
+    }
+}
+
+/// A publication of these words and arguments.
+fn publication(
+    alloc: Global,
+    exchange: &str,
+    routing_key: &str,
+    priority: &str,
+    task: &str,
+    arguments: Bytes,
+) -> Result<Option<Asked>, AllocError>
+    ensures { IfOk result (λ found. found ≡ with_four (λ x k p t. Publish x k p t arguments)
+        (dashed_in exchange.now) (dashed_in routing_key.now)
+        (number_in 0 255 priority.now) (name_in task.now)) }
+{
+    let Some(exchange) = dashed_in(alloc, exchange)? else {
+        return Ok(None);
+    };
+    let Some(routing_key) = dashed_in(alloc, routing_key)? else {
+        return Ok(None);
+    };
+    let Some(priority) = priority_in(priority) else {
+        return Ok(None);
+    };
+    let Some(task) = name_in(alloc, task)? else {
+        return Ok(None);
+    };
+    Ok(Some(Asked::Publish {
+        exchange,
+        routing_key,
+        priority,
+        task,
+        arguments,
+    }))
+}
+
+/// The exchange, routing key, pattern and queue of a binding.
+#[derive(Drop)]
+struct Binding {
+    exchange: Bytes,
+    routing_key: Bytes,
+    pattern: Bytes,
+    queue: Bytes,
+}
+
+/// A binding to be added.
+fn declare_in(alloc: Global, words: &[&str]) -> Result<Option<Asked>, AllocError>
+    ensures { IfOk result (λ found. found
+        ≡ declare_in Declare (map (λ word. word.now) words.now)) }
+{
+    let Some(binding) = binding_in(alloc, words)? else {
+        return Ok(None);
+    };
+    Ok(Some(Asked::Declare {
+        exchange: binding.exchange,
+        routing_key: binding.routing_key,
+        pattern: binding.pattern,
+        queue: binding.queue,
+    }))
+}
+
+/// A binding to be removed.
+fn undeclare_in(alloc: Global, words: &[&str]) -> Result<Option<Asked>, AllocError>
+    ensures { IfOk result (λ found. found
+        ≡ declare_in Undeclare (map (λ word. word.now) words.now)) }
+{
+    let Some(binding) = binding_in(alloc, words)? else {
+        return Ok(None);
+    };
+    Ok(Some(Asked::Undeclare {
+        exchange: binding.exchange,
+        routing_key: binding.routing_key,
+        pattern: binding.pattern,
+        queue: binding.queue,
+    }))
+}
+
+/// A binding of these words.
+fn binding_in(alloc: Global, words: &[&str]) -> Result<Option<Binding>, AllocError>
+    ensures { IfOk result (λ found. (f : List ℕ → List ℕ → List ℕ → List ℕ → Begun)
+        → declare_in f (map (λ word. word.now) words.now) ≡ option_map (bound f) found) }
+{
+    match words {
+        [exchange, routing_key, pattern, queue] => {
+            if *exchange == "-" {
+                Ok(None)
+            } else {
+                made_binding(alloc, exchange, routing_key, pattern, queue)
+            }
+        }
+        [] | [_] | [_, _] | [_, _, _] | [_, _, _, _, _, ..] => Ok(None),
+    }
+}
+
+/// A binding of an exchange that isn't empty.
+fn made_binding(
+    alloc: Global,
+    exchange: &str,
+    routing_key: &str,
+    pattern: &str,
+    queue: &str,
+) -> Result<Option<Binding>, AllocError>
+    ensures { IfOk result (λ found. (f : List ℕ → List ℕ → List ℕ → List ℕ → Begun)
+        → with_four f (name_in exchange.now) (dashed_in routing_key.now)
+        (dashed_in pattern.now) (name_in queue.now) ≡ option_map (bound f) found) }
+{
+    let Some(exchange) = name_in(alloc, exchange)? else {
+        return Ok(None);
+    };
+    let Some(routing_key) = dashed_in(alloc, routing_key)? else {
+        return Ok(None);
+    };
+    let Some(pattern) = dashed_in(alloc, pattern)? else {
+        return Ok(None);
+    };
+    let Some(queue) = name_in(alloc, queue)? else {
+        return Ok(None);
+    };
+    Ok(Some(Binding {
+        exchange,
+        routing_key,
+        pattern,
+        queue,
+    }))
+}
+
+/// The queues of a pop.
+fn pop_in(alloc: Global, words: &[&str]) -> Result<Option<Asked>, AllocError>
+    ensures { IfOk result (λ found. found
+        ≡ with_one Pop (queues_in (map (λ word. word.now) words.now))) }
+{
+    let Some(queues) = queues_in(alloc, words)? else {
+        return Ok(None);
+    };
+    Ok(Some(Asked::Pop { queues }))
+}
+
+/// The tag that is acknowledged.
+fn ack_in(words: &[&str]) -> Option<Asked>
+    ensures { result ≡ tagged_in Ack (map (λ word. word.now) words.now) }
+{
+    match words {
+        [tag] => {
+            let (seed, counter) = tag_in(tag)?;
+            Some(Asked::Ack { seed, counter })
+        }
+        [] | [_, _, ..] => None,
+    }
+}
+
+/// The tag whose message is returned to the tail.
+fn restore_in(words: &[&str]) -> Option<Asked>
+    ensures { result ≡ tagged_in Restore (map (λ word. word.now) words.now) }
+{
+    match words {
+        [tag] => {
+            let (seed, counter) = tag_in(tag)?;
+            Some(Asked::Restore { seed, counter })
+        }
+        [] | [_, _, ..] => None,
+    }
+}
+
+/// The tag whose message is returned to the head.
+fn requeue_in(words: &[&str]) -> Option<Asked>
+    ensures { result ≡ tagged_in Requeue (map (λ word. word.now) words.now) }
+{
+    match words {
+        [tag] => {
+            let (seed, counter) = tag_in(tag)?;
+            Some(Asked::Requeue { seed, counter })
+        }
+        [] | [_, _, ..] => None,
+    }
+}
+
+/// The visibility timeout of a pass.
+fn pass_in(words: &[&str]) -> Option<Asked>
+    ensures { result ≡ pass_in (map (λ word. word.now) words.now) }
+{
+    match words {
+        [visibility] => {
+            let visibility = visibility_in(visibility)?;
+            Some(Asked::Pass { visibility })
+        }
+        [] | [_, _, ..] => None,
+    }
+}

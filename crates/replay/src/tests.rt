@@ -1,0 +1,78 @@
+//! Tests of what a report shows of words.
+//!
+//! The texts stand behind functions without clauses, so that no proof has to read them.
+use crate::Celery;
+use line_text::short_word;
+use std::alloc::{AllocError, Global};
+use std::test::Fail;
+
+/// A message of `tasks.add` as Celery 5 writes it by Kombu's Redis transport.
+fn usual() -> &'static str {
+    r#"{"body": "W1syLCAyXSwge30sIHsiY2FsbGJhY2tzIjogbnVsbCwgImVycmJhY2tzIjogbnVsbCwgImNoYWluIjogbnVsbCwgImNob3JkIjogbnVsbH1d", "content-encoding": "utf-8", "content-type": "application/json", "headers": {"lang": "py", "task": "tasks.add", "id": "c1", "retries": 0}, "properties": {"correlation_id": "c1", "reply_to": "r1", "delivery_mode": 2, "delivery_info": {"exchange": "", "routing_key": "celery"}, "priority": 0, "body_encoding": "base64", "delivery_tag": "00000000-0000-0007-0000-000000000001"}}"#
+}
+
+/// A message that was delivered again.
+fn marked() -> &'static str {
+    r#"{"body": "W1syLCAyXSwge30sIHsiY2FsbGJhY2tzIjogbnVsbCwgImVycmJhY2tzIjogbnVsbCwgImNoYWluIjogbnVsbCwgImNob3JkIjogbnVsbH1d", "content-encoding": "utf-8", "content-type": "application/json", "headers": {"lang": "py", "task": "tasks.add", "id": "c1", "retries": 0, "redelivered": true}, "properties": {"correlation_id": "c1", "reply_to": "r1", "delivery_mode": 2, "delivery_info": {"exchange": "", "routing_key": "celery", "redelivered": true}, "priority": 0, "body_encoding": "base64", "delivery_tag": "00000000-0000-0008-0000-000000000002"}}"#
+}
+
+/// Words with their short forms.
+fn plain() -> &'static [(&'static str, &'static str)] {
+    &[
+        ("00000000-0000-0007-0000-000000000001", "tag(7:1)"),
+        (
+            "0000000A-0000-0007-0000-000000000001",
+            "0000000A-0000-0007-0000-000000000001",
+        ),
+        ("LPUSH", "LPUSH"),
+        ("celery", "celery"),
+        ("1700000000", "1700000000"),
+        ("", "\"\""),
+        ("{}", "\"{}\""),
+        ("[]", "\"[]\""),
+        (
+            "\t[1, \"\", \"celery\"]",
+            "\"\\x09[1, \\\"\\\", \\\"celery\\\"]\"",
+        ),
+    ]
+}
+
+/// The short form of a word.
+fn shown(alloc: Global, word: &str) -> Result<Vec<u8>, AllocError> {
+    let mut out = Vec::new(alloc);
+    short_word(alloc, &Celery, &mut out, word.as_bytes())?;
+    Ok(out)
+}
+
+#[test]
+fn words_are_shown(rt: HostRuntime) -> Result<(), Fail> {
+    let alloc = rt.alloc();
+    for (word, short) in plain() {
+        assert_eq!(rt; shown(alloc, word)?.as_slice(), short.as_bytes(), "{word}");
+    }
+    Ok(())
+}
+
+#[test]
+fn envelopes_and_entries_are_shown(rt: HostRuntime) -> Result<(), Fail> {
+    let alloc = rt.alloc();
+    let (first, again) = (usual(), marked());
+    assert_eq!(rt; shown(alloc, first)?.as_slice(), "env(7:1)".as_bytes());
+    assert_eq!(rt; shown(alloc, again)?.as_slice(), "env(8:2)*".as_bytes());
+    let spaced = format!(in alloc; "\n {first} ")?;
+    assert_eq!(rt;
+        shown(alloc, spaced.as_str())?.as_slice(),
+        "env(7:1)".as_bytes()
+    );
+    let entry = format!(in alloc; "[{first}, \"\", \"celery\"]")?;
+    assert_eq!(rt;
+        shown(alloc, entry.as_str())?.as_slice(),
+        "entry(7:1)".as_bytes()
+    );
+    let entry = format!(in alloc; " [{again}, \"\", \"celery\"]")?;
+    assert_eq!(rt;
+        shown(alloc, entry.as_str())?.as_slice(),
+        "entry(8:2)*".as_bytes()
+    );
+    Ok(())
+}

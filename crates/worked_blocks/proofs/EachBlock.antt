@@ -1,0 +1,198 @@
+-- Each kind of block, with each of its ends, has a whole list, and a client may say all of them in a row.
+use Rattle.std.proofs.Common.{◌≡◌, ℕ, [], ◌∷◌, ◌++◌, Option, Some, None, codes, pos, true, false, refl, lit<, lit≤, inl}
+use Rattle.std.proofs.lemmas.List.{append-nil}
+use Rattle.std.proofs.lemmas.Str.{is_utf8-from_IsUtf8}
+use Rattle.std.specs.Str.{is_utf8}
+use Rattle.resp_wire.specs.Layer.{layer}
+use Rattle.resp_wire.specs.declared.value.Value.TheVariants.{Integer}
+use Rattle.mini_store.specs.Replies.{pong}
+use Rattle.place_model.specs.Answers.{is_error}
+use Rattle.place_model.specs.Bindings.{binding_of}
+use Rattle.place_model.specs.Blocks.{AreBlocks, Drawing, IsBlock, IsMannered, Other, Passing, Pings}
+use Rattle.place_model.specs.Blocks as block
+use Rattle.place_model.specs.Calls.{concat}
+use Rattle.place_model.specs.Names.{Bytes, same}
+use Rattle.place_model.specs.PassBlocks.{All_returned, Done, Held, IsReturns, Is_held, Own, Ran, Returned}
+use Rattle.place_model.specs.Patterns.{matches}
+use Rattle.place_model.specs.ReturnBlocks.{Again, Gone, IsTries, IsTry, Missing, Moved, Nowhere, Stayed, Try, Useless, Whole}
+use Rattle.place_model.specs.RouteBlocks.{Asked, Named, Plain, Told}
+use Rattle.place_model.specs.TakeBlocks.{Acknowledged, Empty, IsPop, Popped, Unreadable}
+use Rattle.place_model.specs.declared.block.Side.{Side}
+use Rattle.place_model.specs.declared.block.Side.TheVariants.{Left, Right}
+use Rattle.worked_blocks.specs.Lists.{all_blocks, bindings, declared, ended, later_keys, marked_envelope, named_envelope, passed, passed_held, pinged, plain_envelope, popped, popped_junk, popped_nothing, published, published_to_none, published_to_two, q, released, returned, returned_gone, returned_junk, returned_late, returned_nowhere, second_tag, tag}
+use Rattle.worked_blocks.specs.Toy.{toy_setting}
+
+-- ---- declaring and publishing
+
+adds : (n p : ℕ) → IsBlock toy_setting 7 n p Other (declared (codes "SADD"))
+unfolding same
+adds n p = block.Declare (codes "ex") (codes "rk") [] (codes "q") _ (Told 100 (pos 1) refl refl refl refl)
+
+removes : (n p : ℕ) → IsBlock toy_setting 7 n p Other (declared (codes "SREM"))
+unfolding same
+removes n p = block.Undeclare (codes "ex") (codes "rk") [] (codes "q") _ (Told 100 (pos 1) refl refl refl refl)
+
+publishes : (p : ℕ) → IsBlock toy_setting 7 0 p Drawing published
+unfolding same
+publishes p = block.Publish plain_envelope _ (Plain 100 q (pos 1) refl refl refl)
+
+publishes_to_two : (p : ℕ) → IsBlock toy_setting 7 1 p Drawing published_to_two
+unfolding same matches binding_of
+publishes_to_two p = block.Publish named_envelope _ (Named 100 (codes "ex") bindings ((100, codes "a", pos 1) ∷ (100, q, pos 1) ∷ []) refl refl refl)
+
+ex_is_text : is_utf8 (codes "ex") ≡ true
+unfolding lib.Utf8.encode
+ex_is_text = is_utf8-from_IsUtf8 (codes "ex") (101 ∷ 120 ∷ [], (refl, refl))
+
+publishes_to_none : (p : ℕ) → IsBlock toy_setting 7 2 p Drawing published_to_none
+publishes_to_none p = block.Publish_short _ (Asked 100 (codes "ex") [] refl ex_is_text)
+
+-- ---- popping and acknowledging
+
+pops : IsPop toy_setting (q ∷ []) (q ∷ later_keys)
+unfolding same
+pops = ((refl, tt), refl, lit≤ tt)
+
+pops_nothing : (n p : ℕ) → IsBlock toy_setting 7 n p Other popped_nothing
+pops_nothing n p = block.Pop (q ∷ []) _ (Empty 100 q later_keys pops)
+
+pops_junk : (n p : ℕ) → IsBlock toy_setting 7 n p Other popped_junk
+pops_junk n p = block.Pop (q ∷ []) _ (Unreadable 100 q later_keys q (codes "junk") pops refl)
+
+pops_message : (n p : ℕ) → IsBlock toy_setting 7 n p Other popped
+pops_message n p = block.Pop (q ∷ []) _ (Popped 100 100 100 100 100 q later_keys q plain_envelope tag (pos 1) (pos 1) pops refl (lit< tt))
+
+ends : (n p : ℕ) → IsBlock toy_setting 7 n p Other ended
+ends n p = block.End tag _ (Acknowledged 100 100 100 100 (pos 1) (pos 1) refl)
+
+-- ---- returning
+
+-- a try that goes as far as EXEC
+one_try : Try
+one_try = record {
+  a = 100;
+  b = 100;
+  c = 100;
+  d = 100;
+  e = 100;
+  f = 100;
+  g = 100;
+  entry = plain_envelope;
+  envelope = marked_envelope;
+  members = [];
+  first = (100, q);
+  others = [];
+}
+
+is_try : IsTry toy_setting tag one_try
+unfolding same one_try
+is_try = ((refl, refl), refl)
+
+moves : (side : Side) → side ≡ Right → IsTries toy_setting Right tag 0 Moved returned
+unfolding one_try
+moves side e = Whole 0 one_try (pos 1 ∷ pos 1 ∷ pos 1 ∷ []) is_try
+
+misses : (side : Side) (k : ℕ) → IsTries toy_setting side tag k Gone returned_gone
+misses side k = Missing k 100 100 100
+
+nothing_is_some : (v : Bytes) → ◌≡◌ {A = Option Bytes} None (Some v) → ⊥
+nothing_is_some v e = cc
+
+returns_message : (n p : ℕ) → IsBlock toy_setting 7 n p Other returned
+returns_message n p = block.Return tag Right Moved _ (refl, moves Right refl)
+
+returns_gone : (n p : ℕ) → IsBlock toy_setting 7 n p Other returned_gone
+returns_gone n p = block.Return tag Left Gone _ (refl, misses Left 0)
+
+returns_junk : (n p : ℕ) → IsBlock toy_setting 7 n p Other returned_junk
+returns_junk n p = block.Return tag Left Stayed _ (refl, Useless 0 100 100 100 (codes "junk") (λ v h. nothing_is_some v h.0))
+
+returns_nowhere : (n p : ℕ) → IsBlock toy_setting 7 n p Other returned_nowhere
+returns_nowhere n p = block.Return second_tag Left Stayed _ (refl, Nowhere 0 100 100 100 100 named_envelope (1 ∷ 7 ∷ 2 ∷ 0 ∷ 1 ∷ codes "rk") [] (refl, refl) refl)
+
+returns_late : (n p : ℕ) → IsBlock toy_setting 7 n p Other returned_late
+unfolding one_try
+returns_late n p = block.Return tag Right Gone _ (refl, Again 0 one_try Gone returned_gone (lit< tt) is_try (misses Right 1))
+
+-- ---- passing, and what concerns no message
+
+passes_held : (n : ℕ) → IsBlock toy_setting 7 n 0 Passing passed_held
+passes_held n = block.Pass 10 Held _ (lit< tt) (Is_held 100)
+
+returns_of_pass : IsReturns toy_setting (tag ∷ []) (Done (Moved ∷ [])) (returned ++ [])
+returns_of_pass = Returned tag [] Moved [] returned [] (moves Right refl) refl All_returned
+
+passes : (n : ℕ) → IsBlock toy_setting 7 n 1 Passing passed
+passes n = block.Pass 10 (Done (Moved ∷ [])) _ (lit< tt) (Ran 100 100 (tag ∷ codes "junk" ∷ []) (Done (Moved ∷ [])) returned released returns_of_pass
+    (Own 100 100 100 100 100 _ (inl (Integer (pos 1) ∷ [], refl))))
+
+pong_is_fine : is_error pong ≡ false
+unfolding layer
+pong_is_fine = refl
+
+pings : (n p : ℕ) → IsBlock toy_setting 7 n p Other pinged
+pings n p = block.Neutral (codes "PING" ∷ []) _ (block.Answered 100 pong Pings pong_is_fine)
+
+-- ---- a client
+
+pub each : AreBlocks toy_setting 7 0 0 all_blocks
+each = (
+  Other,
+  adds 0 0,
+  (
+    Other,
+    removes 0 0,
+    (
+      Drawing,
+      publishes 0,
+      (
+        Drawing,
+        publishes_to_two 0,
+        (
+          Drawing,
+          publishes_to_none 0,
+          (
+            Other,
+            pops_nothing 3 0,
+            (
+              Other,
+              pops_junk 3 0,
+              (
+                Other,
+                pops_message 3 0,
+                (
+                  Other,
+                  ends 3 0,
+                  (
+                    Other,
+                    returns_message 3 0,
+                    (
+                      Other,
+                      returns_gone 3 0,
+                      (
+                        Other,
+                        returns_junk 3 0,
+                        (
+                          Other,
+                          returns_nowhere 3 0,
+                          (
+                            Other,
+                            returns_late 3 0,
+                            (Passing, passes_held 3, (Passing, passes 3, (Other, pings 3 2, tt))),
+                          ),
+                        ),
+                      ),
+                    ),
+                  ),
+                ),
+              ),
+            ),
+          ),
+        ),
+      ),
+    ),
+  ),
+)
+
+pub manner : IsMannered toy_setting 7 (concat all_blocks)
+manner = inl (all_blocks, each, ([], append-nil (concat all_blocks)))

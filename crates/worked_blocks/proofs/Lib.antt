@@ -1,0 +1,2 @@
+pub mod EachBlock
+pub mod ToyTexts

@@ -1,0 +1,159 @@
+-- Whole blocks, written out: a client of seed 7 says one of each kind and each end.
+use Rattle.std.specs.Prelude.{List, [], ◌∷◌, ◌++◌, codes, decimal, pos}
+use Rattle.resp_wire.specs.declared.value.Value.TheVariants.{Integer, Bulk, NullBulk, Array, NullArray}
+use Rattle.mini_store.specs.Replies.{done, queued, pong, bulks, pair}
+use Rattle.place_model.specs.Answers.{integers}
+use Rattle.place_model.specs.Bindings.{member}
+use Rattle.place_model.specs.Calls.{Call, call}
+use Rattle.place_model.specs.Names.{Bytes}
+use Rattle.place_model.specs.TakeBlocks.{brpop_words}
+use Rattle.place_model.specs.Texts.{token}
+
+-- the queue q, and its keys at the later steps
+abbrev pub q : Bytes
+q = codes "q"
+
+abbrev pub later_keys : List Bytes
+later_keys = (codes "q" ++ (6 ∷ 22 ∷ 51 ∷ [])) ∷ (codes "q" ++ (6 ∷ 22 ∷ 54 ∷ [])) ∷ (codes "q" ++ (6 ∷ 22 ∷ 57 ∷ [])) ∷ []
+
+-- the tag and the envelope of a message to q, and the same marked
+abbrev pub tag : Bytes
+tag = 7 ∷ 1 ∷ []
+
+abbrev pub plain_envelope : Bytes
+plain_envelope = 0 ∷ 7 ∷ 1 ∷ 0 ∷ 0 ∷ codes "q"
+
+abbrev pub marked_envelope : Bytes
+marked_envelope = 1 ∷ 7 ∷ 1 ∷ 0 ∷ 0 ∷ codes "q"
+
+-- the second message, on the exchange ex under the routing key rk
+abbrev pub second_tag : Bytes
+second_tag = 7 ∷ 2 ∷ []
+
+abbrev pub named_envelope : Bytes
+named_envelope = 0 ∷ 7 ∷ 2 ∷ 0 ∷ 1 ∷ codes "rk"
+
+abbrev pub bindings : List Bytes
+bindings = member (codes "rk") [] (codes "q") ∷ member (codes "x") (codes "#") (codes "a") ∷ []
+
+-- a binding is added, or removed
+abbrev pub declared : Bytes → List Call
+declared word = call 100 (word ∷ codes "_kombu.binding.ex" ∷ member (codes "rk") [] (codes "q") ∷ []) (Integer (pos 1)) ∷ []
+
+-- a message is published to its queue
+abbrev pub published : List Call
+published = call 100 (codes "LPUSH" ∷ q ∷ plain_envelope ∷ []) (Integer (pos 1)) ∷ []
+
+-- another one to the two queues of its exchange
+abbrev pub published_to_two : List Call
+published_to_two =
+    call 100 (codes "SMEMBERS" ∷ codes "_kombu.binding.ex" ∷ []) (bulks bindings)
+    ∷ call 100 (codes "LPUSH" ∷ codes "a" ∷ named_envelope ∷ []) (Integer (pos 1))
+    ∷ call 100 (codes "LPUSH" ∷ q ∷ named_envelope ∷ []) (Integer (pos 1))
+    ∷ []
+
+-- a third one to none
+abbrev pub published_to_none : List Call
+published_to_none = call 100 (codes "SMEMBERS" ∷ codes "_kombu.binding.ex" ∷ []) (bulks []) ∷ []
+
+-- a pop that finds nothing, one that finds no envelope, and one that puts its message into the table
+abbrev pub popped_nothing : List Call
+popped_nothing = call 100 (brpop_words q later_keys) NullArray ∷ []
+
+abbrev pub popped_junk : List Call
+popped_junk = call 100 (brpop_words q later_keys) (pair q (codes "junk")) ∷ []
+
+abbrev pub popped : List Call
+popped =
+    call 100 (brpop_words q later_keys) (pair q plain_envelope)
+    ∷ call 100 (codes "MULTI" ∷ []) done
+    ∷ call 100 (codes "ZADD" ∷ codes "unacked_index" ∷ decimal 100 ∷ tag ∷ []) queued
+    ∷ call 100 (codes "HSET" ∷ codes "unacked" ∷ tag ∷ plain_envelope ∷ []) queued
+    ∷ call 100 (codes "EXEC" ∷ []) (integers (pos 1 ∷ pos 1 ∷ []))
+    ∷ []
+
+-- an acknowledgement
+abbrev pub ended : List Call
+ended =
+    call 100 (codes "MULTI" ∷ []) done
+    ∷ call 100 (codes "ZREM" ∷ codes "unacked_index" ∷ tag ∷ []) queued
+    ∷ call 100 (codes "HDEL" ∷ codes "unacked" ∷ tag ∷ []) queued
+    ∷ call 100 (codes "EXEC" ∷ []) (integers (pos 1 ∷ pos 1 ∷ []))
+    ∷ []
+
+-- a return that moves its message, one that finds none, one that finds no entry, and one whose exchange has no queue
+abbrev pub returned : List Call
+returned =
+    call 100 (codes "WATCH" ∷ codes "unacked" ∷ []) done
+    ∷ call 100 (codes "HGET" ∷ codes "unacked" ∷ tag ∷ []) (Bulk plain_envelope)
+    ∷ call 100 (codes "MULTI" ∷ []) done
+    ∷ call 100 (codes "ZREM" ∷ codes "unacked_index" ∷ tag ∷ []) queued
+    ∷ call 100 (codes "HDEL" ∷ codes "unacked" ∷ tag ∷ []) queued
+    ∷ call 100 (codes "RPUSH" ∷ q ∷ marked_envelope ∷ []) queued
+    ∷ call 100 (codes "EXEC" ∷ []) (integers (pos 1 ∷ pos 1 ∷ pos 1 ∷ []))
+    ∷ []
+
+abbrev pub returned_gone : List Call
+returned_gone =
+    call 100 (codes "WATCH" ∷ codes "unacked" ∷ []) done
+    ∷ call 100 (codes "HGET" ∷ codes "unacked" ∷ tag ∷ []) NullBulk
+    ∷ call 100 (codes "UNWATCH" ∷ []) done
+    ∷ []
+
+abbrev pub returned_junk : List Call
+returned_junk =
+    call 100 (codes "WATCH" ∷ codes "unacked" ∷ []) done
+    ∷ call 100 (codes "HGET" ∷ codes "unacked" ∷ tag ∷ []) (Bulk (codes "junk"))
+    ∷ call 100 (codes "UNWATCH" ∷ []) done
+    ∷ []
+
+abbrev pub returned_nowhere : List Call
+returned_nowhere =
+    call 100 (codes "WATCH" ∷ codes "unacked" ∷ []) done
+    ∷ call 100 (codes "HGET" ∷ codes "unacked" ∷ second_tag ∷ []) (Bulk named_envelope)
+    ∷ call 100 (codes "SMEMBERS" ∷ codes "_kombu.binding.ex" ∷ []) (bulks [])
+    ∷ call 100 (codes "UNWATCH" ∷ []) done
+    ∷ []
+
+-- a return that fails once and then finds its message gone
+abbrev pub returned_late : List Call
+returned_late =
+    call 100 (codes "WATCH" ∷ codes "unacked" ∷ []) done
+    ∷ call 100 (codes "HGET" ∷ codes "unacked" ∷ tag ∷ []) (Bulk plain_envelope)
+    ∷ call 100 (codes "MULTI" ∷ []) done
+    ∷ call 100 (codes "ZREM" ∷ codes "unacked_index" ∷ tag ∷ []) queued
+    ∷ call 100 (codes "HDEL" ∷ codes "unacked" ∷ tag ∷ []) queued
+    ∷ call 100 (codes "RPUSH" ∷ q ∷ marked_envelope ∷ []) queued
+    ∷ call 100 (codes "EXEC" ∷ []) NullArray
+    ∷ returned_gone
+
+-- a pass that finds the mutex held, and one that returns what is due
+abbrev pub passed_held : List Call
+passed_held = call 100 (codes "SET" ∷ codes "unacked_mutex" ∷ token 7 1 ∷ codes "NX" ∷ codes "EX" ∷ codes "300" ∷ []) NullBulk ∷ []
+
+abbrev pub released : List Call
+released =
+    call 100 (codes "WATCH" ∷ codes "unacked_mutex" ∷ []) done
+    ∷ call 100 (codes "GET" ∷ codes "unacked_mutex" ∷ []) (Bulk (token 7 2))
+    ∷ call 100 (codes "MULTI" ∷ []) done
+    ∷ call 100 (codes "DEL" ∷ codes "unacked_mutex" ∷ []) queued
+    ∷ call 100 (codes "EXEC" ∷ []) (Array (Integer (pos 1) ∷ []))
+    ∷ []
+
+abbrev pub passed : List Call
+passed =
+    call 100 (codes "SET" ∷ codes "unacked_mutex" ∷ token 7 2 ∷ codes "NX" ∷ codes "EX" ∷ codes "300" ∷ []) done
+    ∷ call 100 (codes "ZREVRANGEBYSCORE" ∷ codes "unacked_index" ∷ decimal 90 ∷ codes "0" ∷ codes "LIMIT" ∷ codes "0" ∷ codes "10" ∷ []) (bulks (tag ∷ codes "junk" ∷ []))
+    ∷ returned ++ released
+
+-- a command that concerns no message
+abbrev pub pinged : List Call
+pinged = call 100 (codes "PING" ∷ []) pong ∷ []
+
+-- all of them, in a row
+abbrev pub all_blocks : List (List Call)
+all_blocks =
+    declared (codes "SADD") ∷ declared (codes "SREM") ∷ published ∷ published_to_two ∷ published_to_none
+    ∷ popped_nothing ∷ popped_junk ∷ popped ∷ ended
+    ∷ returned ∷ returned_gone ∷ returned_junk ∷ returned_nowhere ∷ returned_late
+    ∷ passed_held ∷ passed ∷ pinged ∷ []
