@@ -1,9 +1,7 @@
 -- How a core goes on by a reply.
-use Rattle.std.proofs.Common.{◌≡◌, ◌≤◌, ◌-◌, ℕ, zero, suc, Bool, true, false, List, [], ◌∷◌, refl, sym, ap, ◌∙◌, subst, Option, Some, None, Result, Ok, Err, IsSome, arith}
+use Rattle.std.proofs.Common.{◌≡◌, ◌≤◌, ◌-◌, ℕ, zero, suc, true, false, [], refl, sym, ◌∙◌, subst, Result, Ok, Err, IsSome, arith}
 use Rattle.std.proofs.Math.Logic.{∥∥₁_elim}
 use Rattle.std.specs.Prelude.{⊤}
-use Rattle.std.specs.declared.alloc.AllocError.{AllocError}
-use Rattle.resp_wire.specs.Layer.{layer}
 use Rattle.resp_wire.specs.declared.value.Value.{Value}
 use Rattle.mini_store.specs.Words.{Words}
 use Rattle.mini_store.specs.declared.reply.Reply.{Reply}
@@ -11,9 +9,9 @@ use Rattle.place_model.specs.Calls.{call}
 use Rattle.place_model.specs.Cores.{HasTaken, IsAnswered}
 use Rattle.place_model.specs.Scripts.{Script, Over, Off, Say, after_call, next_words}
 use Rattle.place_model.specs.declared.block.CoreFault.{CoreFault}
-use Rattle.place_model.specs.declared.block.CoreFault.TheVariants.{Draft, Name, NoTag, BadNeutral, Refused, Memory}
+use Rattle.place_model.specs.declared.block.CoreFault.TheVariants.{Refused}
 use Rattle.schedule_model.specs.Faults.{has_more}
-use Rattle.schedule_world.specs.Lefts.{HasGone, IsAtMost, after_answer}
+use Rattle.schedule_world.specs.Lefts.{IsAtMost, after_answer}
 
 false_true : false ≡ true → ⊥
 false_true e = cc
@@ -74,6 +72,10 @@ taken_well old new at reply t u e h =
 
 -- refused
 pub taken_badly : (old new : Script) (at : ℕ) (reply given : Reply) (fault : CoreFault) → fault ≡ Refused given → HasTaken old new at reply (Err fault) → new ≡ after_answer old reply.answer
-taken_badly old new at reply given fault e h =
-    let P : CoreFault → Type 0 = λ f. HasTaken old new at reply (Err f) in
-    answered_so old new at reply.answer ((subst P e h).0)
+taken_badly old new at reply given fault i h =
+    let Q : CoreFault → Type 0 = λ f. HasTaken old new at reply (Err f) in
+    answered_so old new at reply.answer ((subst Q i h).0)
+
+-- one of two answers
+pub taken_so : (old new : Script) (at : ℕ) (reply : Reply) (t : Result ⊤ CoreFault) (fault : CoreFault) → t ≡ Err fault → HasTaken old new at reply t → HasTaken old new at reply (Err fault)
+taken_so old new at reply t fault e h = let P : Result ⊤ CoreFault → Type 0 = λ t. HasTaken old new at reply t in subst P e h

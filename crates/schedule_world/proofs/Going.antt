@@ -1,5 +1,5 @@
 -- Clients that are not gone.
-use Rattle.std.proofs.Common.{◌≡◌, ℕ, List, [], ◌∷◌, ◌++◌, refl, ap, ◌∙◌, false}
+use Rattle.std.proofs.Common.{◌≡◌, ℕ, List, [], ◌∷◌, ◌++◌, refl, ap, ◌∙◌}
 use Rattle.std.specs.Prelude.{◌==◌, ◌||◌}
 use Rattle.mini_store.specs.declared.reply.Reply.{Reply}
 use Rattle.place_model.specs.Shown.{has_stopped}

@@ -1,6 +1,6 @@
 -- What a client says of its block, one command after the other.
-use Rattle.std.proofs.Common.{◌≡◌, ℕ, List, [], Bool, true, false, cond, refl, sym, ap, ◌∙◌, subst, Option, None, Some}
-use Rattle.std.specs.Prelude.{if◌then◌else◌, unwrap_or}
+use Rattle.std.proofs.Common.{◌≡◌, ℕ, Bool, true, false, cond, refl, sym, ap, ◌∙◌, None, Some}
+use Rattle.std.specs.Prelude.{unwrap_or}
 use Rattle.mini_store.specs.Store.{apply_of}
 use Rattle.mini_store.specs.Words.{Words}
 use Rattle.place_model.specs.Scripts.{Script, Over, Off, Say, next_words}

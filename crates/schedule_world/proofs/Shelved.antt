@@ -1,12 +1,11 @@
 -- Books of clients, as desks have them.
-use Rattle.std.proofs.Common.{◌≡◌, ℕ, List, [], ◌∷◌, Bool, true, false, cond, refl, sym, ap, ◌∙◌, None, Some, Option, map}
+use Rattle.std.proofs.Common.{◌≡◌, ℕ, List, [], ◌∷◌, Bool, true, false, cond, refl, sym, ap, ◌∙◌, Some, Option, map}
 use Rattle.std.specs.Prelude.{option_map}
 use Rattle.std.specs.Ordering.{eq_by_cmp, nat_cmp}
 use Rattle.std.specs.Cmp.{nat_cmp_total}
-use Rattle.std.specs.FinMap.{FinMap, empty, entries, from_entries, get, get-empty, get-entries, get-from_entries, get-insert, insert, nat_cmp-IsAntisymmetric, remove, same_map}
+use Rattle.std.specs.FinMap.{empty, entries, get, get-empty, get-entries, get-from_entries, get-insert, insert, nat_cmp-IsAntisymmetric, remove, same_map}
 use Rattle.std.specs.FinMap.Entries.{find}
 use Rattle.store_tables.proofs.Lookups.{insert-remove}
-use Rattle.schedule_model.specs.Desk as desk
 use Rattle.schedule_world.specs.Books.{book_of, books_of}
 use Rattle.schedule_world.specs.Shelves.{Shelf}
 use Rattle.schedule_world.specs.declared.book.Book.{Book}

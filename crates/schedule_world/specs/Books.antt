@@ -1,5 +1,5 @@
 -- The books of clients, as a reader of schedules has them.
-use Rattle.std.specs.Prelude.{ℕ, false, map}
+use Rattle.std.specs.Prelude.{false, map}
 use Rattle.std.specs.FinMap.{FinMap, entries, from_entries}
 use Rattle.std.specs.Ordering.{nat_cmp}
 use Rattle.schedule_model.specs.Desk as desk

@@ -1,5 +1,5 @@
 //! What is left of a client's block.
-ghost use Rattle.std.specs.Prelude.{ℕ};
+ghost use Rattle.std.specs.Prelude.{ℕ, Err};
 ghost use Rattle.mini_store.specs.declared.reply.Reply.{Reply as Answer};
 ghost use Rattle.place_model.specs.Cores.{HasTaken};
 ghost use Rattle.place_model.specs.Scripts.{Script};
@@ -161,15 +161,22 @@ impl Core {
 fn heard(taken: Result<(), CoreFault>) -> Result<(), AllocError>
     ensures { (old new : Script) (at : ℕ) (reply : Answer) → HasTaken old new at reply taken → HasGone old new reply.answer result }
 {
-    match taken {
+    match &taken {
         Ok(()) => Ok(()),
-        Err(CoreFault::Refused(_)) => Ok(()),
-        Err(
-            CoreFault::Draft(_)
-            | CoreFault::Name(_)
-            | CoreFault::NoTag
-            | CoreFault::BadNeutral
-            | CoreFault::Memory,
-        ) => Err(AllocError),
+        Err(fault) => unless_refused(fault),
+    }
+}
+
+/// Want of memory, unless it was for an answer that isn't listed that a core took no reply.
+fn unless_refused(fault: &CoreFault) -> Result<(), AllocError>
+    ensures { (old new : Script) (at : ℕ) (reply : Answer) → HasTaken old new at reply (Err fault.now) → HasGone old new reply.answer result }
+{
+    match fault {
+        CoreFault::Refused(_) => Ok(()),
+        CoreFault::Draft(_)
+        | CoreFault::Name(_)
+        | CoreFault::NoTag
+        | CoreFault::BadNeutral
+        | CoreFault::Memory => Err(AllocError),
     }
 }

@@ -56,6 +56,27 @@ impl Past {
         }
     }
 
+    /// The present moment in seconds.
+    pub(crate) fn moment(&self) -> u64
+        ensures { result ≡ self.now.moment }
+    {
+        self.moment
+    }
+
+    /// What the history's entries cost, in bytes.
+    pub(crate) fn cost(&self) -> u64
+        ensures { result ≡ total_cost (history_of self.now.history).entries }
+    {
+        self.cost
+    }
+
+    /// The history so far.
+    pub(crate) fn into_history(self) -> History
+        ensures { result ≡ self.history }
+    {
+        self.history
+    }
+
     /// How many entries there are.
     pub(crate) fn entry_count(&self) -> u64
         ensures { result ≡ length (history_of self.now.history).entries }
@@ -96,7 +117,13 @@ impl Past {
     }
 
     /// A client's call of these words, which are the next of its block: the store answers, and the block goes on.
-    fn call(&mut self, alloc: Global, client: u32, words: Words, left: &mut Left) -> Result<(), AllocError>
+    fn call(
+        &mut self,
+        alloc: Global,
+        client: u32,
+        words: Words,
+        left: &mut Left,
+    ) -> Result<(), AllocError>
         requires known { has_number client (history_of self.old.history).clients ≡ true }
         requires limits { IsWithinLimits words }
         requires next { next_words (script_left left.old) self.old.moment ≡ Some words }
@@ -127,7 +154,12 @@ impl Past {
     }
 
     /// A client says the next command of its block, if there is one. False where the history has no room for it.
-    pub(crate) fn say_one(&mut self, alloc: Global, client: u32, left: &mut Left) -> Result<bool, AllocError>
+    pub(crate) fn say_one(
+        &mut self,
+        alloc: Global,
+        client: u32,
+        left: &mut Left,
+    ) -> Result<bool, AllocError>
         requires { has_number client (history_of self.old.history).clients ≡ true }
         ensures said { IfOk result (λ room. (bs : FinMap nat_cmp Book) → said_one (desk_with self.old bs) client (script_left left.old) ≡ record { desk = desk_with self.new bs; left = script_left left.new; room = room }) }
         ensures fewer { IfOk result (λ room. room ≡ true → has_more (script_left left.old) ≡ true → commands_left left.new < commands_left left.old) }
@@ -144,7 +176,12 @@ impl Past {
     }
 
     /// A client says its block to the end. False where the history has no room for all of it.
-    pub(crate) fn say_all(&mut self, alloc: Global, client: u32, left: &mut Left) -> Result<bool, AllocError>
+    pub(crate) fn say_all(
+        &mut self,
+        alloc: Global,
+        client: u32,
+        left: &mut Left,
+    ) -> Result<bool, AllocError>
         requires { has_number client (history_of self.old.history).clients ≡ true }
         ensures said { IfOk result (λ room. (bs : FinMap nat_cmp Book) → said_all (desk_with self.old bs) client (script_left left.old) ≡ record { desk = desk_with self.new bs; left = script_left left.new; room = room }) }
         ensures table { (history_of self.new.history).clients ≡ (history_of self.old.history).clients }

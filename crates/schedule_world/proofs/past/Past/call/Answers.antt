@@ -1,6 +1,5 @@
-use Rattle.std.proofs.Common.{◌≡◌, ◌+◌, rules, arith, ap, sym, ◌∙◌, ◌∷◌, [], ◌++◌}
+use Rattle.std.proofs.Common.{◌≡◌, ◌+◌, rules, arith, ap, ◌∙◌, ◌∷◌, [], ◌++◌}
 use Rattle.std.proofs.lemmas.Grind.{common_steps}
-use Rattle.place_model.specs.Shown.{history_of}
 use Rattle.place_model.specs.declared.history.Entry.TheVariants.{Call}
 use Rattle.schedule_model.specs.Costs.{reply_size, words_size}
 use Rattle.schedule_world.proofs.Going.{still_running}
@@ -11,7 +10,7 @@ use Rattle.schedule_world.specs.Blocks.{script_left}
 use Rattle.schedule_world.proofs.past.Past.call.Goals as goal
 
 pub add-requires : goal.add-requires
-add-requires c = (among c.args.client c.args.self.now.history.clients c.requires.known, c.args.self.now.running c.args.client)
+add-requires c = record { running = (among c.args.client c.args.self.now.history.clients c.requires.known, c.args.self.now.running c.args.client); takable = (c.args.self.now.early, c.requires.limits) }
 
 pub took-requires-clause-asked : goal.took-requires-clause-asked
 took-requires-clause-asked c = more_next (script_left c.args.left.now) c.args.self.now.moment c.args.words c.requires.next

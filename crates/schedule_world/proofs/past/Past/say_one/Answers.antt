@@ -1,6 +1,5 @@
-use Rattle.std.proofs.Common.{◌≡◌, sym, ◌∙◌, Some, true}
-use Rattle.place_model.specs.Scripts.{next_words}
-use Rattle.schedule_world.proofs.Sayings.{more_next, said_full, said_next, said_none}
+use Rattle.std.proofs.Common.{sym, ◌∙◌, true}
+use Rattle.schedule_world.proofs.Sayings.{said_next}
 use Rattle.schedule_world.specs.Blocks.{script_left}
 use Rattle.schedule_world.specs.Desks.{desk_with}
 use Rattle.schedule_world.proofs.past.Past.say_one.Goals as goal
