@@ -1,5 +1,6 @@
 pub mod Answered
 pub mod Bounds
+pub mod Clients
 pub mod Directly
 pub mod Drafted
 pub mod Going
@@ -9,3 +10,5 @@ pub mod Sayings
 pub mod Shelved
 pub mod Sizes
 pub mod Sizing
+pub mod Spoken
+pub mod Taken
