@@ -1,5 +1,6 @@
 pub mod Answered
 pub mod Bounds
+pub mod Clients
 pub mod Directly
 pub mod Drafted
 pub mod Going
@@ -12,3 +13,5 @@ pub mod Shelved
 pub mod Sizes
 pub mod Sizing
 pub mod Numbered
+pub mod Spoken
+pub mod Taken

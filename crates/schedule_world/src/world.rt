@@ -25,13 +25,16 @@ pub struct World {
 }
 
 impl World {
-    ghost use Rattle.std.specs.Prelude.{◌≡◌, Some};
+    ghost use Rattle.std.specs.FinMap.{get};
+    ghost use Rattle.std.specs.Prelude.{◌≡◌, Some, option_map};
     ghost use Rattle.line_text.specs.Words.{words_of};
     ghost use Rattle.schedule_model.specs.Desk.{first_desk};
+    ghost use Rattle.schedule_model.specs.Faults.{is_gone};
     ghost use Rattle.schedule_model.specs.Programs.{program_craft};
     ghost use Rattle.schedule_model.specs.Schedules.{led_by, line_led, words_led};
     ghost use Rattle.schedule_model.specs.Schedules as schedules;
     ghost use Rattle.schedule_model.specs.declared.line.Line.TheVariants.{At, Begin, Client, Run, Step};
+    ghost use Rattle.schedule_world.specs.Books.{book_of};
     ghost use Rattle.schedule_world.specs.Desks.{desk_of};
     ghost use Rattle.schedule_world.specs.Plans.{IsBuiltBlock, IsBuiltLine};
     ghost use Rattle.schedule_world.specs.Told.{IsRoom, IsTold};
@@ -101,7 +104,7 @@ impl World {
     fn client_line(&mut self, alloc: Global, client: u32, seed: u64) -> Result<(), LineFault>
         ensures { IsTold (led_by program_craft (desk_of self.old) (Some (Client client seed))) (desk_of self.old) (desk_of self.new) result }
     {
-        if let Some(book) = self.books.get(client) && book.left.is_off() {
+        if self.is_stopped(client) {
             return Err(LineFault::Bad(Reason::Stopped));
         }
         if self.past.has_client(client, seed) {
@@ -117,6 +120,16 @@ impl World {
             },
         )?;
         Ok(())
+    }
+
+    /// Whether a client has to stop, since an answer to it wasn't listed.
+    fn is_stopped(&self, client: u32) -> bool
+        ensures { result ≡ is_gone (option_map book_of (get self.now.books client)) }
+    {
+        match self.books.get(client) {
+            Some(book) => book.left.is_off(),
+            None => false,
+        }
     }
 
     /// Another moment.
