@@ -10,3 +10,4 @@ pub mod Shelved
 pub mod Sizes
 pub mod Sizing
 pub mod Numbered
+pub mod Lawful
