@@ -15,3 +15,4 @@ pub mod Sizing
 pub mod Numbered
 pub mod Spoken
 pub mod Taken
+pub mod Lawful
