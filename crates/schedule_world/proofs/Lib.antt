@@ -1,5 +1,7 @@
 pub mod Answered
+pub mod Begins
 pub mod Bounds
+pub mod BuiltLines
 pub mod Clients
 pub mod Directly
 pub mod Drafted

@@ -1,0 +1,123 @@
+-- What a line leads to by which a client begins a block.
+use Rattle.std.proofs.Common.{◌≡◌, ℕ, suc, List, [], ◌∷◌, ◌++◌, Bool, true, false, refl, sym, ap, ◌∙◌, subst, Option, None, Some, Result, Ok, Err}
+use Rattle.std.specs.Prelude.{if◌then◌else◌, option_map}
+use Rattle.std.specs.FinMap.{get, insert}
+use Rattle.std.specs.Result.{IsErr, IsErrAnd}
+use Rattle.line_text.specs.declared.reason.Reason.{Reason}
+use Rattle.line_text.specs.declared.reason.Reason.TheVariants.{Busy, Stopped}
+use Rattle.place_model.specs.Blocks.{drawn, passed}
+use Rattle.place_model.specs.EnvelopeTexts.{plain_setting}
+use Rattle.place_model.specs.Names.{Bytes}
+use Rattle.place_model.specs.Scripts.{End, Plan, Pop, Publish, Script, kind_of, script_of}
+use Rattle.schedule_model.specs.Desk as desk
+use Rattle.schedule_model.specs.Desk.{Desk, begun, with_book}
+use Rattle.schedule_model.specs.Faults.{asked_tests, counter_of, first_reason, has_more, is_busy, is_off, present_tests, seed_of}
+use Rattle.schedule_model.specs.Programs.{program_craft}
+use Rattle.schedule_model.specs.Schedules.{Led, Bad, Went, led_unless, plan_of, publish_plan, with_plan}
+use Rattle.schedule_model.specs.declared.line.Asked.{Asked}
+use Rattle.schedule_model.specs.declared.line.Asked.TheVariants as asked
+use Rattle.schedule_model.specs.declared.line.Line.TheVariants.{Begin}
+use Rattle.schedule_world.proofs.Shelved.{books_of-insert, get-books_of}
+use Rattle.schedule_world.specs.Blocks.{script_left}
+use Rattle.schedule_world.specs.Books.{book_of, books_of}
+use Rattle.schedule_world.specs.Desks.{desk_with}
+use Rattle.schedule_world.specs.Plans.{IsBegun, IsBuiltBlock, IsPrepared}
+use Rattle.schedule_world.specs.Rests.{IsResting}
+use Rattle.schedule_world.specs.Shelves.{Shelf}
+use Rattle.schedule_world.specs.Told.{IsTold}
+use Rattle.schedule_world.specs.declared.book.Book.{Book}
+use Rattle.schedule_world.specs.declared.fault.LineFault.{LineFault}
+use Rattle.schedule_world.specs.declared.fault.LineFault.TheVariants as fault
+use Rattle.schedule_world.specs.declared.left.Left.{Left}
+use Rattle.schedule_world.specs.declared.past.Past.{Past}
+use Rattle.schedule_world.specs.declared.plan.Begun.{Begun}
+
+no_error : false ≡ true → ⊥
+no_error e = cc
+
+-- the first reason why a client can't begin, by its book
+abbrev pub begin_reason : Asked → Option desk.Book → Option Reason
+begin_reason a b = first_reason (present_tests b ++ (is_busy b, Busy) ∷ asked_tests program_craft (seed_of b) (counter_of b) a)
+
+-- what such a line leads to, by that reason
+abbrev pub begin_led : Desk → ℕ → Asked → Option desk.Book → Led
+begin_led d c a b = led_unless program_craft d (Begin c a) (begin_reason a b)
+
+-- a client that can't begin
+pub resting_bad : (d : Desk) (m : Shelf) (c : ℕ) (a : Asked) (r : Reason) → IsResting (get m c) (Err r) → begin_led d c a (get (books_of m) c) ≡ Bad r
+resting_bad d m c a r h =
+    let b = option_map book_of (get m c) in
+    ap (begin_led d c a) (get-books_of m c) ∙ ap (led_unless program_craft d (Begin c a)) (h (asked_tests program_craft (seed_of b) (counter_of b) a))
+
+-- tests that don't hold
+passing : (x y : Bool) (o : Option Reason) → x ≡ false → y ≡ false → (if x then Some Stopped else if y then Some Busy else o) ≡ o
+passing x y o e f = ap (λ t. if t then Some Stopped else if y then Some Busy else o) e ∙ ap (λ t. if t then Some Busy else o) f
+
+-- a book by its seed and how many tags were drawn
+pub found_so : (o : Option Book) (k : Book) (s n : ℕ) → o ≡ Some k → ◌≡◌ {A = ℕ × ℕ} (s, n) (k.seed, k.drawn) → o ≡ Some (record { seed = s; drawn = n; left = k.left })
+found_so o k s n e f =
+    let again : ℕ × ℕ → Option Book = λ q. Some (record { seed = q.0; drawn = q.1; left = k.left }) in
+    e ∙ sym (ap again f)
+
+-- a publication makes no pass
+publishing : (o : Option Bytes) (p : Plan) → publish_plan o ≡ Some p → passed (kind_of p) 0 ≡ 0
+publishing None p e = cc
+publishing (Some v) p e = let same : p ≡ Publish v = cc in ap (λ q. passed (kind_of q) 0) same
+
+-- nor does what is built
+passes_kept : (s n : ℕ) (a : Asked) (p : Plan) → IsBuiltBlock a → plan_of program_craft s n a ≡ Some p → passed (kind_of p) 0 ≡ 0
+passes_kept s n (asked.Publish x k q t j) p h e = publishing (program_craft.sealed s n x k q t j) p e
+passes_kept s n (asked.Declare x k q t) p h e = absurd h
+passes_kept s n (asked.Undeclare x k q t) p h e = absurd h
+passes_kept s n (asked.Pop qs) p h e = let same : p ≡ Pop qs = cc in ap (λ q. passed (kind_of q) 0) same
+passes_kept s n (asked.Ack a b) p h e = let same : p ≡ End (plain_setting.tag a b) = cc in ap (λ q. passed (kind_of q) 0) same
+passes_kept s n (asked.Restore a b) p h e = absurd h
+passes_kept s n (asked.Requeue a b) p h e = absurd h
+passes_kept s n (asked.Pass v) p h e = absurd h
+
+module _ (past : Past) (m t : Shelf) (c s n : ℕ) (l : Left) (a : Asked) (found : get m c ≡ Some (record { seed = s; drawn = n; left = l })) (on : is_off (script_left l) ≡ false) (free : has_more (script_left l) ≡ false) where
+  abbrev before : Desk
+  before = desk_with past (books_of m)
+
+  abbrev there : desk.Book
+  there = record { seed = s; drawn = n; passes = 0; left = script_left l; stopped = false }
+
+  book_found : get (books_of m) c ≡ Some there
+  book_found = get-books_of m c ∙ ap (option_map book_of) found
+
+  reason_is : begin_reason a (get (books_of m) c) ≡ first_reason (asked_tests program_craft s (suc n) a)
+  reason_is = ap (begin_reason a) book_found ∙ passing (is_off (script_left l)) (has_more (script_left l)) (first_reason (asked_tests program_craft s (suc n) a)) on free
+
+  -- a block that fails a test
+  pub asked_bad : (r : Reason) → first_reason (asked_tests program_craft s (suc n) a) ≡ Some r → begin_led before c a (get (books_of m) c) ≡ Bad r
+  asked_bad r e = ap (led_unless program_craft before (Begin c a)) (reason_is ∙ e)
+
+  prepared_told : (f : LineFault) → IsPrepared s n a (Err f) → IsTold (begin_led before c a (get (books_of m) c)) before before (Err f)
+  prepared_told (fault.Bad r) h = (asked_bad r h, refl)
+  prepared_told (fault.Full k cost) h = absurd h
+  prepared_told fault.Memory h = tt
+
+  -- what is answered then, or for want of memory
+  pub unprepared : (f : LineFault) (r : Result (Unit {0}) LineFault) → IsErr r → IsErrAnd r (λ g. g ≡ f) → IsPrepared s n a (Err f) → IsTold (begin_led before c a (get (books_of m) c)) before before r
+  unprepared f (Ok u) e h p = absurd (no_error e)
+  unprepared f (Err g) e h p = subst (λ x. IsTold (begin_led before c a (get (books_of m) c)) before before (Err x)) (sym h) (prepared_told f p)
+
+  -- the book of a client that begins a plan
+  book_begun : (b : Begun) (p : Plan) → passed (kind_of p) 0 ≡ 0 → IsBegun s n p b → begun plain_setting there p ≡ book_of (record { seed = s; drawn = b.drawn; left = b.left })
+  book_begun b p e h =
+      let x : desk.Book = record { seed = s; drawn = b.drawn; passes = 0; left = script_left b.left; stopped = false } in
+      ap (λ (q : ℕ). record x { drawn = drawn (kind_of p) n; passes = q; left = script_of plain_setting s 0 p }) e
+      ∙ ap (λ (q : ℕ). record x { drawn = q; left = script_of plain_setting s 0 p }) (sym h.1)
+      ∙ ap (λ (q : Script). record x { left = q }) (sym h.0)
+
+  -- a block that is begun
+  pub asked_went : (b : Begun) (p : Plan) → IsBuiltBlock a → first_reason (asked_tests program_craft s (suc n) a) ≡ None → plan_of program_craft s (suc n) a ≡ Some p → IsBegun s n p b
+      → t ≡ insert m c (record { seed = s; drawn = b.drawn; left = b.left }) → begin_led before c a (get (books_of m) c) ≡ Went (desk_with past (books_of t))
+  asked_went b p built none plan h grown =
+      let k : Book = record { seed = s; drawn = b.drawn; left = b.left } in
+      let books : insert (books_of m) c (begun plain_setting there p) ≡ books_of t =
+        ap (insert (books_of m) c) (book_begun b p (passes_kept s (suc n) a p built plan) h) ∙ sym (ap books_of grown ∙ books_of-insert m c k) in
+      ap (led_unless program_craft before (Begin c a)) (reason_is ∙ none)
+      ∙ ap (λ o. with_plan program_craft before c o (plan_of program_craft (seed_of o) (counter_of o) a)) book_found
+      ∙ ap (with_plan program_craft before c (Some there)) plan
+      ∙ ap (λ bs. Went (desk_with past bs)) books
