@@ -13,4 +13,4 @@ pub returns : goal.returns
 returns c =
     let read : c.if-is_cut.text.now ≡ take 67108865 c.args.bytes.now = elim c.if-is_cut.branch [ then-is_cut w ↦ grind (arith, common_steps) | else-is_cut w ↦ uncut 67108864 _ _ (ap (λ t. t.now) w.text-is) w.if-is_cut.false ] in
     let answer : IsAnswer c.args.bytes.now c.text_run.result = subst (λ t. IsRun (header_on program_craft (nat_lt 67108864 (length c.args.bytes.now)) (lines_of t)) c.text_run.result) read c.text_run.ensures in
-    record { answer = answer; sound = run_sound _ _ answer; placed = run_placed _ _ answer }
+    record { answer = answer; sound = run_sound c.args.bytes.now c.text_run.result answer; placed = run_placed c.args.bytes.now c.text_run.result answer }
