@@ -1,5 +1,5 @@
 -- What a line leads to by which a client begins a block.
-use Rattle.std.proofs.Common.{◌≡◌, ℕ, suc, List, [], ◌∷◌, ◌++◌, Bool, true, false, refl, sym, ap, ◌∙◌, subst, Option, None, Some, Result, Ok, Err}
+use Rattle.std.proofs.Common.{◌≡◌, ℕ, suc, ◌∷◌, ◌++◌, Bool, true, false, refl, sym, ap, ◌∙◌, subst, Option, None, Some, Result, Ok, Err}
 use Rattle.std.specs.Prelude.{if◌then◌else◌, option_map}
 use Rattle.std.specs.FinMap.{get, insert}
 use Rattle.std.specs.Result.{IsErr, IsErrAnd}
@@ -116,7 +116,7 @@ module _ (past : Past) (m t : Shelf) (c s n : ℕ) (l : Left) (a : Asked) (found
   asked_went b p built none plan h grown =
       let k : Book = record { seed = s; drawn = b.drawn; left = b.left } in
       let books : insert (books_of m) c (begun plain_setting there p) ≡ books_of t =
-        ap (insert (books_of m) c) (book_begun b p (passes_kept s (suc n) a p built plan) h) ∙ sym (ap books_of grown ∙ books_of-insert m c k) in
+      ap (insert (books_of m) c) (book_begun b p (passes_kept s (suc n) a p built plan) h) ∙ sym (ap books_of grown ∙ books_of-insert m c k) in
       ap (led_unless program_craft before (Begin c a)) (reason_is ∙ none)
       ∙ ap (λ o. with_plan program_craft before c o (plan_of program_craft (seed_of o) (counter_of o) a)) book_found
       ∙ ap (with_plan program_craft before c (Some there)) plan

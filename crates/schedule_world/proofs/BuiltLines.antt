@@ -136,7 +136,7 @@ begin_built (c ∷ w ∷ ws) l h e =
 line_by : (client at begin run step stop : Bool) (ws : List Bytes) (l : Line)
     → (not (client || (at || (begin || (run || (step || false))))) || (begin && block_waits workers ws)) ≡ false
     → (if client then client_line ws else if at then at_line ws else if begin then begin_line ws
-        else if step then of_client Step ws else if run then of_client Run ws else if stop then of_client Stop ws else None) ≡ Some l
+    else if step then of_client Step ws else if run then of_client Run ws else if stop then of_client Stop ws else None) ≡ Some l
     → IsBuiltLine l
 line_by true at begin run step stop ws l h e = client_built ws l e
 line_by false true begin run step stop ws l h e = at_built ws l e

@@ -44,7 +44,7 @@ pub added : (p p' : Past) (m t : Shelf) (c s : ℕ) (l : Left) → script_left l
 added p p' m t c s l over e grown =
     let k : Book = record { seed = s; drawn = 0; left = l } in
     let same : books_of t ≡ insert (books_of m) c (record { seed = s; drawn = 0; passes = 0; left = Over; stopped = false }) =
-      ap books_of e ∙ (books_of-insert m c k ∙ ap (λ x. insert (books_of m) c (record { seed = s; drawn = 0; passes = 0; left = x; stopped = false })) over) in
+    ap books_of e ∙ (books_of-insert m c k ∙ ap (λ x. insert (books_of m) c (record { seed = s; drawn = 0; passes = 0; left = x; stopped = false })) over) in
     sym (grown (books_of t) ∙ ap (λ b. record (desk_with p b) { clients = (history_of p.history).clients ++ (c, s) ∷ [] }) same)
 
 -- who has a book is still in the table

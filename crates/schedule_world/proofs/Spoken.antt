@@ -1,6 +1,6 @@
 -- What a line leads to by which a client goes on with its block.
 use Rattle.std.proofs.Common.{◌≡◌, ℕ, List, [], ◌∷◌, ◌++◌, Bool, true, false, refl, sym, ap, ◌∙◌, subst, Option, None, Some, Result, Ok, Err}
-use Rattle.std.specs.Prelude.{if◌then◌else◌, is_some, not, option_map, OnOk, OnErr}
+use Rattle.std.specs.Prelude.{if◌then◌else◌, not, option_map, OnOk, OnErr}
 use Rattle.std.specs.Result.{IsErr, IsErrAnd}
 use Rattle.std.specs.FinMap.{get, insert, remove}
 use Rattle.std.specs.declared.alloc.AllocError.{AllocError}

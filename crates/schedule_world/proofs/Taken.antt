@@ -1,5 +1,5 @@
 -- What lines lead to, over plain variables.
-use Rattle.std.proofs.Common.{◌≡◌, ℕ, suc, ◌<◌, ◌≤◌, ◌^◌, List, [], ◌∷◌, Bool, true, false, ◌&&◌, refl, sym, ap, ◌∙◌, Option, None, Some, Ok, arith}
+use Rattle.std.proofs.Common.{◌≡◌, ℕ, suc, ◌<◌, ◌≤◌, ◌^◌, List, Bool, true, false, ◌&&◌, refl, sym, ap, ◌∙◌, None, Some, Ok, arith}
 use Rattle.std.specs.Prelude.{◌||◌, if◌then◌else◌, is_some, nat_le, nat_lt, option_map}
 use Rattle.std.specs.FinMap.{get, empty, get-empty}
 use Rattle.std.specs.List.{list_any}
@@ -11,7 +11,7 @@ use Rattle.place_model.specs.Names.{Bytes, is_reserved}
 use Rattle.place_model.specs.Scripts.{Pop, Publish, pop_script, publish_script}
 use Rattle.schedule_model.specs.Desk.{Desk}
 use Rattle.schedule_model.specs.Drafts.{arguments_of, sealed_task}
-use Rattle.schedule_model.specs.Faults.{has_number, is_empty, is_gone, is_no_name, is_off}
+use Rattle.schedule_model.specs.Faults.{has_number, is_empty, is_gone, is_no_name}
 use Rattle.schedule_model.specs.Programs.{program_craft}
 use Rattle.schedule_model.specs.Schedules.{Went, led_unless, publish_plan}
 use Rattle.schedule_model.specs.declared.line.Asked.TheVariants as asked
@@ -23,7 +23,6 @@ use Rattle.schedule_world.specs.Books.{book_of, books_of}
 use Rattle.schedule_world.specs.Plans.{IsPrepared}
 use Rattle.schedule_world.specs.Running.{AreKnown}
 use Rattle.schedule_world.specs.Shelves.{Shelf}
-use Rattle.schedule_world.specs.declared.book.Book.{Book}
 use Rattle.schedule_world.specs.declared.plan.Begun.{Begun}
 
 false_true : false ≡ true → ⊥

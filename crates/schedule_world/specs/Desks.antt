@@ -1,5 +1,4 @@
 -- What a world shows: the desk of a reader of schedules.
-use Rattle.std.specs.Prelude.{List, ℕ}
 use Rattle.std.specs.FinMap.{FinMap}
 use Rattle.std.specs.Ordering.{nat_cmp}
 use Rattle.place_model.specs.Shown.{history_of}

@@ -107,7 +107,12 @@ impl Past {
     }
 
     /// Adds a client; without memory nothing changes.
-    pub(crate) fn add_client(&mut self, alloc: Global, client: u32, seed: u64) -> Result<(), AllocError>
+    pub(crate) fn add_client(
+        &mut self,
+        alloc: Global,
+        client: u32,
+        seed: u64,
+    ) -> Result<(), AllocError>
         requires number { has_number client (history_of self.old.history).clients ≡ false }
         requires seed { has_seed seed (history_of self.old.history).clients ≡ false }
         ensures ok { OnOk result ((bs : FinMap nat_cmp Book) → desk_with self.new bs ≡ record (desk_with self.old bs) { clients = (history_of self.old.history).clients ++ (client, seed) ∷ [] }) }

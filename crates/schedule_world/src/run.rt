@@ -40,7 +40,11 @@ pub fn run_schedule(alloc: Global, bytes: &[u8]) -> Result<History, RunFault>
     ensures placed { IfOk result (λ h. IsEachPlaced (history_of h)) }
 {
     let is_cut = INPUT_LIMIT < bytes.len();
-    let text = if is_cut { &bytes[..INPUT_LIMIT + 1] } else { bytes };
+    let text = if is_cut {
+        &bytes[..INPUT_LIMIT + 1]
+    } else {
+        bytes
+    };
     text_run(alloc, World::new(alloc), is_cut, text)
 }
 

@@ -17,6 +17,12 @@ fn fault_of(alloc: Global, schedule: &[u8]) -> Option<(u64, Reason)> {
 fn header_comes_first(rt: HostRuntime) {
     let alloc = rt.alloc();
     assert_eq!(rt; fault_of(alloc, b""), Some((1, Reason::Header)));
-    assert_eq!(rt; fault_of(alloc, b"celery-schedule 2\n"), Some((1, Reason::Header)));
-    assert_eq!(rt; fault_of(alloc, b"celery-schedule 1\nat\n"), Some((2, Reason::Syntax)));
+    assert_eq!(rt;
+        fault_of(alloc, b"celery-schedule 2\n"),
+        Some((1, Reason::Header))
+    );
+    assert_eq!(rt;
+        fault_of(alloc, b"celery-schedule 1\nat\n"),
+        Some((2, Reason::Syntax))
+    );
 }

@@ -1,4 +1,4 @@
-use Rattle.std.proofs.Common.{◌≡◌, ◌≤◌, ap, arith, length, nat_lt, subst, take}
+use Rattle.std.proofs.Common.{◌≡◌, ap, arith, length, nat_lt, subst, take}
 use Rattle.std.proofs.lemmas.Grind.{common_steps}
 use Rattle.line_text.specs.Lines.{lines_of}
 use Rattle.schedule_model.specs.Programs.{program_craft}

@@ -1,7 +1,6 @@
-use Rattle.std.proofs.Common.{◌≡◌, Some, ap, ◌∙◌, refl, true}
+use Rattle.std.proofs.Common.{ap, refl}
 use Rattle.std.specs.Prelude.{is_some}
 use Rattle.std.specs.FinMap.{get}
-use Rattle.schedule_model.specs.Faults.{has_number}
 use Rattle.schedule_world.proofs.Begins.{asked_went, found_so, resting_bad, unprepared}
 use Rattle.schedule_world.proofs.Spoken.{set_known, told_bad}
 use Rattle.schedule_world.specs.Desks.{desk_of}
@@ -26,8 +25,8 @@ pub invariant_of-self : goal.invariant_of-self
 invariant_of-self c =
     record {
       known =
-        set_known c.args.self.now.books c.set.new.self c.args.self.now.past.history.clients c.args.client _ c.set.result c.args.self.now.known
-        (c.args.self.now.known c.args.client (ap is_some c.in_ok-seed.ensures.1)) c.set.ensures.ok c.set.ensures.err;
+          set_known c.args.self.now.books c.set.new.self c.args.self.now.past.history.clients c.args.client _ c.set.result c.args.self.now.known
+          (c.args.self.now.known c.args.client (ap is_some c.in_ok-seed.ensures.1)) c.set.ensures.ok c.set.ensures.err;
     }
 
 pub returns : goal.returns

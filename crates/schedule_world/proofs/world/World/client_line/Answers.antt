@@ -1,4 +1,4 @@
-use Rattle.std.proofs.Common.{◌≡◌, List, ◌∷◌, [], ◌++◌, refl, sym, ap, ◌∙◌}
+use Rattle.std.proofs.Common.{◌≡◌, ◌∷◌, [], ◌++◌, refl, sym, ap, ◌∙◌}
 use Rattle.std.specs.FinMap.{empty}
 use Rattle.schedule_model.specs.Faults.{has_number}
 use Rattle.schedule_model.specs.Schedules.{Went}
@@ -27,8 +27,8 @@ invariant_of-self-2 c =
     let grown : c.add_client.new.self.history.clients ≡ c.args.self.now.past.history.clients ++ (c.args.client, c.args.seed) ∷ [] = ap (λ d. d.clients) (c.in_ok-add_client.ensures.ok empty) in
     record {
       known =
-        set_known c.args.self.now.books c.set.new.self c.add_client.new.self.history.clients c.args.client _ c.set.result
-        (grown_known c.args.self.now.books c.args.self.now.past.history.clients c.add_client.new.self.history.clients c.args.client c.args.seed c.args.self.now.known grown)
-        (ap (has_number c.args.client) grown ∙ newest c.args.client c.args.seed c.args.self.now.past.history.clients)
-        c.set.ensures.ok c.set.ensures.err;
+          set_known c.args.self.now.books c.set.new.self c.add_client.new.self.history.clients c.args.client _ c.set.result
+          (grown_known c.args.self.now.books c.args.self.now.past.history.clients c.add_client.new.self.history.clients c.args.client c.args.seed c.args.self.now.known grown)
+          (ap (has_number c.args.client) grown ∙ newest c.args.client c.args.seed c.args.self.now.past.history.clients)
+          c.set.ensures.ok c.set.ensures.err;
     }

@@ -22,9 +22,9 @@ invariant_of-self-2 c =
     let there : has_number c.args.client c.say_one.new.self.history.clients ≡ true = ap (has_number c.args.client) c.say_one.ensures.table ∙ c.args.self.now.known c.args.client (ap is_some c.in_ok-book.ensures.taken.0) in
     record {
       known =
-        set_known c.take_busy.new.self c.set.new.self c.say_one.new.self.history.clients c.args.client _ c.set.result
-        (taken_known c.args.self.now.books c.take_busy.new.self c.args.self.now.past.history.clients c.say_one.new.self.history.clients c.args.client c.args.self.now.known c.in_ok-book.ensures.removed c.say_one.ensures.table)
-        there c.set.ensures.ok c.set.ensures.err;
+          set_known c.take_busy.new.self c.set.new.self c.say_one.new.self.history.clients c.args.client _ c.set.result
+          (taken_known c.args.self.now.books c.take_busy.new.self c.args.self.now.past.history.clients c.say_one.new.self.history.clients c.args.client c.args.self.now.known c.in_ok-book.ensures.removed c.say_one.ensures.table)
+          there c.set.ensures.ok c.set.ensures.err;
     }
 
 pub returns : goal.returns
