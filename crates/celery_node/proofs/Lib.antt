@@ -1,3 +1,3 @@
 pub mod Endings
-pub mod Fronts
+pub mod Lines
 pub mod Statuses

@@ -1,4 +1,4 @@
 pub mod Endings
-pub mod Replays
-pub mod Statuses
+pub mod Schedule
+pub mod Text
 pub mod Words

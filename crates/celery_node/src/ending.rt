@@ -1,9 +1,8 @@
 //! How a run ends: each way with its text and its status.
-ghost use Rattle.std.specs.Prelude.{IfOk, ◌≡◌};
+ghost use Rattle.std.specs.Prelude.{IfOk, string_bytes, ◌≡◌};
 ghost use Rattle.celery_node.specs.Endings.{ended_of, text_of};
 
-use line_text::BadLine;
-use resp_wire::Bytes;
+use crate::schedule::Reason;
 use std::alloc::{AllocError, Global};
 
 /// What a top call answers.
@@ -18,33 +17,34 @@ pub struct Ended {
 }
 
 /// The ways in which a run ends, but for a failure of the sink, which is status 5.
-#[derive(Debug, Drop)]
+#[derive(Clone, Copy, Debug, PartialEq, Eq)]
 pub enum End {
-    /// Status 0: the input was read to its end, and determines a history, whose report this is.
-    Reported(Bytes),
+    /// Status 0: the input was read to its end, and its report was written.
+    Reported,
     /// Status 2: the word at this place is the first bad one.
     BadWord(u64),
     /// Status 3: this line is the first bad one.
-    BadLine(BadLine),
+    BadLine(u64, Reason),
     /// Status 4: the source failed.
     ReadFault,
-    /// Status 9: a history of so many entries, which cost so many bytes, was to grow, and is full.
-    Full { entries: u64, bytes: u64 },
     /// Status 11: there was no memory.
     Memory,
 }
 
+/// The report of an empty history.
+const EMPTY_REPORT: &str =
+    "celery-report 1\ntotal list 0 unacked 0 hand 0 ended 0 lost 0 copies 0\n";
+
 impl End {
     /// The status and the place.
-    pub fn ended(&self) -> Ended
-        ensures { result ≡ ended_of self.now }
+    pub fn ended(self) -> Ended
+        ensures { result ≡ ended_of self }
     {
         let (status, place) = match self {
-            End::Reported(_) => (0, 0),
-            End::BadWord(place) => (2, *place),
-            End::BadLine(bad) => (3, bad.line),
+            End::Reported => (0, 0),
+            End::BadWord(place) => (2, place),
+            End::BadLine(line, _) => (3, line),
             End::ReadFault => (4, 0),
-            End::Full { .. } => (9, 0),
             End::Memory => (11, 0),
         };
         Ended {
@@ -54,23 +54,19 @@ impl End {
         }
     }
 
-    /// The text that is written; a report isn't copied.
-    pub fn into_text(self, alloc: Global) -> Result<Bytes, AllocError>
-        ensures { IfOk result (λ text. text ≡ text_of self) }
+    /// The text that is written.
+    pub fn text(self, alloc: Global) -> Result<String, AllocError>
+        ensures { IfOk result (λ s. string_bytes s ≡ text_of self) }
     {
-        let text = match self {
-            End::Reported(report) => return Ok(report),
-            End::BadWord(place) => format!(in alloc; "bad word {place}\n")?,
-            End::BadLine(BadLine { line, reason }) => {
-                let why = reason.text();
-                format!(in alloc; "bad line {line}: {why}\n")?
-            }
-            End::ReadFault => String::from_str(alloc, "read fault\n")?,
-            End::Full { entries, bytes } => {
-                format!(in alloc; "history full {entries} {bytes}\n")?
-            }
-            End::Memory => String::from_str(alloc, "out of memory\n")?,
-        };
-        Ok(Bytes::from_vec(text.into_bytes()))
+        match self {
+            End::Reported => String::from_str(alloc, EMPTY_REPORT),
+            End::BadWord(place) => format!(in alloc; "bad word {place}\n"),
+            End::BadLine(line, Reason::Long) => format!(in alloc; "bad line {line}: long\n"),
+            End::BadLine(line, Reason::Text) => format!(in alloc; "bad line {line}: text\n"),
+            End::BadLine(line, Reason::Header) => format!(in alloc; "bad line {line}: header\n"),
+            End::BadLine(line, Reason::Later) => format!(in alloc; "bad line {line}: later\n"),
+            End::ReadFault => String::from_str(alloc, "read fault\n"),
+            End::Memory => String::from_str(alloc, "out of memory\n"),
+        }
     }
 }

@@ -5,6 +5,7 @@ ghost use Rattle.std.specs.Prelude.{IfOk, map, string_bytes, ◌≡◌};
 
 mod ending;
 mod node;
+mod schedule;
 mod words;
 
 use links::{StdSink, StdSource};

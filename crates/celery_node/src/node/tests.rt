@@ -1,73 +1,70 @@
-//! The top call over a source and a sink in memory: each status, and reads and writes that fail.
-mod rows;
-
-use super::{finish, run};
-use crate::ending::{End, Ended};
+//! Each status of the top call, over a source and a sink in memory.
+use super::run;
+use crate::ending::Ended;
 use links::{MemorySink, MemorySource};
 use resp_wire::Bytes;
 use std::alloc::{AllocError, Global};
 use std::test::Fail;
 
-/// One message published.
-const SCHEDULE: &[u8] = b"celery-schedule 1
-client 1 seed 7
-at 100
-begin 1 publish - celery 0 tasks.add [2,3]
-run 1
-";
+const HEADER: &[u8] = b"celery-schedule 1\n";
 
-/// What it gives.
-const REPORT: &[u8] = b"celery-report 1
-1 100 1 LPUSH celery env(7:1) = :1
-place 7:1 list celery 0
-total list 1 unacked 0 hand 0 ended 0 lost 0 copies 0
-";
+const REPORT: &[u8] = b"celery-report 1\ntotal list 0 unacked 0 hand 0 ended 0 lost 0 copies 0\n";
 
-/// A call that isn't made, so that no call fails.
-const NEVER: u64 = u64::MAX;
-
-/// An end of a run that leaves no messages.
-fn ended(status: u8, place: u64) -> Ended {
-    Ended {
-        status,
-        place,
-        left: 0,
-    }
-}
-
-/// A run of `replay` over a schedule in pieces of 7 bytes, into a sink of piece 1, with the sink that took its text.
+/// A run of `replay` over these bytes, with the sink that took its text.
 fn replayed(
     alloc: Global,
-    schedule: &[u8],
-    failing_read: u64,
-    failing_write: u64,
+    bytes: Bytes,
+    read_fails: u64,
+    write_fails: u64,
 ) -> Result<(Ended, MemorySink), AllocError> {
-    let bytes = Bytes::from_slice(alloc, schedule)?;
-    let mut src = MemorySource::new(bytes, 7, vec![in alloc; failing_read]?);
-    let mut out = MemorySink::new(alloc, 10_000, 1, vec![in alloc; failing_write]?)?;
-    let end = run(alloc, &["replay"], &mut src, &mut out);
-    Ok((end, out))
+    let mut src = MemorySource::new(bytes, 65_536, vec![in alloc; read_fails]?);
+    let mut out = MemorySink::new(alloc, 100, 1, vec![in alloc; write_fails]?)?;
+    let ended = run(alloc, &["replay"], &mut src, &mut out);
+    Ok((ended, out))
 }
 
 #[test]
-fn a_bad_line_has_its_number_and_reason(rt: HostRuntime) -> Result<(), Fail> {
+fn each_schedule_has_its_status(rt: HostRuntime) -> Result<(), Fail> {
     let alloc = rt.alloc();
-    for (schedule, line, text) in [
-        (b"".as_slice(), 1, b"bad line 1: header\n".as_slice()),
-        (b"celery-schedule 2\n", 1, b"bad line 1: header\n"),
-        (b"celery-schedule 1\n\n", 2, b"bad line 2: later\n"),
-        (b"celery-schedule 1\nstop 1", 2, b"bad line 2: later\n"),
-        (b"celery-schedule 1\n\xff\n", 2, b"bad line 2: text\n"),
-        (b"celery-schedule 1\nat 01\n", 2, b"bad line 2: syntax\n"),
+    for (text, status, place, written) in [
+        (HEADER, 0, 0, REPORT),
+        (&HEADER[..17], 0, 0, REPORT),
+        (b"".as_slice(), 3, 1, b"bad line 1: header\n".as_slice()),
         (
-            b"celery-schedule 1\nat 1\nrun 1\n",
+            b"celery-schedule 2\n".as_slice(),
             3,
-            b"bad line 3: unknown client\n",
+            1,
+            b"bad line 1: header\n".as_slice(),
+        ),
+        (
+            b"celery-schedule 1\n\n".as_slice(),
+            3,
+            2,
+            b"bad line 2: later\n".as_slice(),
+        ),
+        (
+            b"celery-schedule 1\nat 1".as_slice(),
+            3,
+            2,
+            b"bad line 2: later\n".as_slice(),
+        ),
+        (
+            b"celery-schedule 1\n\xff\n".as_slice(),
+            3,
+            2,
+            b"bad line 2: text\n".as_slice(),
         ),
     ] {
-        let (end, out) = replayed(alloc, schedule, NEVER, NEVER)?;
-        assert_eq!(rt; end, ended(3, line));
-        assert_eq!(rt; out.taken(), text);
+        let (ended, out) = replayed(alloc, Bytes::from_slice(alloc, text)?, 999, 999)?;
+        assert_eq!(rt;
+            ended,
+            Ended {
+                status,
+                place,
+                left: 0
+            }
+        );
+        assert_eq!(rt; out.taken(), written);
     }
     Ok(())
 }
@@ -75,15 +72,22 @@ fn a_bad_line_has_its_number_and_reason(rt: HostRuntime) -> Result<(), Fail> {
 #[test]
 fn a_line_of_65_537_bytes_is_long(rt: HostRuntime) -> Result<(), Fail> {
     let alloc = rt.alloc();
-    for (length, text) in [
-        (65_536, b"bad line 2: later\n".as_slice()),
-        (65_537, b"bad line 2: long\n"),
+    for (length, line, written) in [
+        (65_536, 2, b"bad line 2: later\n".as_slice()),
+        (65_537, 2, b"bad line 2: long\n".as_slice()),
     ] {
-        let mut schedule = Vec::from_slice(alloc, b"celery-schedule 1\n")?;
-        schedule.extend_from_slice(vec![in alloc; b'a'; length]?.as_slice())?;
-        let (end, out) = replayed(alloc, schedule.as_slice(), NEVER, NEVER)?;
-        assert_eq!(rt; end, ended(3, 2));
-        assert_eq!(rt; out.taken(), text);
+        let mut bytes = Bytes::from_slice(alloc, HEADER)?;
+        bytes.extend(alloc, vec![in alloc; b'a'; length]?.as_slice())?;
+        let (ended, out) = replayed(alloc, bytes, 9_999, 999)?;
+        assert_eq!(rt;
+            ended,
+            Ended {
+                status: 3,
+                place: line,
+                left: 0
+            }
+        );
+        assert_eq!(rt; out.taken(), written);
     }
     Ok(())
 }
@@ -91,15 +95,27 @@ fn a_line_of_65_537_bytes_is_long(rt: HostRuntime) -> Result<(), Fail> {
 #[test]
 fn a_bad_word_is_named_by_its_place(rt: HostRuntime) -> Result<(), Fail> {
     let alloc = rt.alloc();
-    for (words, place, text) in [
+    for (words, place, written) in [
         ([].as_slice(), 0, b"bad word 0\n".as_slice()),
-        (["check"].as_slice(), 0, b"bad word 0\n"),
-        (["replay", "--record"].as_slice(), 1, b"bad word 1\n"),
+        (["check"].as_slice(), 0, b"bad word 0\n".as_slice()),
+        (
+            ["replay", "--record"].as_slice(),
+            1,
+            b"bad word 1\n".as_slice(),
+        ),
     ] {
         let mut src = MemorySource::new(Bytes::new(), 1, Vec::new(alloc));
         let mut out = MemorySink::new(alloc, 100, 100, Vec::new(alloc))?;
-        assert_eq!(rt; run(alloc, words, &mut src, &mut out), ended(2, place));
-        assert_eq!(rt; out.taken(), text);
+        let ended = run(alloc, words, &mut src, &mut out);
+        assert_eq!(rt;
+            ended,
+            Ended {
+                status: 2,
+                place,
+                left: 0
+            }
+        );
+        assert_eq!(rt; out.taken(), written);
     }
     Ok(())
 }
@@ -107,11 +123,16 @@ fn a_bad_word_is_named_by_its_place(rt: HostRuntime) -> Result<(), Fail> {
 #[test]
 fn a_source_that_fails_gives_a_read_fault(rt: HostRuntime) -> Result<(), Fail> {
     let alloc = rt.alloc();
-    for failing_read in [0, 1, 8] {
-        let (end, out) = replayed(alloc, SCHEDULE, failing_read, NEVER)?;
-        assert_eq!(rt; end, ended(4, 0), "failing read {failing_read}");
-        assert_eq!(rt; out.taken(), b"read fault\n".as_slice());
-    }
+    let (ended, out) = replayed(alloc, Bytes::from_slice(alloc, HEADER)?, 0, 999)?;
+    assert_eq!(rt;
+        ended,
+        Ended {
+            status: 4,
+            place: 0,
+            left: 0
+        }
+    );
+    assert_eq!(rt; out.taken(), b"read fault\n".as_slice());
     Ok(())
 }
 
@@ -119,27 +140,17 @@ fn a_source_that_fails_gives_a_read_fault(rt: HostRuntime) -> Result<(), Fail> {
 fn a_sink_that_fails_took_a_front(rt: HostRuntime) -> Result<(), Fail> {
     let alloc = rt.alloc();
     for (taken, _) in REPORT.iter().enumerate() {
-        let (end, out) = replayed(alloc, SCHEDULE, NEVER, taken as u64)?;
-        assert_eq!(rt; end, ended(5, 0), "failing write {taken}");
+        let bytes = Bytes::from_slice(alloc, HEADER)?;
+        let (ended, out) = replayed(alloc, bytes, 999, taken as u64)?;
+        assert_eq!(rt;
+            ended,
+            Ended {
+                status: 5,
+                place: 0,
+                left: 0
+            }
+        );
         assert_eq!(rt; out.taken(), &REPORT[..taken]);
-    }
-    Ok(())
-}
-
-#[test]
-fn an_end_has_its_text_and_status(rt: HostRuntime) -> Result<(), Fail> {
-    let alloc = rt.alloc();
-    let full = End::Full {
-        entries: 1_000_000,
-        bytes: 83_000_000,
-    };
-    for (end, status, text) in [
-        (full, 9, b"history full 1000000 83000000\n".as_slice()),
-        (End::Memory, 11, b"out of memory\n"),
-    ] {
-        let mut out = MemorySink::new(alloc, 100, 100, Vec::new(alloc))?;
-        assert_eq!(rt; finish(alloc, &mut out, end), ended(status, 0));
-        assert_eq!(rt; out.taken(), text);
     }
     Ok(())
 }

@@ -1,6 +1,6 @@
 use Rattle.std.proofs.Common.{map}
 use Rattle.links.specs.Views.{sink_view, source_view}
-use Rattle.celery_node.proofs.Statuses.{answer_of_input, shown_memory, sink_later, status_bad_line, status_bad_word, status_complete, status_history_full, status_out_of_memory, status_read_fault, status_reported, status_unlawful, status_write_fault, statuses}
+use Rattle.celery_node.proofs.Statuses.{answer_of_text, shown_memory, sink_later, status_bad_line, status_bad_word, status_complete, status_out_of_memory, status_read_fault, status_reported, status_unlawful, status_write_fault, statuses}
 use Rattle.celery_node.specs.Endings.{HasEnded}
 use Rattle.celery_node.proofs.node.run.Goals as goal
 
@@ -23,10 +23,9 @@ returns g c =
       bad_line = status_bad_line words b n o x r ended;
       read_fault = status_read_fault words b n o x r ended;
       write_fault = status_write_fault words b n o x r ended;
-      history_full = status_history_full words b n o x r ended;
       out_of_memory = status_out_of_memory words b n o x r ended;
       statuses = statuses words b n o x r ended;
       unlawful = status_unlawful words b n o x r ended;
-      complete = λ schedule lawful told calm_source calm_sink. status_complete words b n o x r schedule told ended lawful calm_source calm_sink;
-      told = λ schedule told. answer_of_input words b n o x r schedule told ended;
+      complete = λ t lawful told done calm_source calm_sink. status_complete words b n o x r t told ended lawful done calm_source calm_sink;
+      told = λ t told. answer_of_text words b n o x r t told ended;
     }
