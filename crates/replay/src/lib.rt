@@ -10,7 +10,6 @@ mod line;
 mod note_text;
 mod place_text;
 mod report_lines;
-mod run;
 mod task;
 mod word;
 
@@ -19,7 +18,6 @@ pub use history_report::report;
 pub use legend::Celery;
 pub use line::line_of;
 pub use report_lines::report_of;
-pub use run::{RunFault, run_schedule};
 
 #[cfg(test)]
 mod tests;
