@@ -39,6 +39,7 @@ lawful_setting l τ lawful facts = record {
   tag_is = facts.tag_is;
   tag_short = facts.tag_short;
   tag_text = facts.tag_text;
+  written_is = facts.written_is;
   entry_body = facts.entry_body;
   carried_body = facts.carried_body;
   pops_are = pops_are l;

@@ -1,12 +1,13 @@
 -- What the bytes of tags, envelopes and entries of the table tell, as Celery's envelopes have it, and the setting of the keys without a prefix.
-use Rattle.std.specs.Prelude.{Option, option_map}
+use Rattle.std.specs.Prelude.{if◌then◌else◌, Option, Some, None, option_and_then, option_map}
 use Rattle.std.specs.Result.{result_ok}
 use Rattle.serde_json.specs.Data.{Data}
+use Rattle.serde_json.specs.Written.{compact_text}
 use Rattle.envelope.specs.Bodies.{body_in, body_of, carried, entry_of, tag_of_bytes}
 use Rattle.envelope.specs.Entries.{Entry, entry_at}
 use Rattle.envelope.specs.Envelopes.{envelope_at, parts_in, priority_of}
-use Rattle.envelope.specs.Tags.{is_tag, tag}
-use Rattle.place_model.specs.Names.{Bytes}
+use Rattle.envelope.specs.Tags.{is_tag, tag, tag_text}
+use Rattle.place_model.specs.Names.{Bytes, same}
 use Rattle.place_model.specs.Layouts.{plain}
 use Rattle.place_model.specs.Setting.{IsTexts, Setting, Texts, Way, setting_of}
 
@@ -26,12 +27,21 @@ way_of v = option_map way_said (result_ok (envelope_at v))
 abbrev pub way_in : Bytes → Option Way
 way_in u = option_map way_kept (result_ok (entry_at u))
 
+-- the tag of a tree whose compact text the bytes are, none where they spell it otherwise
+abbrev pub tag_as_written : Bytes → Data → Option Bytes
+tag_as_written v d = if same v (compact_text d) then Some (tag_text (parts_in d).tag) else None
+
+-- the tag of an envelope that is the compact text of its tree, none where the bytes are anything else
+abbrev pub written_tag : Bytes → Option Bytes
+written_tag v = option_and_then (tag_as_written v) (result_ok (envelope_at v))
+
 -- the texts of Celery's envelopes
 abbrev pub texts : Texts
 texts = record {
   tag = tag;
   is_tag = is_tag;
   tag_of = tag_of_bytes;
+  written_tag = written_tag;
   way_of = way_of;
   entry_of = entry_of;
   way_in = way_in;

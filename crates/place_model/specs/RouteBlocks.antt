@@ -23,13 +23,13 @@ abbrev pub direct_keys : List (ℕ × Bytes × ℤ) → List Bytes
 direct_keys [] = []
 direct_keys (d ∷ ds) = d.1 ∷ direct_keys ds
 
--- the publication of the envelope v under the tag t, also of a retry
+-- the publication of the envelope v, its compact text, under the tag t, also of a retry
 pub data IsPublishBlock (σ : Setting) (t v : Bytes) : List Call → Type 0 where
   -- on the empty exchange
-  Plain : (a : ℕ) (k : Bytes) (z : ℤ) → σ.tag_of v ≡ Some t → σ.exchange_of v ≡ None → σ.keys_for v [] ≡ k ∷ []
+  Plain : (a : ℕ) (k : Bytes) (z : ℤ) → σ.written_tag v ≡ Some t → σ.exchange_of v ≡ None → σ.keys_for v [] ≡ k ∷ []
       → IsPublishBlock σ t v (call a (codes "LPUSH" ∷ k ∷ v ∷ []) (Integer z) ∷ [])
   -- on an exchange with a name: its bindings are read, and the envelope goes to each queue of the lookup
-  Named : (a : ℕ) (e : Bytes) (ms : List Bytes) (ds : List (ℕ × Bytes × ℤ)) → σ.tag_of v ≡ Some t → σ.exchange_of v ≡ Some e → direct_keys ds ≡ σ.keys_for v ms
+  Named : (a : ℕ) (e : Bytes) (ms : List Bytes) (ds : List (ℕ × Bytes × ℤ)) → σ.written_tag v ≡ Some t → σ.exchange_of v ≡ Some e → direct_keys ds ≡ σ.keys_for v ms
       → IsPublishBlock σ t v (call a (codes "SMEMBERS" ∷ σ.binding e ∷ []) (bulks ms) ∷ direct_calls v ds)
 
 -- whether it may be the name of an exchange that a message tells: UTF-8 of 1 to 255 bytes

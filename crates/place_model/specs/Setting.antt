@@ -22,6 +22,7 @@ pub record Texts : Type 0 where
   pub tag : ℕ → ℕ → Bytes  -- the text of the tag of this seed and counter, no tag's text where either has no 64 bits
   pub is_tag : Bytes → Bool  -- whether it is a tag's text
   pub tag_of : Bytes → Option Bytes  -- the text of an envelope's tag, none where the bytes are no envelope
+  pub written_tag : Bytes → Option Bytes  -- the tag of an envelope that stands as it is written, none where the bytes are anything else
   pub way_of : Bytes → Option Way  -- where an envelope goes, none where the bytes are no envelope
   pub entry_of : Bytes → Bytes  -- the table's entry of an envelope
   pub way_in : Bytes → Option Way  -- where an entry's envelope returns, by the entry's own two texts; none where the bytes are no entry
@@ -35,6 +36,7 @@ pub record IsTexts (τ : Texts) : Type 0 where
   pub tag_is : (s n : ℕ) → s < 2 ^ 64 → n < 2 ^ 64 → τ.is_tag (τ.tag s n) ≡ true
   pub tag_short : (t : Bytes) → τ.is_tag t ≡ true → nat_le (length t) 1024 ≡ true
   pub tag_text : (v t : Bytes) → τ.tag_of v ≡ Some t → τ.is_tag t ≡ true
+  pub written_is : (v t : Bytes) → τ.written_tag v ≡ Some t → τ.tag_of v ≡ Some t
   pub entry_body : (v : Bytes) → τ.body_in (τ.entry_of v) ≡ τ.body_of v
   pub carried_body : (u v : Bytes) → τ.carried u ≡ Some v → τ.body_of v ≡ τ.body_in u
 
@@ -52,6 +54,7 @@ pub record Setting : Type 0 where
   pub tag : ℕ → ℕ → Bytes  -- the text of the tag of this seed and counter
   pub is_tag : Bytes → Bool  -- whether it is a tag's text
   pub tag_of : Bytes → Option Bytes  -- the tag of an envelope, none where the bytes are no envelope
+  pub written_tag : Bytes → Option Bytes  -- the tag of an envelope that stands as it is written, none where the bytes are anything else
   pub exchange_of : Bytes → Option Bytes  -- the exchange of an envelope, none where it is empty
   pub keys_for : Bytes → List Bytes → List Bytes  -- the keys of an envelope's queues, by the members of its exchange's bindings
   pub entry_of : Bytes → Bytes  -- the table's entry of an envelope
@@ -81,6 +84,7 @@ pub record IsLawful (σ : Setting) : Type 0 where
   pub tag_is : (s n : ℕ) → s < 2 ^ 64 → n < 2 ^ 64 → σ.is_tag (σ.tag s n) ≡ true
   pub tag_short : (t : Bytes) → σ.is_tag t ≡ true → nat_le (length t) 1024 ≡ true
   pub tag_text : (v t : Bytes) → σ.tag_of v ≡ Some t → σ.is_tag t ≡ true
+  pub written_is : (v t : Bytes) → σ.written_tag v ≡ Some t → σ.tag_of v ≡ Some t
   pub entry_body : (v : Bytes) → σ.body_in (σ.entry_of v) ≡ σ.body_of v
   pub carried_body : (u v : Bytes) → σ.carried u ≡ Some v → σ.body_of v ≡ σ.body_in u
   pub pops_are : (names : List Bytes) → Each is_name names → Each (is_queue σ) (σ.pop_keys names)
@@ -118,6 +122,7 @@ setting_of l τ = record {
   tag = τ.tag;
   is_tag = τ.is_tag;
   tag_of = τ.tag_of;
+  written_tag = τ.written_tag;
   exchange_of = λ v. named_exchange (τ.way_of v);
   keys_for = λ v ms. way_keys l (τ.way_of v) ms;
   entry_of = τ.entry_of;
