@@ -66,11 +66,11 @@ module _ (σ : Setting) (exchange_at : Bytes → Option Bytes) (s : ℕ) (laws :
       (both_true (is_part e && is_part r && is_part x) (is_name q) (both_true (is_part e && is_part r) (is_part x) (both_true (is_part e) (is_part r) t u) v) w)
       (subst (λ z. if_said (word ∷ σ.binding e ∷ member r x q ∷ []) z (Count c) ≡ Some (Count c)) (sym is) (said (word ∷ σ.binding e ∷ member r x q ∷ []) (Count c)))))
 
-  publication-said : (n p : ℕ) (k v : Bytes) → σ.tag_of v ≡ Some (σ.tag s (suc n)) → σ.exchange_of v ≡ None → σ.keys_for v [] ≡ k ∷ [] → publication_ask σ s n p (codes "LPUSH" ∷ k ∷ v ∷ []) k v ≡ Some (Count (Free (suc n) p))
+  publication-said : (n p : ℕ) (k v : Bytes) → σ.written_tag v ≡ Some (σ.tag s (suc n)) → σ.exchange_of v ≡ None → σ.keys_for v [] ≡ k ∷ [] → publication_ask σ s n p (codes "LPUSH" ∷ k ∷ v ∷ []) k v ≡ Some (Count (Free (suc n) p))
   publication-said n p k v tag none one =
-      only_if-true (is_text (σ.tag s (suc n)) (σ.tag_of v) && not (is_some (σ.exchange_of v)) && same_words (k ∷ []) (σ.keys_for v [])) _ _
-      (both_true (is_text (σ.tag s (suc n)) (σ.tag_of v) && not (is_some (σ.exchange_of v))) (same_words (k ∷ []) (σ.keys_for v []))
-      (both_true (is_text (σ.tag s (suc n)) (σ.tag_of v)) (not (is_some (σ.exchange_of v))) (is_text-Some (σ.tag s (suc n)) (σ.tag_of v) tag) (no_text (σ.exchange_of v) none))
+      only_if-true (is_text (σ.tag s (suc n)) (σ.written_tag v) && not (is_some (σ.exchange_of v)) && same_words (k ∷ []) (σ.keys_for v [])) _ _
+      (both_true (is_text (σ.tag s (suc n)) (σ.written_tag v) && not (is_some (σ.exchange_of v))) (same_words (k ∷ []) (σ.keys_for v []))
+      (both_true (is_text (σ.tag s (suc n)) (σ.written_tag v)) (not (is_some (σ.exchange_of v))) (is_text-Some (σ.tag s (suc n)) (σ.written_tag v) tag) (no_text (σ.exchange_of v) none))
       (subst (λ z. same_words (k ∷ []) z ≡ true) (sym one) (words_itself (k ∷ []))))
       (said (codes "LPUSH" ∷ k ∷ v ∷ []) (Count (Free (suc n) p)))
 
@@ -145,17 +145,17 @@ module _ (σ : Setting) (exchange_at : Bytes → Option Bytes) (s : ℕ) (laws :
       go : (o : Option Ask) → first_push_ask σ s n p e words k v (x ∷ xs) ≡ o → o ≡ None
       go None h = refl
       go (Some r) h =
-          let y = only_if_is (is_text (σ.tag s (suc n)) (σ.tag_of v) && is_text e (σ.exchange_of v) && bytes_eq k x) (if_said (codes "LPUSH" ∷ k ∷ v ∷ []) words (Count (pushing n p v xs))) r h in
-          let z = and_true (is_text (σ.tag s (suc n)) (σ.tag_of v) && is_text e (σ.exchange_of v)) (bytes_eq k x) y.0 in
-          let w = and_true (is_text (σ.tag s (suc n)) (σ.tag_of v)) (is_text e (σ.exchange_of v)) z.0 in
+          let y = only_if_is (is_text (σ.tag s (suc n)) (σ.written_tag v) && is_text e (σ.exchange_of v) && bytes_eq k x) (if_said (codes "LPUSH" ∷ k ∷ v ∷ []) words (Count (pushing n p v xs))) r h in
+          let z = and_true (is_text (σ.tag s (suc n)) (σ.written_tag v) && is_text e (σ.exchange_of v)) (bytes_eq k x) y.0 in
+          let w = and_true (is_text (σ.tag s (suc n)) (σ.written_tag v)) (is_text e (σ.exchange_of v)) z.0 in
           let u = only_if_is (same_words (codes "LPUSH" ∷ k ∷ v ∷ []) words) (Some (Count (pushing n p v xs))) r y.1 in
           absurd (start_not_first m p words q k v e begins (sym (words_true (codes "LPUSH" ∷ k ∷ v ∷ []) words u.0)) (is_text_is e (σ.exchange_of v) w.1) (subst (λ b. is_queue σ b ≡ true) (sym (bytes_true k x z.1)) queues.0))
 
-  first_push-said : (n p : ℕ) (e k v : Bytes) (ks all : List Bytes) → σ.tag_of v ≡ Some (σ.tag s (suc n)) → σ.exchange_of v ≡ Some e → all ≡ k ∷ ks → first_push_ask σ s n p e (codes "LPUSH" ∷ k ∷ v ∷ []) k v all ≡ Some (Count (pushing n p v ks))
+  first_push-said : (n p : ℕ) (e k v : Bytes) (ks all : List Bytes) → σ.written_tag v ≡ Some (σ.tag s (suc n)) → σ.exchange_of v ≡ Some e → all ≡ k ∷ ks → first_push_ask σ s n p e (codes "LPUSH" ∷ k ∷ v ∷ []) k v all ≡ Some (Count (pushing n p v ks))
   first_push-said n p e k v ks all tag ex is = subst (λ z. first_push_ask σ s n p e (codes "LPUSH" ∷ k ∷ v ∷ []) k v z ≡ Some (Count (pushing n p v ks))) (sym is)
-      (only_if-true (is_text (σ.tag s (suc n)) (σ.tag_of v) && is_text e (σ.exchange_of v) && bytes_eq k k) _ _
-      (both_true (is_text (σ.tag s (suc n)) (σ.tag_of v) && is_text e (σ.exchange_of v)) (bytes_eq k k)
-      (both_true (is_text (σ.tag s (suc n)) (σ.tag_of v)) (is_text e (σ.exchange_of v)) (is_text-Some (σ.tag s (suc n)) (σ.tag_of v) tag) (is_text-Some e (σ.exchange_of v) ex)) (bytes_itself k))
+      (only_if-true (is_text (σ.tag s (suc n)) (σ.written_tag v) && is_text e (σ.exchange_of v) && bytes_eq k k) _ _
+      (both_true (is_text (σ.tag s (suc n)) (σ.written_tag v) && is_text e (σ.exchange_of v)) (bytes_eq k k)
+      (both_true (is_text (σ.tag s (suc n)) (σ.written_tag v)) (is_text e (σ.exchange_of v)) (is_text-Some (σ.tag s (suc n)) (σ.written_tag v) tag) (is_text-Some e (σ.exchange_of v) ex)) (bytes_itself k))
       (said (codes "LPUSH" ∷ k ∷ v ∷ []) (Count (pushing n p v ks))))
 
   -- ---- all words

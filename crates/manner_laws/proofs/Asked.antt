@@ -32,10 +32,10 @@ module _ (σ : Setting) (exchange_at : Bytes → Option Bytes) (s : ℕ) where
 
   publication_is : (n p : ℕ) (words : Words) (k v : Bytes) (q : Ask) → publication_ask σ s n p words k v ≡ Some q → Begins σ s n p words q
   publication_is n p words k v q h =
-      let x = only_if_is (is_text (σ.tag s (suc n)) (σ.tag_of v) && not (is_some (σ.exchange_of v)) && same_words (k ∷ []) (σ.keys_for v [])) (if_said (codes "LPUSH" ∷ k ∷ v ∷ []) words (Count (Free (suc n) p))) q h in
-      let y = and_true (is_text (σ.tag s (suc n)) (σ.tag_of v) && not (is_some (σ.exchange_of v))) (same_words (k ∷ []) (σ.keys_for v [])) x.0 in
-      let z = and_true (is_text (σ.tag s (suc n)) (σ.tag_of v)) (not (is_some (σ.exchange_of v))) y.0 in
-      moved (Begins σ s n p) (codes "LPUSH" ∷ k ∷ v ∷ []) words (Count (Free (suc n) p)) q (Publishes k v (is_text_is (σ.tag s (suc n)) (σ.tag_of v) z.0) (not_some (σ.exchange_of v) z.1) (sym (words_true (k ∷ []) (σ.keys_for v []) y.1))) x.1
+      let x = only_if_is (is_text (σ.tag s (suc n)) (σ.written_tag v) && not (is_some (σ.exchange_of v)) && same_words (k ∷ []) (σ.keys_for v [])) (if_said (codes "LPUSH" ∷ k ∷ v ∷ []) words (Count (Free (suc n) p))) q h in
+      let y = and_true (is_text (σ.tag s (suc n)) (σ.written_tag v) && not (is_some (σ.exchange_of v))) (same_words (k ∷ []) (σ.keys_for v [])) x.0 in
+      let z = and_true (is_text (σ.tag s (suc n)) (σ.written_tag v)) (not (is_some (σ.exchange_of v))) y.0 in
+      moved (Begins σ s n p) (codes "LPUSH" ∷ k ∷ v ∷ []) words (Count (Free (suc n) p)) q (Publishes k v (is_text_is (σ.tag s (suc n)) (σ.written_tag v) z.0) (not_some (σ.exchange_of v) z.1) (sym (words_true (k ∷ []) (σ.keys_for v []) y.1))) x.1
 
   bindings_are : (n p : ℕ) (words : Words) (o : Option Bytes) (q : Ask) → bindings_ask σ s n p words o ≡ Some q → Begins σ s n p words q
   bindings_are n p words None q h = none_some _ q h
@@ -133,11 +133,11 @@ module _ (σ : Setting) (exchange_at : Bytes → Option Bytes) (s : ℕ) where
   first_push_is : (n p : ℕ) (e : Bytes) (ms : List Bytes) (a : ℕ) (words : Words) (k v : Bytes) (ks : List Bytes) (q : Ask) → σ.keys_for v ms ≡ ks → first_push_ask σ s n p e words k v ks ≡ Some q → Asks σ s (Listed n p e ms) a words q
   first_push_is n p e ms a words k v [] q keys h = none_some _ q h
   first_push_is n p e ms a words k v (x ∷ xs) q keys h =
-      let y = only_if_is (is_text (σ.tag s (suc n)) (σ.tag_of v) && is_text e (σ.exchange_of v) && bytes_eq k x) (if_said (codes "LPUSH" ∷ k ∷ v ∷ []) words (Count (pushing n p v xs))) q h in
-      let z = and_true (is_text (σ.tag s (suc n)) (σ.tag_of v) && is_text e (σ.exchange_of v)) (bytes_eq k x) y.0 in
-      let w = and_true (is_text (σ.tag s (suc n)) (σ.tag_of v)) (is_text e (σ.exchange_of v)) z.0 in
+      let y = only_if_is (is_text (σ.tag s (suc n)) (σ.written_tag v) && is_text e (σ.exchange_of v) && bytes_eq k x) (if_said (codes "LPUSH" ∷ k ∷ v ∷ []) words (Count (pushing n p v xs))) q h in
+      let z = and_true (is_text (σ.tag s (suc n)) (σ.written_tag v) && is_text e (σ.exchange_of v)) (bytes_eq k x) y.0 in
+      let w = and_true (is_text (σ.tag s (suc n)) (σ.written_tag v)) (is_text e (σ.exchange_of v)) z.0 in
       moved (Asks σ s (Listed n p e ms) a) (codes "LPUSH" ∷ k ∷ v ∷ []) words (Count (pushing n p v xs)) q
-      (Pushes_first n p e ms a k v xs (is_text_is (σ.tag s (suc n)) (σ.tag_of v) w.0) (is_text_is e (σ.exchange_of v) w.1) (keys ∙ ap (λ (b : Bytes). b ∷ xs) (sym (bytes_true k x z.1)))) y.1
+      (Pushes_first n p e ms a k v xs (is_text_is (σ.tag s (suc n)) (σ.written_tag v) w.0) (is_text_is e (σ.exchange_of v) w.1) (keys ∙ ap (λ (b : Bytes). b ∷ xs) (sym (bytes_true k x z.1)))) y.1
 
   or_else_is : (o later : Option Ask) (q : Ask) → or_else o later ≡ Some q → (o ≡ Some q) ⊎ (later ≡ Some q)
   or_else_is None later q h = inr h

@@ -77,7 +77,7 @@ module _ (σ : Setting) (s : ℕ) where
   direct_runs n p v d [] = (Free (suc n) p, by σ s (Pushes n p d.0 v d.1 []) (Counted _ d.2), refl)
   direct_runs n p v d (e ∷ ds) = (Pushing n p v e.1 (direct_keys ds), by σ s (Pushes n p d.0 v d.1 (e.1 ∷ direct_keys ds)) (Counted _ d.2), direct_runs n p v e ds)
 
-  named_runs : (n p : ℕ) (e : Bytes) (ms : List Bytes) (v : Bytes) (ds : List (ℕ × Bytes × ℤ)) → σ.tag_of v ≡ Some (σ.tag s (suc n)) → σ.exchange_of v ≡ Some e → direct_keys ds ≡ σ.keys_for v ms → BlockRuns (Listed n p e ms) (direct_calls v ds) (suc n) p
+  named_runs : (n p : ℕ) (e : Bytes) (ms : List Bytes) (v : Bytes) (ds : List (ℕ × Bytes × ℤ)) → σ.written_tag v ≡ Some (σ.tag s (suc n)) → σ.exchange_of v ≡ Some e → direct_keys ds ≡ σ.keys_for v ms → BlockRuns (Listed n p e ms) (direct_calls v ds) (suc n) p
   named_runs n p e ms v [] tag ex keys = (Listed n p e ms, There n p e ms, refl)
   named_runs n p e ms v (d ∷ []) tag ex keys = (Free (suc n) p, Here (suc n) p, (Free (suc n) p, by σ s (Pushes_first n p e ms d.0 d.1 v [] tag ex (sym keys)) (Counted _ d.2), refl))
   named_runs n p e ms v (d ∷ f ∷ ds) tag ex keys =
@@ -262,7 +262,7 @@ module _ (σ : Setting) (s : ℕ) where
   publish_runs laws told c n p v l at (Plain a k z tag none one) = (Free (suc n) p, Here (suc n) p, (Free (suc n) p, by σ s (start at (Publishes k v tag none one)) (Counted _ z), refl))
   publish_runs laws told c n p v l at (Named_block a e ms ds tag ex keys) =
       let r = named_runs n p e ms v ds tag ex keys in
-      (r.0, r.1, (Listed n p e ms, by σ s (start at (Lists e (laws.tag_text v (σ.tag s (suc n)) tag) (told v e ex))) (Bound n p e ms), r.2))
+      (r.0, r.1, (Listed n p e ms, by σ s (start at (Lists e (laws.tag_text v (σ.tag s (suc n)) (laws.written_is v (σ.tag s (suc n)) tag)) (told v e ex))) (Bound n p e ms), r.2))
 
   pop_runs : (c : Spot) (n p : ℕ) (names : List Bytes) (l : List Call) → IsStart c n p → IsPopBlock σ names l → BlockRuns c l n p
   pop_runs c n p names l at (Empty a k ks pop) = (Free n p, Here n p, (Free n p, by σ s (start at (Pops names k ks pop)) (Nothing_there n p), refl))

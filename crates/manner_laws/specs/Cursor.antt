@@ -106,7 +106,7 @@ declaration_ask σ word c words (Some e) (Some b) =
 -- a publication on the empty exchange
 abbrev pub publication_ask : Setting → ℕ → ℕ → ℕ → Words → Bytes → Bytes → Option Ask
 publication_ask σ s n p words k v =
-    only_if (is_text (σ.tag s (suc n)) (σ.tag_of v) && not (is_some (σ.exchange_of v)) && same_words (k ∷ []) (σ.keys_for v [])) (if_said (codes "LPUSH" ∷ k ∷ v ∷ []) words (Count (Free (suc n) p)))
+    only_if (is_text (σ.tag s (suc n)) (σ.written_tag v) && not (is_some (σ.exchange_of v)) && same_words (k ∷ []) (σ.keys_for v [])) (if_said (codes "LPUSH" ∷ k ∷ v ∷ []) words (Count (Free (suc n) p)))
 
 -- a publication on an exchange with a name
 abbrev pub bindings_ask : Setting → ℕ → ℕ → ℕ → Words → Option Bytes → Option Ask
@@ -155,7 +155,7 @@ start_ask σ exchange_at s n p words =
 -- the first push of a publication on this exchange, of which these are the keys
 abbrev pub first_push_ask : Setting → ℕ → ℕ → ℕ → Bytes → Words → Bytes → Bytes → List Bytes → Option Ask
 first_push_ask σ s n p e words k v [] = None
-first_push_ask σ s n p e words k v (q ∷ qs) = only_if (is_text (σ.tag s (suc n)) (σ.tag_of v) && is_text e (σ.exchange_of v) && bytes_eq k q) (if_said (codes "LPUSH" ∷ k ∷ v ∷ []) words (Count (pushing n p v qs)))
+first_push_ask σ s n p e words k v (q ∷ qs) = only_if (is_text (σ.tag s (suc n)) (σ.written_tag v) && is_text e (σ.exchange_of v) && bytes_eq k q) (if_said (codes "LPUSH" ∷ k ∷ v ∷ []) words (Count (pushing n p v qs)))
 
 -- the first, where there is one
 abbrev pub or_else : Option Ask → Option Ask → Option Ask

@@ -22,7 +22,7 @@ use Rattle.manner_laws.specs.Spots.{Job, Open, Of_pass, tag_in, MayPush, settled
 pub data Begins (σ : Setting) (s n p : ℕ) : Words → Ask → Type 0 where
   Declares : (e r x q : Bytes) → is_part e ≡ true → is_part r ≡ true → is_part x ≡ true → is_name q ≡ true → Begins σ s n p (codes "SADD" ∷ σ.binding e ∷ member r x q ∷ []) (Count (Free n p))
   Undeclares : (e r x q : Bytes) → is_part e ≡ true → is_part r ≡ true → is_part x ≡ true → is_name q ≡ true → Begins σ s n p (codes "SREM" ∷ σ.binding e ∷ member r x q ∷ []) (Count (Free n p))
-  Publishes : (k v : Bytes) → σ.tag_of v ≡ Some (σ.tag s (suc n)) → σ.exchange_of v ≡ None → σ.keys_for v [] ≡ k ∷ [] → Begins σ s n p (codes "LPUSH" ∷ k ∷ v ∷ []) (Count (Free (suc n) p))
+  Publishes : (k v : Bytes) → σ.written_tag v ≡ Some (σ.tag s (suc n)) → σ.exchange_of v ≡ None → σ.keys_for v [] ≡ k ∷ [] → Begins σ s n p (codes "LPUSH" ∷ k ∷ v ∷ []) (Count (Free (suc n) p))
   Lists : (e : Bytes) → σ.is_tag (σ.tag s (suc n)) ≡ true → is_exchange e ≡ true → Begins σ s n p (codes "SMEMBERS" ∷ σ.binding e ∷ []) (Bindings n p e)
   Pops : (names : List Bytes) (k : Bytes) (ks : List Bytes) → IsPop σ names (k ∷ ks) → Begins σ s n p (brpop_words k ks) (Message n p)
   Ends : Begins σ s n p (codes "MULTI" ∷ []) (Consent (End_begun n p))
@@ -36,7 +36,7 @@ pub data Asks (σ : Setting) (s : ℕ) : Spot → ℕ → Words → Ask → Type
   -- a publication that ends without a push, and the next block
   Starts_next : (n p : ℕ) (e : Bytes) (ms : List Bytes) (a : ℕ) (words : Words) (q : Ask) → Begins σ s (suc n) p words q → Asks σ s (Listed n p e ms) a words q
   -- its first push, which tells its envelope
-  Pushes_first : (n p : ℕ) (e : Bytes) (ms : List Bytes) (a : ℕ) (k v : Bytes) (ks : List Bytes) → σ.tag_of v ≡ Some (σ.tag s (suc n)) → σ.exchange_of v ≡ Some e → σ.keys_for v ms ≡ k ∷ ks
+  Pushes_first : (n p : ℕ) (e : Bytes) (ms : List Bytes) (a : ℕ) (k v : Bytes) (ks : List Bytes) → σ.written_tag v ≡ Some (σ.tag s (suc n)) → σ.exchange_of v ≡ Some e → σ.keys_for v ms ≡ k ∷ ks
       → Asks σ s (Listed n p e ms) a (codes "LPUSH" ∷ k ∷ v ∷ []) (Count (pushing n p v ks))
   Pushes : (n p a : ℕ) (v k : Bytes) (ks : List Bytes) → Asks σ s (Pushing n p v k ks) a (codes "LPUSH" ∷ k ∷ v ∷ []) (Count (pushing n p v ks))
   Pop_begins : (n p a : ℕ) (v t : Bytes) → Asks σ s (Popped n p v t) a (codes "MULTI" ∷ []) (Consent (Pop_begun n p v t))
