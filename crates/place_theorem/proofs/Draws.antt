@@ -196,8 +196,8 @@ module _ (σ : Full) where
 
   publish_draws : (s n : ℕ) (v : Bytes) (l : List Call) (o : Option Bytes) → IsPublishBlock σ.names (σ.names.tag s (suc n)) v l → (a : Option Bytes) × DrawRuns σ s n o l (suc n) a
   unfolding command_of
-  publish_draws s n v l o (Plain a k z tag none one) = (Some v, (suc n, Some v, Draws_and_shows n o k v z tag, (refl, refl)))
-  publish_draws s n v l o (Named a e ms ds tag some keys) = let r = shows_run s (suc n) None v ds (inl refl) tag in (r.0, (suc n, None, Draws n o _ _ tt, r.1))
+  publish_draws s n v l o (Plain a k z tag none one) = (Some v, (suc n, Some v, Draws_and_shows n o k v z (σ.laws.written_is v (σ.names.tag s (suc n)) tag), (refl, refl)))
+  publish_draws s n v l o (Named a e ms ds tag some keys) = let r = shows_run s (suc n) None v ds (inl refl) (σ.laws.written_is v (σ.names.tag s (suc n)) tag) in (r.0, (suc n, None, Draws n o _ _ tt, r.1))
 
   short_draws : (s n : ℕ) (l : List Call) (o : Option Bytes) → IsShortPublish σ.names (σ.names.tag s (suc n)) l → (a : Option Bytes) × DrawRuns σ s n o l (suc n) a
   unfolding command_of
