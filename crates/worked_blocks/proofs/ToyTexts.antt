@@ -35,6 +35,7 @@ toy_texts = record {
   tag_is = λ s n h k. refl;
   tag_short = tag_is_short;
   tag_text = tag_of_envelope;
+  written_is = λ v t e. e;
   entry_body = λ v. refl;
   carried_body = carried_keeps;
 }

@@ -1,4 +1,4 @@
--- Texts so small that they can be computed: a tag is its seed and its counter, and an envelope a mark, its tag, its priority, whether its exchange has a name, and its routing key. An entry is its envelope.
+-- Texts so small that they can be computed: a tag is its seed and its counter, and an envelope a mark, its tag, its priority, whether its exchange has a name, and its routing key, which it spells in one way. An entry is its envelope.
 use Rattle.std.specs.Prelude.{ℕ, zero, suc, Bool, true, false, [], ◌∷◌, codes, Option, None, Some}
 use Rattle.place_model.specs.Names.{Bytes}
 use Rattle.place_model.specs.Layouts.{plain}
@@ -42,6 +42,7 @@ toy = record {
   tag = λ s n. s ∷ n ∷ [];
   is_tag = is_pair;
   tag_of = toy_tag;
+  written_tag = toy_tag;
   way_of = toy_way;
   entry_of = λ v. v;
   way_in = toy_way;
