@@ -46,7 +46,7 @@ few_keys l lawful few q qs le = by l.steps refl where
 one_key : (l : Layout) (k : Bytes) (held : ℕ) → is_name k ≡ true → route_keys l (step_of l held) [] k [] ≡ queue_key l k (step_of l held) ∷ []
 one_key l k held is = ap (λ b. keys_at l (step_of l held) (if b then k ∷ [] else [])) is
 
-sealed_tells : (l : Layout) (τ : Texts) (s n : ℕ) (x k v : Bytes) (held : ℕ) → τ.tag_of v ≡ Some (τ.tag s n) → τ.way_of v ≡ Some (record { exchange = x; routing_key = k; priority = held }) → IsSealed (setting_of l τ) s n x k v
+sealed_tells : (l : Layout) (τ : Texts) (s n : ℕ) (x k v : Bytes) (held : ℕ) → τ.written_tag v ≡ Some (τ.tag s n) → τ.way_of v ≡ Some (record { exchange = x; routing_key = k; priority = held }) → IsSealed (setting_of l τ) s n x k v
 sealed_tells l τ s n x k v held tag way = record {
   tag = tag;
   exchange = ap named_exchange way;

@@ -34,9 +34,9 @@ pub record IsDeclaration (e r x q : Bytes) : Type 0 where
   pub pattern : is_part x ≡ true
   pub queue : is_name q ≡ true
 
--- an envelope has the next tag of a client of seed s that drew n tags, and one key on the empty exchange
+-- an envelope as it is written has the next tag of a client of seed s that drew n tags, and one key on the empty exchange
 pub record IsPublication (σ : Setting) (s n : ℕ) (v : Bytes) : Type 0 where
-  pub tag : σ.tag_of v ≡ Some (σ.tag s (suc n))
+  pub tag : σ.written_tag v ≡ Some (σ.tag s (suc n))
   pub key : σ.exchange_of v ≡ None → (k : Bytes) × (σ.keys_for v [] ≡ k ∷ [])
 
 -- the plan is lawful for a client of seed s that drew n tags

@@ -13,9 +13,9 @@ use Rattle.schedule_model.specs.Desk.{Desk}
 use Rattle.schedule_model.specs.Faults.{Craft}
 use Rattle.schedule_model.specs.Schedules.{Determined, Whole, Full, Bad_line, schedule_run, history_of}
 
--- the envelope v tells what was asked: a tag's seed and counter, an exchange, and with the empty exchange one key
+-- the envelope v, as it is written, tells what was asked: a tag's seed and counter, an exchange, and with the empty exchange one key
 pub record IsSealed (σ : Setting) (s n : ℕ) (x k v : Bytes) : Type 0 where
-  pub tag : σ.tag_of v ≡ Some (σ.tag s n)
+  pub tag : σ.written_tag v ≡ Some (σ.tag s n)
   pub exchange : σ.exchange_of v ≡ if_named x
   pub key : x ≡ [] → is_name k ≡ true → (q : Bytes) × (σ.keys_for v [] ≡ q ∷ [])
 
@@ -52,10 +52,10 @@ SchedulesSound = (κ : Craft) → IsCraft κ → (bytes : Bytes) → IsSoundlyDe
 
 -- ---- crafts of layouts
 
--- sealed envelopes tell the tag of the seed and the counter, and go where was asked
+-- sealed envelopes stand as they are written, tell the tag of the seed and the counter, and go where was asked
 abbrev pub SealsTell : Texts → Craft → Type 0
 SealsTell τ κ = (s n : ℕ) (x k : Bytes) (p : ℕ) (t j v : Bytes) → κ.sealed s n x k p t j ≡ Some v
-    → (τ.tag_of v ≡ Some (τ.tag s n)) × ((held : ℕ) × (τ.way_of v ≡ Some (record { exchange = x; routing_key = k; priority = held })))
+    → (τ.written_tag v ≡ Some (τ.tag s n)) × ((held : ℕ) × (τ.way_of v ≡ Some (record { exchange = x; routing_key = k; priority = held })))
 
 -- a lawful layout of at most four steps makes a craft, with texts that keep their facts and envelopes that tell what was asked
 abbrev pub LayoutsMakeCrafts : Type 0
