@@ -12,6 +12,7 @@ use Rattle.envelope_laws.proofs.Tags.{tag_length}
 use Rattle.place_model.specs.EnvelopeTexts.{texts, way_said}
 use Rattle.place_model.specs.Layouts.{Layout, is_layout}
 use Rattle.place_model.specs.Setting.{IsLawful, IsTexts, Way, setting_of}
+use Rattle.place_model.proofs.EnvelopeFacts.{written_tag_is}
 use Rattle.place_model.proofs.Settings.{lawful_setting}
 use Rattle.place_theorem.proofs.Full.{Full}
 use Rattle.manner_laws.specs.Cursor.{IsReadable}
@@ -24,6 +25,7 @@ facts = record {
   tag_is = tag_is;
   tag_short = λ t h. ap (λ n. nat_le n 1024) (tag_length t h);
   tag_text = tag_text_is;
+  written_is = written_tag_is;
   entry_body = entry_body;
   carried_body = carried_body;
 }
