@@ -8,16 +8,16 @@ use Rattle.std.proofs.lemmas.Bool.Decides.{nat_tests}
 use Rattle.std.proofs.lemmas.Str.{IsUtf8-from_is_utf8}
 use Rattle.serde_json.specs.Data.{Data}
 use Rattle.serde_json.specs.Written.{compact_text}
-use Rattle.envelope.specs.Bodies.{tag_of_bytes}
 use Rattle.envelope.specs.Envelopes.{Parts, are_short, envelope_at, max_bytes, max_text, parts_in, parts_or_none, priority_of, said_by}
 use Rattle.envelope.specs.Marks.{marked}
 use Rattle.envelope.specs.Tags.{is_tag, tag, tag_number, tag_of_text, tag_text}
 use Rattle.envelope.proofs.SortedTrees.{read_sorted}
 use Rattle.envelope.proofs.TagTexts.{tag_ascii, tag_of_text-tag_text}
 use Rattle.json_texts.proofs.Trees.{reads_texts}
-use Rattle.place_model.specs.EnvelopeTexts.{texts, way_of, way_said}
+use Rattle.place_model.specs.EnvelopeTexts.{tag_as_written, texts, way_of, way_said, written_tag}
 use Rattle.place_model.specs.Names.{Bytes}
 use Rattle.place_model.specs.Setting.{Way}
+use Rattle.place_model.proofs.Basics.{same-refl}
 use Rattle.schedule_model.specs.Drafts.{are_told, are_texts, are_within, arguments_of, if_sealed, sealed_task, task_tree}
 use Rattle.schedule_model.specs.Programs.{program_craft}
 use Rattle.schedule_model.proofs.ArgumentTrees.{IsArguments, arguments_known}
@@ -44,12 +44,13 @@ tag_known s n e = go (nat_lt s (2 ^ 64) && nat_lt n (2 ^ 64)) refl e
         record { text = text; tells = ap tag_of_text text ∙ tag_of_text-tag_text (tag_number s n) (fits a b) }
     go false t f = cc
 
--- what an envelope of these parts tells
-told : (s n : ℕ) (v : Bytes) (d : Data) (p : Parts) → tag s n ≡ tag_text p.tag → envelope_at v ≡ Ok d → said_by d ≡ Ok p
-    → (tag_of_bytes v ≡ Some (tag s n)) × ((held : ℕ) × (way_of v ≡ Some (record { exchange = p.exchange; routing_key = p.routing_key; priority = held })))
-told s n v d p text reads says =
+-- what an envelope's tree of these parts tells, as it is written
+told : (s n : ℕ) (d : Data) (p : Parts) → tag s n ≡ tag_text p.tag → envelope_at (compact_text d) ≡ Ok d → said_by d ≡ Ok p
+    → (written_tag (compact_text d) ≡ Some (tag s n)) × ((held : ℕ) × (way_of (compact_text d) ≡ Some (record { exchange = p.exchange; routing_key = p.routing_key; priority = held })))
+told s n d p text reads says =
     let same : parts_in d ≡ p = ap parts_or_none says in (
-      ap (λ r. option_map (λ q. tag_text q.tag) (option_map parts_in (result_ok r))) reads ∙ ap (λ (q : Parts). Some (tag_text q.tag)) same ∙ ap (λ x. Some x) (sym text),
+      ap (λ r. option_and_then (tag_as_written (compact_text d)) (result_ok r)) reads ∙ ap (λ b. if b then Some (tag_text (parts_in d).tag) else None) (same-refl (compact_text d))
+          ∙ ap (λ (q : Parts). Some (tag_text q.tag)) same ∙ ap (λ x. Some x) (sym text),
       (priority_of d, ap (λ r. option_map way_said (result_ok r)) reads ∙ ap (λ (q : Parts). way (record { exchange = q.exchange; routing_key = q.routing_key; priority = priority_of d })) same),
     )
   where
@@ -59,7 +60,7 @@ told s n v d p text reads says =
 -- what was sealed
 module _ (s n : ℕ) (x k : Bytes) (p : ℕ) (task j : Bytes) where
   abbrev Tells : Bytes → Type 0
-  Tells v = (tag_of_bytes v ≡ Some (tag s n)) × ((held : ℕ) × (way_of v ≡ Some (record { exchange = x; routing_key = k; priority = held })))
+  Tells v = (written_tag v ≡ Some (tag s n)) × ((held : ℕ) × (way_of v ≡ Some (record { exchange = x; routing_key = k; priority = held })))
 
   abbrev tree : Data → Data
   tree args = task_tree (tag s n) x k p task args
@@ -86,7 +87,7 @@ module _ (s n : ℕ) (x k : Bytes) (p : ℕ) (task j : Bytes) where
         byte = byte;
       } in
       let h = is_envelope (tag s n) x k p task args drafted (tag_number s n) tagged.tells g.0 plain marks in
-      told s n (compact_text (tree args)) (tree args) _ tagged.text h.1 h.0
+      told s n (tree args) _ tagged.text h.1 h.0
     where
       le_from : (m l : ℕ) → nat_le m l ≡ true → m ≤ l
       le_from m l h = grind (arith, nat_tests)

@@ -53,7 +53,7 @@ pub sent_tells : (d : Data) (calls : List Call) (words : Words) (at : ℕ) (r : 
 sent_tells d calls words at r tag none is = (is, sym (ap (λ l. length (l ++ call at words r ∷ [])) none))
 
 -- the calls of a publication begin its block
-pub publish_front : (d : Data) (calls : List Call) (core : PublishCore) → HasPublished d calls core → (s n : ℕ) → plain_setting.tag_of (compact_text d) ≡ Some (plain_setting.tag s (suc n)) → IsFrontOf (IsPublishBlock plain_setting (plain_setting.tag s (suc n)) (compact_text d)) calls (publish_left core)
+pub publish_front : (d : Data) (calls : List Call) (core : PublishCore) → HasPublished d calls core → (s n : ℕ) → plain_setting.written_tag (compact_text d) ≡ Some (plain_setting.tag s (suc n)) → IsFrontOf (IsPublishBlock plain_setting (plain_setting.tag s (suc n)) (compact_text d)) calls (publish_left core)
 publish_front d calls core h s n tag = trace_front plain_setting s n 0 (Publish (compact_text d)) lawful calls (publish_left core) h.trace where
   lawful : IsPublication plain_setting s n (compact_text d)
   lawful = record { tag = tag; key = λ none. (direct_key d, direct_keys d h.direct) }

@@ -61,7 +61,7 @@ HasPublishedOn d calls x core (Err BadNeutral) = ⊥
 
 -- the calls are a whole block of each client that drew so many tags before and whose next tag is the envelope's
 abbrev pub IsBlockOfNext : Data → List Call → Type 0
-IsBlockOfNext d calls = (s n : ℕ) → plain_setting.tag_of (compact_text d) ≡ Some (plain_setting.tag s (suc n)) → IsPublishBlock plain_setting (plain_setting.tag s (suc n)) (compact_text d) calls
+IsBlockOfNext d calls = (s n : ℕ) → plain_setting.written_tag (compact_text d) ≡ Some (plain_setting.tag s (suc n)) → IsPublishBlock plain_setting (plain_setting.tag s (suc n)) (compact_text d) calls
 
 -- what is given as the end of a publication tells of its calls, which are a whole block of one
 abbrev pub IsPublishEnded : Data → List Call → Option BlockEnd → Type 0
@@ -70,5 +70,5 @@ IsPublishEnded d calls (Some end) = TellsPublish d end calls × IsBlockOfNext d 
 
 -- the calls of a publication begin its block, and are whole where nothing is left to say
 abbrev pub PublicationsAreBlocks : Type 0
-PublicationsAreBlocks = (d : Data) (calls : List Call) (core : PublishCore) → HasPublished d calls core → (s n : ℕ) → plain_setting.tag_of (compact_text d) ≡ Some (plain_setting.tag s (suc n))
+PublicationsAreBlocks = (d : Data) (calls : List Call) (core : PublishCore) → HasPublished d calls core → (s n : ℕ) → plain_setting.written_tag (compact_text d) ≡ Some (plain_setting.tag s (suc n))
     → IsFrontOf (IsPublishBlock plain_setting (plain_setting.tag s (suc n)) (compact_text d)) calls (publish_left core)
