@@ -1,4 +1,6 @@
 //! The names that rows have for byte strings, as `env(7:1)` for an envelope.
+ghost use Rattle.std.specs.Prelude.{IfOk, IsUtf8};
+
 use envelope::{Draft, Envelope, EnvelopeFault, Tag, redelivered, seal, write, write_entry};
 use resp_wire::{Bytes, List, Value, Words};
 use serde_json::Value as Tree;
@@ -15,7 +17,7 @@ fn keys() -> [&'static [u8]; 4] {
 }
 
 /// A byte string and its name.
-#[derive(Debug, Drop)]
+#[derive(Drop)]
 struct Term {
     name: String,
     bytes: Bytes,
@@ -24,7 +26,7 @@ struct Term {
 /// The byte strings that have names: `tag(7:1)` is a tag's text, `env(7:1)` its envelope, `entry(7:1)` the entry of that
 /// envelope, and the last two with a star behind them are marked as delivered again. Bytes that are no text have their
 /// quoted form as a name.
-#[derive(Debug, Drop)]
+#[derive(Drop)]
 pub struct Glossary {
     terms: Vec<Term>,
 }
@@ -221,25 +223,23 @@ fn sealed(
     way: (&str, &str),
     priority: i64,
 ) -> Result<Envelope, EnvelopeFault> {
-    let draft = draft_of(alloc, way, priority)?;
+    let (exchange, routing_key) = way;
+    let draft = Draft {
+        content: text_bytes(alloc, "[[2,3],{},{}]")?,
+        headers: headers(alloc)?,
+        id: text_bytes(alloc, "a1")?,
+        exchange: text_bytes(alloc, exchange)?,
+        routing_key: text_bytes(alloc, routing_key)?,
+        priority,
+    };
     seal(alloc, &draft, tag)
 }
 
-/// What is sealed of a task of two whole numbers.
-fn draft_of(alloc: Global, way: (&str, &str), priority: i64) -> Result<Draft, EnvelopeFault> {
-    let headers = headers(alloc)?;
-    let content = Bytes::from_slice(alloc, b"[[2,3],{},{}]")?;
-    let id = Bytes::from_slice(alloc, b"a1")?;
-    let exchange = Bytes::from_slice(alloc, way.0.as_bytes())?;
-    let routing_key = Bytes::from_slice(alloc, way.1.as_bytes())?;
-    Ok(Draft {
-        content,
-        headers,
-        id,
-        exchange,
-        routing_key,
-        priority,
-    })
+/// The bytes of a text.
+fn text_bytes(alloc: Global, text: &str) -> Result<Bytes, AllocError>
+    ensures { IfOk result (λ bytes. IsUtf8 bytes) }
+{
+    Bytes::from_slice(alloc, text.as_bytes())
 }
 
 /// The headers of that task.

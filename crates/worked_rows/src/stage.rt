@@ -12,7 +12,7 @@ use std::alloc::{AllocError, Global};
 use std::process::Abort;
 
 /// A store, the history of its clients, and the names that rows have for byte strings.
-#[derive(Debug, Drop)]
+#[derive(Drop)]
 pub struct Stage {
     store: Store,
     history: History,
