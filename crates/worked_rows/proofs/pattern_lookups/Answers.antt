@@ -1,0 +1,10 @@
+-- Each clause computes.
+use Rattle.std.proofs.Common.{refl}
+use Rattle.place_model.specs.Bindings.{binding_of}
+use Rattle.place_model.specs.Names.{same}
+use Rattle.place_model.specs.Patterns.{matches}
+use Rattle.worked_rows.proofs.pattern_lookups.Goals as goal
+
+pub returns : goal.returns
+unfolding same matches binding_of
+returns c = record { two_words = refl; four_words = refl; one_word = refl; two_queues = refl }
