@@ -12,7 +12,7 @@ use std::marker::Model;
 /// A store of texts, lists, sets, hashes and sorted sets under keys, shared by connections that are told by their
 /// numbers. Contracts see its state, and whether it is spent.
 ///
-/// After an answer of want of memory the store is spent: each later command is answered so.
+/// After an answer of want of memory the store is spent: each later command is answered so and changes nothing.
 #[derive(Debug, Drop)]
 pub struct Store {
     database: Database,
@@ -57,6 +57,7 @@ impl Store {
         ensures whole { OnOk result (self.new.spent ≡ false) }
         ensures wants { OnErr result (self.new.spent ≡ true) }
         ensures spent { IsTrue self.old.spent → IsErr result }
+        ensures still { IsTrue self.old.spent → self.new ≡ self.old }
     {
         if self.spent {
             return Err(AllocError);

@@ -97,9 +97,10 @@ impl<T: Drop> Deque<T> {
 }
 
 impl<T: Drop> Deque<T> {
-    /// Adds the values of another list at the end.
+    /// Adds the values of another list at the end; without memory nothing changes.
     pub fn append(&mut self, mut more: Deque<T>) -> Result<(), AllocError>
-        ensures { OnOk result (self.new ≡ self.old ++ more) }
+        ensures ok { OnOk result (self.new ≡ self.old ++ more) }
+        ensures err { OnErr result (self.new ≡ self.old) }
     {
         self.kept.append(&mut more.kept)
     }
