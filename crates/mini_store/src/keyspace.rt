@@ -166,7 +166,7 @@ impl Keyspace {
     }
 
     /// Whether it is known without a look at the keys that none is due; false may be answered at any time.
-    pub(crate) fn is_calm(&self, at: u64) -> bool
+    pub fn is_calm(&self, at: u64) -> bool
         ensures { IsTrue result → IsCalm at self.now }
     {
         at < self.soonest
