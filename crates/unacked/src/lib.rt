@@ -12,3 +12,6 @@ mod words;
 pub use end::EndCore;
 pub use laws::{ends_are_blocks, pops_are_blocks};
 pub use pop::PopCore;
+
+#[cfg(test)]
+mod tests;
