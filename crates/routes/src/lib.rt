@@ -6,3 +6,6 @@ mod publish;
 
 pub use laws::publications_are_blocks;
 pub use publish::PublishCore;
+
+#[cfg(test)]
+mod tests;
