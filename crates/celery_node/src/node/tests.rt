@@ -1,4 +1,6 @@
 //! The top call over a source and a sink in memory: each status, and reads and writes that fail.
+mod bad_lines;
+mod limits;
 mod rows;
 
 use super::{finish, run};
@@ -21,6 +23,11 @@ const REPORT: &[u8] = b"celery-report 1
 1 100 1 LPUSH celery env(7:1) = :1
 place 7:1 list celery 0
 total list 1 unacked 0 hand 0 ended 0 lost 0 copies 0
+";
+
+/// The report of a history of nothing.
+const NOTHING: &[u8] = b"celery-report 1
+total list 0 unacked 0 hand 0 ended 0 lost 0 copies 0
 ";
 
 /// A call that isn't made, so that no call fails.
@@ -47,45 +54,6 @@ fn replayed(
     let mut out = MemorySink::new(alloc, 10_000, 1, vec![in alloc; failing_write]?)?;
     let end = run(alloc, &["replay"], &mut src, &mut out);
     Ok((end, out))
-}
-
-#[test]
-fn a_bad_line_has_its_number_and_reason(rt: HostRuntime) -> Result<(), Fail> {
-    let alloc = rt.alloc();
-    for (schedule, line, text) in [
-        (b"".as_slice(), 1, b"bad line 1: header\n".as_slice()),
-        (b"celery-schedule 2\n", 1, b"bad line 1: header\n"),
-        (b"celery-schedule 1\n\n", 2, b"bad line 2: later\n"),
-        (b"celery-schedule 1\nstop 1", 2, b"bad line 2: later\n"),
-        (b"celery-schedule 1\n\xff\n", 2, b"bad line 2: text\n"),
-        (b"celery-schedule 1\nat 01\n", 2, b"bad line 2: syntax\n"),
-        (
-            b"celery-schedule 1\nat 1\nrun 1\n",
-            3,
-            b"bad line 3: unknown client\n",
-        ),
-    ] {
-        let (end, out) = replayed(alloc, schedule, NEVER, NEVER)?;
-        assert_eq!(rt; end, ended(3, line));
-        assert_eq!(rt; out.taken(), text);
-    }
-    Ok(())
-}
-
-#[test]
-fn a_line_of_65_537_bytes_is_long(rt: HostRuntime) -> Result<(), Fail> {
-    let alloc = rt.alloc();
-    for (length, text) in [
-        (65_536, b"bad line 2: later\n".as_slice()),
-        (65_537, b"bad line 2: long\n"),
-    ] {
-        let mut schedule = Vec::from_slice(alloc, b"celery-schedule 1\n")?;
-        schedule.extend_from_slice(vec![in alloc; b'a'; length]?.as_slice())?;
-        let (end, out) = replayed(alloc, schedule.as_slice(), NEVER, NEVER)?;
-        assert_eq!(rt; end, ended(3, 2));
-        assert_eq!(rt; out.taken(), text);
-    }
-    Ok(())
 }
 
 #[test]

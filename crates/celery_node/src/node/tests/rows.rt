@@ -1,5 +1,5 @@
 //! Schedules with their whole reports, byte by byte.
-use super::{NEVER, REPORT, SCHEDULE, ended, replayed};
+use super::{NEVER, NOTHING, REPORT, SCHEDULE, ended, replayed};
 use std::test::Fail;
 
 /// One message popped and acknowledged, after the schedule that publishes it.
@@ -132,11 +132,9 @@ fn a_schedule_has_its_report(rt: HostRuntime) -> Result<(), Fail> {
     let alloc = rt.alloc();
     let mut both = Vec::from_slice(alloc, SCHEDULE)?;
     both.extend_from_slice(POP_AND_ACK)?;
-    let nothing =
-        b"celery-report 1\ntotal list 0 unacked 0 hand 0 ended 0 lost 0 copies 0\n".as_slice();
     for (schedule, report) in [
-        (b"celery-schedule 1\n".as_slice(), nothing),
-        (b"celery-schedule 1", nothing),
+        (b"celery-schedule 1\n".as_slice(), NOTHING),
+        (b"celery-schedule 1", NOTHING),
         (SCHEDULE, REPORT),
         (both.as_slice(), ENDED),
         (PRIORITIES, BY_PRIORITY),
