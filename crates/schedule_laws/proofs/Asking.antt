@@ -3,7 +3,7 @@ use Rattle.std.proofs.Common.{◌≡◌, ℕ, suc, refl, sym, ◌∙◌, subst, 
 use Rattle.std.specs.Prelude.{◌||◌, ◌&&◌, not}
 use Rattle.std.specs.List.{list_any}
 use Rattle.place_model.specs.Bindings.{is_part}
-use Rattle.place_model.specs.Names.{Bytes, is_name, is_reserved}
+use Rattle.place_model.specs.Names.{Bytes, all_free, has_length, is_name, is_reserved}
 use Rattle.place_model.specs.QueueKeys.{Each}
 use Rattle.place_model.specs.Setting.{if_named}
 use Rattle.place_model.specs.TakeBlocks.{IsPop}
@@ -38,13 +38,13 @@ holds false e = cc
 
 -- ---- names
 
--- a name that is lawful or reserved, and not reserved
+-- a name that is spelled as one, and not reserved
 name_lawful : (q : Bytes) → is_no_name q ≡ false → is_reserved q ≡ false → is_name q ≡ true
-name_lawful q e f = by (is_name q) (is_reserved q) e f where
-  by : (a b : Bool) → (not a && not b) ≡ false → b ≡ false → a ≡ true
-  by true b e f = refl
-  by false true e f = cc
-  by false false e f = cc
+name_lawful q e f = by (all_free q && has_length q) (is_reserved q) e f where
+  by : (a b : Bool) → not a ≡ false → b ≡ false → (if b then false else a) ≡ true
+  by true true e f = cc
+  by true false e f = refl
+  by false b e f = cc
 
 names_lawful : (qs : List Bytes) → list_any is_no_name qs ≡ false → list_any is_reserved qs ≡ false → Each is_name qs
 names_lawful [] e f = tt

@@ -5,7 +5,7 @@ use Rattle.std.specs.FinMap.{get}
 use Rattle.line_text.specs.declared.reason.Reason.{Reason}
 use Rattle.line_text.specs.declared.reason.Reason.TheVariants.{UnknownClient, Stopped, Busy, Idle, Repeated, Moment, Name, Reserved, Json, Task}
 use Rattle.place_model.specs.Bindings.{is_part}
-use Rattle.place_model.specs.Names.{Bytes, is_name, is_reserved}
+use Rattle.place_model.specs.Names.{Bytes, all_free, has_length, is_reserved}
 use Rattle.place_model.specs.Scripts.{Script, Off, Say}
 use Rattle.place_model.specs.Setting.{Setting}
 use Rattle.schedule_model.specs.Built.{Built}
@@ -51,9 +51,9 @@ is_busy (Some b) = has_more b.left
 
 -- ---- names
 
--- whether the name of a queue isn't lawful, where reserved names are looked at later
+-- whether no queue's name is spelled so, reserved or not: one of its bytes parts texts, or it hasn't 1 to 255 bytes
 abbrev pub is_no_name : Bytes → Bool
-is_no_name q = not (is_name q) && not (is_reserved q)
+is_no_name q = not (all_free q && has_length q)
 
 abbrev pub is_empty : Bytes → Bool
 is_empty [] = true

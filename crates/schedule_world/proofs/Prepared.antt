@@ -1,12 +1,12 @@
 -- The tests of what a client begins, and what is begun.
 use Rattle.std.proofs.Common.{◌≡◌, ℕ, suc, ◌<◌, ◌^◌, List, [], ◌∷◌, length, get_or, Bool, true, false, ◌&&◌, ◌||◌, Some, None, is_some, is_none, Ok, refl, sym, ap, ◌∙◌}
-use Rattle.std.specs.Prelude.{not}
+use Rattle.std.specs.Prelude.{not, if◌then◌else◌}
 use Rattle.std.specs.List.{list_all, list_any}
 use Rattle.serde_json.specs.Data.{Data}
 use Rattle.line_text.specs.declared.reason.Reason.TheVariants.{Name, Reserved, Json, Task}
 use Rattle.envelope.specs.Tags.{tag, tag_number, tag_text}
 use Rattle.place_model.specs.EnvelopeTexts.{plain_setting}
-use Rattle.place_model.specs.Names.{Bytes, is_name, is_reserved}
+use Rattle.place_model.specs.Names.{Bytes, all_free, has_length, is_name, is_reserved}
 use Rattle.place_model.specs.Scripts.{End, Publish, Pop, end_script, pop_script, publish_script}
 use Rattle.schedule_model.specs.Drafts.{arguments_of, sealed_task}
 use Rattle.schedule_model.specs.Faults.{Test, asked_tests, first_reason, is_empty, is_no_name}
@@ -100,14 +100,14 @@ acknowledged s n of counter m l d h i e left drawn =
 
 -- ---- names
 
-lawful_by : (name reserved : Bool) → (not name && not reserved) ≡ false → reserved ≡ false → name ≡ true
-lawful_by true reserved e f = refl
-lawful_by false true e f = sym f
-lawful_by false false e f = sym e
+lawful_by : (spelled reserved : Bool) → not spelled ≡ false → reserved ≡ false → (if reserved then false else spelled) ≡ true
+lawful_by true true e f = sym f
+lawful_by true false e f = refl
+lawful_by false reserved e f = cc
 
 -- a name that passed both tests is lawful
 pub lawful : (q : Bytes) → is_no_name q ≡ false → is_reserved q ≡ false → is_name q ≡ true
-lawful q e f = lawful_by (is_name q) (is_reserved q) e f
+lawful q e f = lawful_by (all_free q && has_length q) (is_reserved q) e f
 
 or_false : (a b : Bool) → (a || b) ≡ false → (a ≡ false) × (b ≡ false)
 or_false true b e = cc

@@ -4,7 +4,7 @@ ghost use Rattle.std.specs.List.{list_all, list_any};
 ghost use Rattle.serde_json.specs.View.{view as data_of};
 ghost use Rattle.envelope.specs.Envelopes.{parts_in};
 ghost use Rattle.place_model.specs.EnvelopeTexts.{plain_setting};
-ghost use Rattle.place_model.specs.Names.{is_name, is_reserved};
+ghost use Rattle.place_model.specs.Names.{has_length, is_free, is_name, is_reserved};
 ghost use Rattle.place_model.specs.Scripts.{publish_script};
 ghost use Rattle.schedule_model.specs.Faults.{is_no_name};
 ghost use Rattle.schedule_world.specs.Blocks.{script_left};
@@ -17,7 +17,7 @@ use crate::left::Left;
 use crate::task::{Publication, arguments, sealed};
 use envelope::{Envelope, Tag, write};
 use line_text::Reason;
-use place_model::{NameFault, QueueName, is_name, is_reserved};
+use place_model::{NameFault, QueueName, is_reserved};
 use resp_wire::{Bytes, List, Words};
 use schedule_model::Asked;
 use std::alloc::{AllocError, Global};
@@ -154,14 +154,39 @@ fn acknowledging(seed: u64, drawn: u64, of: u64, counter: u64) -> Result<Begun, 
     })
 }
 
-/// Whether the name of a queue isn't lawful, where reserved names are looked at later.
+/// Whether no queue's name is spelled so, reserved or not.
 fn is_no_name(name: &Bytes) -> bool
     ensures { result ≡ is_no_name name.now }
 {
-    !is_name(name.as_slice()) && !is_reserved(name.as_slice())
+    let bytes = name.as_slice();
+    !(are_free(bytes) && has_length(bytes))
 }
 
-/// Whether one of the names isn't lawful, where reserved names are looked at later.
+/// Whether none of the bytes parts texts.
+fn are_free(bytes: &[u8]) -> bool
+    ensures { result ≡ list_all is_free bytes.now }
+{
+    bytes.iter().all(|byte| is_free(*byte))
+}
+
+/// Whether it is none of the two bytes that part the texts of a binding.
+fn is_free(byte: u8) -> bool
+    ensures { result ≡ is_free byte }
+{
+    byte != 0x06 && byte != 0x16
+}
+
+/// Whether there are 1 to 255 bytes.
+fn has_length(bytes: &[u8]) -> bool
+    ensures { result ≡ has_length bytes.now }
+{
+    match bytes {
+        [] => false,
+        [_, rest @ ..] => rest.len() < 255,
+    }
+}
+
+/// Whether one of the names is spelled as no queue's name, reserved or not.
 fn has_no_name(names: &[Bytes]) -> bool
     ensures { result ≡ list_any is_no_name names.now }
 {
