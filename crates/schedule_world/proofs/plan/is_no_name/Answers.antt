@@ -1,4 +1,4 @@
-use Rattle.std.proofs.Common.{arith, ◌≡◌, [], ◌∷◌, ◌&&◌, refl, ap, ◌∙◌}
+use Rattle.std.proofs.Common.{arith, ◌≡◌, [], ◌∷◌, ◌&&◌, refl, ap}
 use Rattle.std.specs.List.{list_all}
 use Rattle.place_model.specs.Names.{Bytes, all_free, is_free}
 use Rattle.schedule_world.proofs.plan.is_no_name.Goals as goal
