@@ -47,7 +47,7 @@ QUEUES = [
 ]
 BAD_QUEUES = [
     b"unacked", b"unacked_index", b"unacked_mutex", b"_kombu.binding.", b"_kombu.binding.x", b"celery-task-meta-",
-    b"x.reply.celery.pidbox", b".reply.celery.pidbox", b"A" * 256, b"", b"a\tb",
+    b"x.reply.celery.pidbox", b".reply.celery.pidbox", b"_kombu.binding." + b"x" * 300, b"A" * 256, b"", b"a\tb",
     b"\xc3\xa9", b"a\x06\x163", b"\x7f", b"a\x00",
 ]
 TASKS = [b"tasks.add", b"t", b"-", b'"', b"\\", b"T" * 300]
