@@ -45,7 +45,7 @@ tree_is (Some x) d e =
 
 -- ---- into an entry
 
-entry_read : (d : Data) (e r : List ℕ) → Sorted d → IsPlain d → read (entry_text e r (Some d)) ≡ Some (entry_data (record { tree = d; exchange = e; routing_key = r }))
+pub entry_read : (d : Data) (e r : List ℕ) → Sorted d → IsPlain d → read (entry_text e r (Some d)) ≡ Some (entry_data (record { tree = d; exchange = e; routing_key = r }))
 entry_read d e r s h = read-compact_text (entry_data (record { tree = d; exchange = e; routing_key = r })) (s, (tt, (tt, tt))) flat shallow
   where
     flat : items_have_float (item d (item (string e) (item (string r) no_items))) ≡ false

@@ -14,3 +14,4 @@ pub mod TagTexts
 pub mod Texts
 pub mod TextsBack
 pub mod Told
+pub mod EntriesBack

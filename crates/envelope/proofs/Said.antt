@@ -1,9 +1,9 @@
 -- What an envelope's tree is known to be.
-use Rattle.std.proofs.Common.{◌≡◌, ℕ, ◌≤◌, List, length, Bool, true, false, Option, Some, None, Result, Ok, Err, refl, ap, ◌∙◌, arith}
+use Rattle.std.proofs.Common.{◌≡◌, ℕ, ◌≤◌, List, length, Bool, true, false, Option, Some, None, Result, Ok, Err, refl, sym, ap, subst, ◌∙◌, arith}
 use Rattle.std.specs.Prelude.{IsUtf8, nat_le, not, ⊤}
 use Rattle.std.proofs.lemmas.Bool.Decides.{nat_tests}
 use Rattle.serde_json.specs.Data.{Data, depth}
-use Rattle.serde_json.specs.Read.{read}
+use Rattle.serde_json.specs.Read.{max_depth, read}
 use Rattle.serde_json.specs.Written.{has_float, compact_text}
 use Rattle.envelope.specs.Marks.{marked}
 use Rattle.envelope.specs.declared.fault.EnvelopeFault.{EnvelopeFault}
@@ -79,3 +79,13 @@ unfolding envelope_at tree_at envelope_of
 envelope_is d p b said utf8 reads fits =
     let short : nat_le (length b) max_bytes ≡ true = grind (arith, nat_tests) in
     rw (short, json_some b d utf8 reads, said) refl
+
+-- the text of an envelope's tree that a writer gives is its compact text, and is read again as the tree
+pub whole_is : (d : Data) (p : Parts) (t : List ℕ) → said_by d ≡ Ok p → (has_float d ≡ false → t ≡ compact_text d) → IsUtf8 t → (depth d ≤ max_depth → read t ≡ Some d)
+    → (t ≡ compact_text d) × (envelope_at t ≡ Ok d)
+whole_is d p t said text utf8 back =
+    let known = said_is d p said in
+    let written : t ≡ compact_text d = text known.plain.whole in
+    let deep : depth d ≤ max_depth = let x = known.plain.shallow in omega arith in
+    let fits : length t ≤ max_bytes = subst (λ (b : List ℕ). length b ≤ max_bytes) (sym written) known.text in
+    (written, envelope_is d p t said utf8 (back deep) fits)

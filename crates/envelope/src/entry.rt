@@ -1,5 +1,6 @@
 //! Entries of the table of messages that are not acknowledged yet: an envelope beside where it was sent.
-ghost use Rattle.std.specs.Prelude.{◌≡◌, IfOk, Ok, false, option_map};
+ghost use Rattle.std.specs.Prelude.{◌≡◌, [], ◌∷◌, ◌++◌, IfOk, OnOk, Ok, option_map};
+ghost use Rattle.serde_json.specs.Data.{string};
 ghost use Rattle.serde_json.specs.View.{items_view, view as data_of};
 ghost use Rattle.serde_json.specs.Written.{compact_text};
 ghost use Rattle.envelope.specs.Entries.{entry_at, entry_data, entry_for, entry_in, of_items, of_three};
@@ -12,7 +13,7 @@ use crate::fault::EnvelopeFault;
 use crate::find::want;
 use crate::reading::{fit_names, json, of_tree};
 use resp_wire::Bytes;
-use serde_json::{Value, json};
+use serde_json::Value;
 use std::alloc::{AllocError, Global};
 
 /// The longest bytes of an entry.
@@ -60,13 +61,50 @@ pub fn write_entry(alloc: Global, e: &Envelope) -> Result<Bytes, AllocError>
     // What was written is read again as the same entry.
     ensures again { IfOk result (λ b. entry_at b ≡ Ok (entry_for (data_of e.now))) }
 {
-    let value = array_of(
+    let exchange = quoted(alloc, e.found.exchange.as_str())?;
+    let routing_key = quoted(alloc, e.found.routing_key.as_str())?;
+    array_text(
         alloc,
-        &e.tree,
-        e.found.exchange.as_str(),
-        e.found.routing_key.as_str(),
-    )?;
+        e.text(),
+        exchange.as_slice(),
+        routing_key.as_slice(),
+    )
+}
+
+/// A text as it stands in JSON.
+fn quoted(alloc: Global, text: &str) -> Result<Bytes, AllocError>
+    ensures { IfOk result (λ b. b ≡ compact_text (string text.now)) }
+{
+    let value = Value::String(String::from_str(alloc, text)?);
     Ok(Bytes::from_vec(value.to_vec(alloc)?))
+}
+
+/// The text of an array of three texts.
+fn array_text(
+    alloc: Global,
+    first: &[u8],
+    second: &[u8],
+    third: &[u8],
+) -> Result<Bytes, AllocError>
+    ensures { IfOk result (λ b. b
+        ≡ 91 ∷ (first.now ++ 44 ∷ (second.now ++ 44 ∷ (third.now ++ 93 ∷ [])))) }
+{
+    let mut text = Vec::with_capacity(alloc, first.len())?;
+    text.push(b'[')?;
+    text.extend_from_slice(first)?;
+    add_item(&mut text, second)?;
+    add_item(&mut text, third)?;
+    text.push(b']')?;
+    Ok(Bytes::from_vec(text))
+}
+
+/// Adds a text with a comma before it.
+fn add_item(text: &mut Vec<u8>, item: &[u8]) -> Result<(), AllocError>
+    ensures { OnOk result (text.new.items ≡ text.old.items ++ 44 ∷ item.now) }
+{
+    text.push(b',')?;
+    text.extend_from_slice(item)?;
+    Ok(())
 }
 
 /// The three items of an entry, as they stand in its array.
@@ -117,20 +155,4 @@ fn texts_of<'a>(tree: &'a Value, exchange: &'a Value, routing_key: &'a Value) ->
         exchange,
         routing_key,
     })
-}
-
-/// The array of an entry.
-fn array_of(
-    alloc: Global,
-    tree: &Value,
-    exchange: &str,
-    routing_key: &str,
-) -> Result<Value, AllocError>
-    ensures { IfOk result (λ v. data_of v ≡ entry_data (record {
-      tree = data_of tree.now;
-      exchange = exchange.now;
-      routing_key = routing_key.now;
-    })) }
-{
-    json!(in alloc; [tree, exchange, routing_key])
 }

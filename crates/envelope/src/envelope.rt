@@ -39,13 +39,13 @@ impl Found {
     }
 }
 
-/// A message in its envelope, which contracts see as its tree. Its parts and its size are kept beside the tree, so
-/// that none of the calls below takes memory.
+/// A message in its envelope, which contracts see as its tree. Its parts and its compact text are kept beside the
+/// tree, so that none of the calls below takes memory, and the text is written once.
 #[derive(Debug, Drop)]
 pub struct Envelope {
     pub(crate) tree: Value,
     pub(crate) found: Found,
-    pub(crate) size: usize,
+    pub(crate) text: Bytes,
 }
 
 impl Model for Envelope {
@@ -60,10 +60,26 @@ impl Model for Envelope {
 
     ghost view = { λ e. e.tree };
 
-    ghost invariant = { λ e. IsWhole e.tree e.found e.size };
+    ghost invariant = { λ e. IsWhole e.tree e.found e.text };
 }
 
 impl Envelope {
+    ghost use Rattle.std.specs.Prelude.{◌≤◌, Some, false};
+    ghost use Rattle.serde_json.specs.Data.{depth};
+    ghost use Rattle.serde_json.specs.Read.{max_depth, read as json_in};
+    ghost use Rattle.serde_json.specs.Written.{has_float};
+
+    /// The envelope of a tree, of what it says and of its compact text.
+    pub(crate) fn whole(tree: Tree, found: Found, text: Bytes) -> Envelope
+        requires said { said_by (data_of tree) ≡ Ok (parts_view found) }
+        requires text { has_float (data_of tree) ≡ false → text ≡ compact_text (data_of tree) }
+        requires utf8 { IsUtf8 text }
+        requires back { depth (data_of tree) ≤ max_depth → json_in text ≡ Some (data_of tree) }
+        ensures { data_of result ≡ data_of tree }
+    {
+        Envelope { tree, found, text }
+    }
+
     /// The JSON tree. Members that no rule speaks of are kept in it.
     pub fn tree(&self) -> &Tree
         ensures value { data_of result.now ≡ data_of self.now }
@@ -119,11 +135,20 @@ impl Envelope {
         has_marks(&self.tree)
     }
 
+    /// The compact text of the tree: no blanks, the members of each object in the order of their bytes.
+    pub fn text(&self) -> &[u8]
+        ensures value { result.now ≡ compact_text (data_of self.now) }
+        // It is read again as the same tree.
+        ensures again { envelope_at result.now ≡ Ok (data_of self.now) }
+    {
+        self.text.as_slice()
+    }
+
     /// The length of what `write` gives, in bytes: at most 1,040,000.
     pub fn size(&self) -> u64
         ensures { result ≡ length (compact_text (data_of self.now)) }
     {
-        self.size as u64
+        self.text.len() as u64
     }
 }
 
@@ -144,6 +169,5 @@ pub fn write(alloc: Global, e: &Envelope) -> Result<Bytes, AllocError>
     // What was written is read again as the same tree.
     ensures again { IfOk result (λ b. envelope_at b ≡ Ok (data_of e.now)) }
 {
-    let _found = &e.found;
-    Ok(Bytes::from_vec(e.tree.to_vec(alloc)?))
+    Bytes::from_slice(alloc, e.text())
 }

@@ -7,7 +7,7 @@ ghost use Rattle.envelope.specs.Marks.{is_marked, is_marked_in_headers, is_marke
 
 use crate::envelope::Envelope;
 use crate::find::is_set_at;
-use crate::reading::size_of;
+use crate::reading::text_of;
 use serde_json::Value;
 use std::alloc::{AllocError, Global};
 
@@ -101,6 +101,6 @@ pub fn redelivered(alloc: Global, e: &Envelope) -> Result<Envelope, AllocError>
 {
     let found = e.found.copy(alloc)?;
     let tree = marked_copy(alloc, &e.tree)?;
-    let size = size_of(alloc, &tree)?;
-    Ok(Envelope { tree, found, size })
+    let text = text_of(alloc, &tree)?;
+    Ok(Envelope::whole(tree, found, text))
 }

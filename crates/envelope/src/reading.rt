@@ -1,5 +1,7 @@
 //! Reading envelopes: from bytes to a tree, from a tree to what it says.
-ghost use Rattle.std.specs.Prelude.{◌≡◌, IfOk, codes, false, length, nat_le, option_and_then, option_map};
+ghost use Rattle.std.specs.Prelude.{◌≡◌, ◌≤◌, IfOk, IsUtf8, Some, codes, false, length, nat_le, option_and_then, option_map};
+ghost use Rattle.serde_json.specs.Data.{depth};
+ghost use Rattle.serde_json.specs.Read.{max_depth, read as json_in};
 ghost use Rattle.serde_json.specs.View.{view as data_of};
 ghost use Rattle.serde_json.specs.Written.{compact_text, has_float};
 ghost use Rattle.envelope.specs.Envelopes.{are_short, content_of, envelope_at, envelope_of, json_at, max_text, parts_of, properties_said, tree_at};
@@ -86,18 +88,36 @@ pub fn of_tree(alloc: Global, tree: Tree) -> Result<Envelope, EnvelopeFault>
     want(nests_within(&tree, MAX_LEVELS), EnvelopeFault::TooDeep)?;
     want(!holds_float(&tree), EnvelopeFault::Float)?;
     let found = parts(alloc, &tree)?;
-    let size = size_of(alloc, &tree)?;
+    let (text, size) = sized_text(alloc, &tree)?;
     want(size <= MAX_BYTES, EnvelopeFault::TooLong)?;
     want(fits_marked(alloc, &tree, size)?, EnvelopeFault::TooLong)?;
-    Ok(Envelope { tree, found, size })
+    Ok(Envelope::whole(tree, found, text))
 }
 
-/// The length of a tree's compact text.
-pub(crate) fn size_of(alloc: Global, tree: &Value) -> Result<usize, AllocError>
-    ensures { IfOk result (λ n. has_float (data_of tree.now) ≡ false
-        → n ≡ length (compact_text (data_of tree.now))) }
+/// A tree's compact text, and its length.
+fn sized_text(alloc: Global, tree: &Value) -> Result<(Bytes, usize), AllocError>
+    ensures size { IfOk result (λ p. has_float (data_of tree.now) ≡ false
+        → p.1 ≡ length (compact_text (data_of tree.now))) }
+    ensures text { IfOk result (λ p. has_float (data_of tree.now) ≡ false
+        → p.0 ≡ compact_text (data_of tree.now)) }
+    ensures utf8 { IfOk result (λ p. IsUtf8 p.0) }
+    ensures back { IfOk result (λ p. depth (data_of tree.now) ≤ max_depth
+        → json_in p.0 ≡ Some (data_of tree.now)) }
 {
-    Ok(tree.to_vec(alloc)?.len())
+    let text = text_of(alloc, tree)?;
+    let size = text.len();
+    Ok((text, size))
+}
+
+/// A tree's compact text.
+pub(crate) fn text_of(alloc: Global, tree: &Value) -> Result<Bytes, AllocError>
+    ensures text { IfOk result (λ b. has_float (data_of tree.now) ≡ false
+        → b ≡ compact_text (data_of tree.now)) }
+    ensures utf8 { IfOk result (λ b. IsUtf8 b) }
+    ensures back { IfOk result (λ b. depth (data_of tree.now) ≤ max_depth
+        → json_in b ≡ Some (data_of tree.now)) }
+{
+    Ok(Bytes::from_vec(tree.to_vec(alloc)?))
 }
 
 /// Whether a tree whose compact text has this size is short enough with both marks. They add at most 38 bytes, so
@@ -111,7 +131,8 @@ fn fits_marked(alloc: Global, tree: &Value, size: usize) -> Result<bool, AllocEr
         return Ok(true);
     }
     let copy = marked_copy(alloc, tree)?;
-    Ok(size_of(alloc, &copy)? <= MAX_TEXT)
+    let text = text_of(alloc, &copy)?;
+    Ok(text.len() <= MAX_TEXT)
 }
 
 /// What the members of a tree say.

@@ -3,10 +3,10 @@ ghost use Rattle.std.specs.Prelude.{◌≡◌, IfOk};
 
 use crate::kept::is_kept;
 use crate::standing::{Standing, told_by};
-use crate::stored::store_after;
 use crate::tagged::{Tagged, first_told, tallied};
 use crate::walk::gathered;
 use crate::{History, Place};
+use letters::Letters;
 use mini_store::Store;
 use resp_wire::List;
 use std::alloc::{AllocError, Global};
@@ -33,16 +33,22 @@ pub(crate) struct Index {
 }
 
 impl Index {
+    ghost use Rattle.place_model.specs.Histories.{after};
     ghost use Rattle.place_model.specs.Indexed.{IsIndexOf, place_in, single_in};
     ghost use Rattle.place_model.specs.Shown.{history_of};
 
-    /// What a history tells.
-    pub(crate) fn of(alloc: Global, history: &History) -> Result<Index, AllocError>
+    /// What a history tells that leaves this store.
+    pub(crate) fn of(
+        alloc: Global,
+        letters: &mut Letters,
+        history: &History,
+        store: Store,
+    ) -> Result<Index, AllocError>
+        requires { store.state ≡ (after (history_of history.now)).store }
         ensures { IfOk result (λ index. IsIndexOf (history_of history.now) index) }
     {
-        let walk = gathered(alloc, history)?;
-        let store = store_after(alloc, history)?;
-        let standing = first_told(alloc, told_by(alloc, store.keys())?)?;
+        let walk = gathered(alloc, letters, history)?;
+        let standing = first_told(alloc, told_by(alloc, letters, store.keys())?)?;
         let hands = first_told(alloc, walk.seats.hands(alloc, false)?)?;
         let losses = first_told(alloc, walk.seats.hands(alloc, true)?)?;
         let pushes = tallied(alloc, walk.pushes.as_slice())?;

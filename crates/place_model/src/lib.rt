@@ -27,7 +27,8 @@ pub use heard::{Heard, Outcome};
 pub use history::{Entry, History};
 pub use keys::{pop_keys, queue_key, split_key, step_of};
 pub use place::Place;
-pub use placing::{place_of, places};
+pub use placing::{place_of, places, places_beside};
+pub use stored::store_after;
 pub use queue_name::{NameFault, QueueName, is_name, is_reserved};
 
 #[cfg(test)]

@@ -4,7 +4,7 @@ ghost use Rattle.std.specs.FinMap.{empty};
 ghost use Rattle.envelope.specs.Tags.{tag_text};
 ghost use Rattle.place_model.specs.Accepted.{places};
 ghost use Rattle.place_model.specs.EnvelopeTexts.{plain_setting};
-ghost use Rattle.place_model.specs.Histories.{History as Told};
+ghost use Rattle.place_model.specs.Histories.{History as Told, after};
 ghost use Rattle.place_model.specs.Indexed.{IsIndexOf};
 ghost use Rattle.place_model.specs.PlaceOf.{place_of};
 ghost use Rattle.place_model.specs.Placed.{all_placed};
@@ -12,9 +12,12 @@ ghost use Rattle.place_model.specs.Shown.{history_of};
 ghost use Rattle.place_model.specs.declared.heard.Heard.{Heard};
 
 use crate::index::Index;
+use crate::stored::store_after;
 use crate::tagged::first_numbers;
 use crate::{History, Place};
 use envelope::Tag;
+use letters::Letters;
+use mini_store::Store;
 use std::alloc::{AllocError, Global};
 
 /// The place of a tag after a history.
@@ -31,7 +34,8 @@ pub fn place_of(alloc: Global, history: &History, tag: Tag) -> Result<Place, All
 fn place_by_number(alloc: Global, history: &History, number: u128) -> Result<Place, AllocError>
     ensures { IfOk result (λ place. place ≡ place_of plain_setting (history_of history.now) (tag_text number)) }
 {
-    let index = Index::of(alloc, history)?;
+    let store = store_after(alloc, history)?;
+    let index = Index::of(alloc, &mut Letters::new(alloc), history, store)?;
     index.place(alloc, number)
 }
 
@@ -41,7 +45,22 @@ fn place_by_number(alloc: Global, history: &History, number: u128) -> Result<Pla
 pub fn places(alloc: Global, history: &History) -> Result<Vec<(Tag, Place)>, AllocError>
     ensures { IfOk result (λ found. all_placed found.items ≡ places plain_setting (history_of history.now)) }
 {
-    let index = Index::of(alloc, history)?;
+    let store = store_after(alloc, history)?;
+    places_beside(alloc, &mut Letters::new(alloc), history, store)
+}
+
+/// The same as `places`, beside the store that the history leaves, and what is known of texts; what is read is noted
+/// there.
+pub fn places_beside(
+    alloc: Global,
+    letters: &mut Letters,
+    history: &History,
+    store: Store,
+) -> Result<Vec<(Tag, Place)>, AllocError>
+    requires { store.state ≡ (after (history_of history.now)).store }
+    ensures { IfOk result (λ found. all_placed found.items ≡ places plain_setting (history_of history.now)) }
+{
+    let index = Index::of(alloc, letters, history, store)?;
     let numbers = first_numbers(alloc, index.accepted.as_slice())?;
     placed(alloc, &index, numbers.as_slice())
 }

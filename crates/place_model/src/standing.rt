@@ -6,6 +6,7 @@ ghost use Rattle.place_model.specs.Gathered.{listed, number, told_at, told_by, t
 
 use crate::keys::split_key;
 use crate::told::message_of;
+use letters::Letters;
 use mini_store::{Held, Keyspace, Stored};
 use resp_wire::{Bytes, List};
 use std::alloc::{AllocError, Global};
@@ -15,12 +16,16 @@ use store_tables::Deque;
 pub(crate) type Standing = (Bytes, u8);
 
 /// The messages in the lists of queues, with their queues and steps, in the order of the keys.
-pub(crate) fn told_by(alloc: Global, keys: &Keyspace) -> Result<List<(u128, Standing)>, AllocError>
+pub(crate) fn told_by(
+    alloc: Global,
+    letters: &mut Letters,
+    keys: &Keyspace,
+) -> Result<List<(u128, Standing)>, AllocError>
     ensures { IfOk result (λ told. told ≡ told_by plain_setting (entries keys.now)) }
 {
     let mut told = List::new();
     for (key, held) in keys.iter() {
-        add_under(alloc, &mut told, key, held)?;
+        add_under(alloc, letters, &mut told, key, held)?;
     }
     Ok(told)
 }
@@ -28,6 +33,7 @@ pub(crate) fn told_by(alloc: Global, keys: &Keyspace) -> Result<List<(u128, Stan
 /// Adds the messages under a key, where it is a queue's.
 fn add_under(
     alloc: Global,
+    letters: &mut Letters,
     told: &mut List<(u128, Standing)>,
     key: &Bytes,
     held: &Held,
@@ -38,7 +44,7 @@ fn add_under(
         return Ok(());
     };
     match &held.value {
-        Stored::Items(items) => add_at(alloc, told, queue, step, items),
+        Stored::Items(items) => add_at(alloc, letters, told, queue, step, items),
         Stored::Text(_) | Stored::Members(_) | Stored::Hash(_) | Stored::Scores(_) => Ok(()),
     }
 }
@@ -46,6 +52,7 @@ fn add_under(
 /// Adds the messages of a queue's list.
 fn add_at(
     alloc: Global,
+    letters: &mut Letters,
     told: &mut List<(u128, Standing)>,
     queue: &[u8],
     step: u8,
@@ -54,7 +61,7 @@ fn add_at(
     ensures { OnOk result (told.new ≡ told.old ++ told_at plain_setting (queue.now, step) items.now) }
 {
     for item in items.iter() {
-        add_item(alloc, told, queue, step, item)?;
+        add_item(alloc, letters, told, queue, step, item)?;
     }
     Ok(())
 }
@@ -62,6 +69,7 @@ fn add_at(
 /// Adds the message of a queue's element, where it is one.
 fn add_item(
     alloc: Global,
+    letters: &mut Letters,
     told: &mut List<(u128, Standing)>,
     queue: &[u8],
     step: u8,
@@ -69,7 +77,7 @@ fn add_item(
 ) -> Result<(), AllocError>
     ensures { OnOk result (told.new ≡ told.old ++ mapped (λ n. (n, (queue.now, step))) (listed (number (plain_setting.tag_of item.now)))) }
 {
-    let number = message_of(alloc, item.as_slice())?;
+    let number = message_of(alloc, letters, item.as_slice())?;
     if let Some(number) = number {
         let queue = Bytes::from_slice(alloc, queue)?;
         told.push(alloc, (number, (queue, step)))?;

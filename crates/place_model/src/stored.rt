@@ -16,7 +16,7 @@ use std::alloc::{AllocError, Global};
 
 /// The store after a history: each call of a client of the table is taken, and each stop of one leaves nothing of its
 /// connection.
-pub(crate) fn store_after(alloc: Global, history: &History) -> Result<Store, AllocError>
+pub fn store_after(alloc: Global, history: &History) -> Result<Store, AllocError>
     ensures { IfOk result (λ store. store.state ≡ (after (history_of history.now)).store) }
 {
     let known = seated(alloc, history.clients())?;

@@ -3,12 +3,15 @@ ghost use Rattle.std.specs.Prelude.{◌≡◌, IfOk, Some, None};
 ghost use Rattle.mini_store.specs.Words.{command_of};
 ghost use Rattle.place_model.specs.EnvelopeTexts.{plain_setting};
 ghost use Rattle.place_model.specs.Gathered.{act_of, kind_of, number, only, push_one, take_one};
+ghost use Rattle.letters.specs.Letters.{letter_of};
+ghost use Rattle.place_model.specs.Names.{Bytes as Text};
 ghost use Rattle.place_model.specs.Setting.{is_queue};
 
 use crate::keys::split_key;
 use crate::queue_name::are_same;
 use crate::seat::{Act, Kind};
 use envelope::{EnvelopeFault, Tag};
+use letters::{Letter, Letters};
 use mini_store::{Command, command_of};
 use resp_wire::{Bytes, Words};
 use std::alloc::{AllocError, Global};
@@ -22,24 +25,32 @@ pub(crate) struct Told {
 }
 
 /// What words tell.
-pub(crate) fn read_words(alloc: Global, words: &Words) -> Result<Told, AllocError>
+pub(crate) fn read_words(
+    alloc: Global,
+    letters: &mut Letters,
+    words: &Words,
+) -> Result<Told, AllocError>
     ensures { IfOk result (λ told. told ≡ record { kind = kind_of (command_of words.now); act = act_of plain_setting (command_of words.now) }) }
 {
-    of_command(alloc, command_of(alloc, words)?)
+    of_command(alloc, letters, command_of(alloc, words)?)
 }
 
 /// What a command tells.
-fn of_command(alloc: Global, command: Command) -> Result<Told, AllocError>
+fn of_command(
+    alloc: Global,
+    letters: &mut Letters,
+    command: Command,
+) -> Result<Told, AllocError>
     ensures { IfOk result (λ told. told ≡ record { kind = kind_of command; act = act_of plain_setting command }) }
 {
     match command {
         Command::Lpush(key, elements) => Ok(Told {
             kind: Kind::Pushes,
-            act: push_one(alloc, &key, elements)?,
+            act: push_one(alloc, letters, &key, elements)?,
         }),
         Command::Rpush(key, elements) => Ok(Told {
             kind: Kind::Others,
-            act: push_one(alloc, &key, elements)?,
+            act: push_one(alloc, letters, &key, elements)?,
         }),
         Command::Hdel(key, fields) => Ok(Told {
             kind: Kind::Others,
@@ -65,7 +76,12 @@ fn of_command(alloc: Global, command: Command) -> Result<Told, AllocError>
 }
 
 /// A push to a key, where there is just one element.
-fn push_one(alloc: Global, key: &Bytes, elements: Deque<Bytes>) -> Result<Act, AllocError>
+fn push_one(
+    alloc: Global,
+    letters: &mut Letters,
+    key: &Bytes,
+    elements: Deque<Bytes>,
+) -> Result<Act, AllocError>
     ensures { IfOk result (λ act. act ≡ push_one plain_setting key.now (only elements)) }
 {
     let Some(element) = only(elements) else {
@@ -74,7 +90,7 @@ fn push_one(alloc: Global, key: &Bytes, elements: Deque<Bytes>) -> Result<Act, A
     if !is_queue(key.as_slice()) {
         return Ok(Act::Nothing);
     }
-    match message_of(alloc, element.as_slice())? {
+    match message_of(alloc, letters, element.as_slice())? {
         Some(number) => Ok(Act::Push(number)),
         None => Ok(Act::Nothing),
     }
@@ -116,12 +132,43 @@ pub(crate) fn is_queue(key: &[u8]) -> bool
     }
 }
 
-/// The number of an envelope's tag. None where the bytes are no envelope.
-pub(crate) fn message_of(alloc: Global, bytes: &[u8]) -> Result<Option<u128>, AllocError>
+/// The number of an envelope's tag. None where the bytes are no envelope. What the bytes spell is noted.
+pub(crate) fn message_of(
+    alloc: Global,
+    letters: &mut Letters,
+    bytes: &[u8],
+) -> Result<Option<u128>, AllocError>
+    ensures { IfOk result (λ n. n ≡ number (plain_setting.tag_of bytes.now)) }
+{
+    match letters.known(alloc, bytes)? {
+        Some(letter) => Ok(number_in(letter)),
+        None => read_message(alloc, letters, bytes),
+    }
+}
+
+/// The number that a text tells as an envelope, by what it spells.
+fn number_in(letter: Letter) -> Option<u128>
+    ensures { (b : Text) → letter_of b ≡ Some letter → result ≡ number (plain_setting.tag_of b) }
+{
+    match letter {
+        Letter::Envelope { number, marked: _ } => Some(number),
+        Letter::Entry { .. } => None,
+    }
+}
+
+/// The number of an envelope's tag, where the bytes aren't known.
+fn read_message(
+    alloc: Global,
+    letters: &mut Letters,
+    bytes: &[u8],
+) -> Result<Option<u128>, AllocError>
     ensures { IfOk result (λ n. n ≡ number (plain_setting.tag_of bytes.now)) }
 {
     match envelope::read(alloc, bytes) {
-        Ok(message) => Ok(Some(message.tag().0)),
+        Ok(message) => {
+            letters.note(alloc, &message)?;
+            Ok(Some(message.tag().0))
+        }
         Err(EnvelopeFault::Memory) => Err(AllocError),
         Err(
             EnvelopeFault::TooLong

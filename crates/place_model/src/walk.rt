@@ -12,6 +12,7 @@ use crate::seat::{Act, Kind, Seat};
 use crate::told::{Told, is_queue, message_of, read_words};
 use crate::transaction::{add_copied, add_ended};
 use crate::{Entry, Heard, History};
+use letters::Letters;
 use resp_wire::{List, Value};
 use std::alloc::{AllocError, Global};
 
@@ -31,12 +32,16 @@ pub(crate) struct Walk {
 }
 
 /// What a history's entries tell.
-pub(crate) fn gathered(alloc: Global, history: &History) -> Result<Walk, AllocError>
+pub(crate) fn gathered(
+    alloc: Global,
+    letters: &mut Letters,
+    history: &History,
+) -> Result<Walk, AllocError>
     ensures { IfOk result (λ walk. walk ≡ gathered plain_setting (history_of history.now)) }
 {
     let mut walk = Walk::new(alloc, history.clients())?;
     for entry in history.entries() {
-        walk.add(alloc, entry)?;
+        walk.add(alloc, letters, entry)?;
     }
     Ok(walk)
 }
@@ -56,7 +61,12 @@ impl Walk {
     }
 
     /// After one more entry.
-    fn add(&mut self, alloc: Global, entry: &Entry<Heard>) -> Result<(), AllocError>
+    fn add(
+        &mut self,
+        alloc: Global,
+        letters: &mut Letters,
+        entry: &Entry<Heard>,
+    ) -> Result<(), AllocError>
         ensures { OnOk result (self.new ≡ walked plain_setting self.old entry.now) }
     {
         match entry {
@@ -66,8 +76,8 @@ impl Walk {
                 words,
                 reply,
             } => {
-                let told = read_words(alloc, words)?;
-                self.called(alloc, *conn, told, &reply.answer)
+                let told = read_words(alloc, letters, words)?;
+                self.called(alloc, letters, *conn, told, &reply.answer)
             }
             Entry::Heard { conn: _, heard: _ } => Ok(()),
             Entry::Stop { conn } => self.stopped(*conn),
@@ -78,6 +88,7 @@ impl Walk {
     fn called(
         &mut self,
         alloc: Global,
+        letters: &mut Letters,
         conn: u32,
         told: Told,
         answer: &Value,
@@ -104,7 +115,7 @@ impl Walk {
                     told.kind,
                     answer,
                 )?;
-                let seat = seat_after(alloc, seat, told, answer)?;
+                let seat = seat_after(alloc, letters, seat, told, answer)?;
                 self.seats.put(conn, seat)
             }
         }
@@ -155,10 +166,16 @@ fn stopped(seat: Seat) -> Seat
 }
 
 /// A client after a call.
-fn seat_after(alloc: Global, seat: Seat, told: Told, answer: &Value) -> Result<Seat, AllocError>
+fn seat_after(
+    alloc: Global,
+    letters: &mut Letters,
+    seat: Seat,
+    told: Told,
+    answer: &Value,
+) -> Result<Seat, AllocError>
     ensures { IfOk result (λ after. after ≡ seat_after plain_setting seat told.kind told.act answer.now) }
 {
-    let hand = hand_after(alloc, seat.hand, told.kind, answer)?;
+    let hand = hand_after(alloc, letters, seat.hand, told.kind, answer)?;
     let acts = acts_after(alloc, seat.acts, told)?;
     Ok(Seat {
         hand,
@@ -170,6 +187,7 @@ fn seat_after(alloc: Global, seat: Seat, told: Told, answer: &Value) -> Result<S
 /// What is in hand after a call.
 fn hand_after(
     alloc: Global,
+    letters: &mut Letters,
     old: Option<u128>,
     kind: Kind,
     answer: &Value,
@@ -177,21 +195,26 @@ fn hand_after(
     ensures { IfOk result (λ hand. hand ≡ hand_after plain_setting old kind answer.now) }
 {
     match kind {
-        Kind::Pops => popped(alloc, old, answer),
+        Kind::Pops => popped(alloc, letters, old, answer),
         Kind::Runs => Ok(None),
         Kind::Pushes | Kind::Begins | Kind::Others => Ok(old),
     }
 }
 
 /// What is in hand after BRPOP.
-fn popped(alloc: Global, old: Option<u128>, answer: &Value) -> Result<Option<u128>, AllocError>
+fn popped(
+    alloc: Global,
+    letters: &mut Letters,
+    old: Option<u128>,
+    answer: &Value,
+) -> Result<Option<u128>, AllocError>
     ensures { IfOk result (λ hand. hand ≡ hand_with plain_setting old (pair_of answer.now)) }
 {
     match pair(answer) {
         None => Ok(old),
         Some((key, element)) => {
             if is_queue(key) {
-                message_of(alloc, element)
+                message_of(alloc, letters, element)
             } else {
                 Ok(old)
             }

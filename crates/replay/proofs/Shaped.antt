@@ -1,5 +1,5 @@
 -- What a word spells, by its envelope, its entry and its tag.
-use Rattle.std.proofs.Common.{◌≡◌, ℕ, true, false, codes, Option, Some, None, option_map, Result, Ok, Err, refl}
+use Rattle.std.proofs.Common.{◌≡◌, ◌/◌, ◌%◌, ◌^◌, ℕ, Bool, true, false, codes, Option, Some, None, option_map, Result, Ok, Err, refl, sym}
 use Rattle.std.specs.Result.{result_ok}
 use Rattle.serde_json.specs.Data.{Data, null, boolean, number, string, array, object}
 use Rattle.envelope.specs.Entries.{Entry, entry_at, entry_in}
@@ -9,7 +9,14 @@ use Rattle.envelope.specs.declared.fault.EnvelopeFault.{EnvelopeFault}
 use Rattle.envelope.proofs.BodyTexts.{entry_is_read, envelope_from_read}
 use Rattle.envelope.proofs.Said.{said_is}
 use Rattle.envelope.proofs.Told.{told_by}
+use Rattle.envelope.specs.Marks.{is_marked}
+use Rattle.letters.specs.Letters.{entry_letter, entry_or_none, envelope_letter, letter_of}
+use Rattle.letters.specs.Letters as letters
+use Rattle.letters.specs.declared.letter.Letter.{Letter}
+use Rattle.letters.specs.declared.letter.Letter.TheVariants as letter
 use Rattle.line_text.specs.declared.short.Shape.{Shape}
+use Rattle.line_text.specs.declared.short.Shape.TheVariants.{Envelope}
+use Rattle.line_text.specs.declared.short.Shape.TheVariants as shapes
 use Rattle.place_model.specs.Names.{Bytes}
 use Rattle.schedule_model.specs.Shapes.{entry_or_tag, entry_shape, envelope_or, envelope_shape, shape_of, tag_shape}
 use Rattle.envelope.specs.Tags.{tag_of_text}
@@ -85,3 +92,37 @@ from_entry (Err f) t s e = cc
 pub past_entry : (r : Result Entry EnvelopeFault) (t : Option ℕ) → None ≡ option_map (λ e. entry_shape e.tree) (result_ok r) → tag_shape t ≡ entry_or_tag r t
 past_entry (Ok f) t e = cc
 past_entry (Err f) t e = refl
+
+-- ---- what is known of a text
+
+same_letter : (d : Data) (n : ℕ) (m : Bool) → ◌≡◌ {A = Option Letter} (Some (envelope_letter d)) (Some (letter.Envelope n m)) → ((parts_in d).tag ≡ n) × (is_marked d ≡ m)
+same_letter d n m e = (cc, cc)
+
+same_entry : (d : Data) (n : ℕ) (m : Bool) → ◌≡◌ {A = Option Letter} (Some (entry_letter d)) (Some (letter.Entry n m)) → ((parts_in d).tag ≡ n) × (is_marked d ≡ m)
+same_entry d n m e = (cc, cc)
+
+-- an envelope's letter tells its shape
+pub letter_envelope : (b : Bytes) (n : ℕ) (m : Bool) → letter_of b ≡ Some (letter.Envelope n m) → Envelope (n / 2 ^ 64) (n % 2 ^ 64) m ≡ shape_of b
+unfolding letter_of shape_of
+letter_envelope b n m h = go (envelope_at b) h
+  where
+    by_entry : (r : Result Entry EnvelopeFault) → entry_or_none r ≡ Some (letter.Envelope n m) → ⊥
+    by_entry (Ok x) i = cc
+    by_entry (Err f) i = cc
+
+    go : (r : Result Data EnvelopeFault) → letters.envelope_or r (entry_or_none (entry_at b)) ≡ Some (letter.Envelope n m) → Envelope (n / 2 ^ 64) (n % 2 ^ 64) m ≡ envelope_or r (entry_or_tag (entry_at b) (tag_of_text b))
+    go (Ok d) i = let s = same_letter d n m i in λ j. Envelope (sym s.0 j / 2 ^ 64) (sym s.0 j % 2 ^ 64) (sym s.1 j)
+    go (Err f) i = absurd (by_entry (entry_at b) i)
+
+-- and an entry's tells its own
+pub letter_entry : (b : Bytes) (n : ℕ) (m : Bool) → letter_of b ≡ Some (letter.Entry n m) → shapes.Entry (n / 2 ^ 64) (n % 2 ^ 64) m ≡ shape_of b
+unfolding letter_of shape_of
+letter_entry b n m h = go (envelope_at b) h
+  where
+    by_entry : (r : Result Entry EnvelopeFault) → entry_or_none r ≡ Some (letter.Entry n m) → shapes.Entry (n / 2 ^ 64) (n % 2 ^ 64) m ≡ entry_or_tag r (tag_of_text b)
+    by_entry (Ok x) i = let s = same_entry x.tree n m i in λ j. shapes.Entry (sym s.0 j / 2 ^ 64) (sym s.0 j % 2 ^ 64) (sym s.1 j)
+    by_entry (Err f) i = cc
+
+    go : (r : Result Data EnvelopeFault) → letters.envelope_or r (entry_or_none (entry_at b)) ≡ Some (letter.Entry n m) → shapes.Entry (n / 2 ^ 64) (n % 2 ^ 64) m ≡ envelope_or r (entry_or_tag (entry_at b) (tag_of_text b))
+    go (Ok d) i = cc
+    go (Err f) i = by_entry (entry_at b) i

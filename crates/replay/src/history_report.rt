@@ -1,12 +1,15 @@
 //! The report of a history.
 ghost use Rattle.std.specs.Prelude.{◌≡◌, IfOk};
+ghost use Rattle.place_model.specs.Histories.{after};
 ghost use Rattle.place_model.specs.Shown.{history_of};
 ghost use Rattle.schedule_model.specs.Programs.{program_legend};
 ghost use Rattle.schedule_model.specs.Reports.{report_text};
 
-use crate::legend::Celery;
+use crate::legend::Lettered;
 use crate::report_lines::report_of;
-use place_model::{History, places};
+use letters::Letters;
+use mini_store::Store;
+use place_model::{History, places_beside, store_after};
 use resp_wire::Bytes;
 use std::alloc::{AllocError, Global};
 
@@ -14,6 +17,25 @@ use std::alloc::{AllocError, Global};
 pub fn report(alloc: Global, history: &History) -> Result<Bytes, AllocError>
     ensures { IfOk result (λ text. text ≡ report_text program_legend (history_of history.now)) }
 {
-    let tags = places(alloc, history)?;
-    report_of(alloc, &Celery, history.entries(), tags.as_slice())
+    let store = store_after(alloc, history)?;
+    report_beside(alloc, Letters::new(alloc), history, store)
+}
+
+/// The same, beside what is known of texts, and the store that the history leaves.
+pub fn report_beside(
+    alloc: Global,
+    mut letters: Letters,
+    history: &History,
+    store: Store,
+) -> Result<Bytes, AllocError>
+    requires { store.state ≡ (after (history_of history.now)).store }
+    ensures { IfOk result (λ text. text ≡ report_text program_legend (history_of history.now)) }
+{
+    let tags = places_beside(alloc, &mut letters, history, store)?;
+    report_of(
+        alloc,
+        &Lettered::new(&letters),
+        history.entries(),
+        tags.as_slice(),
+    )
 }

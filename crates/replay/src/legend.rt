@@ -1,14 +1,17 @@
 //! The words that a report shows by what they spell: envelopes, entries of the unacked table, and tags.
-ghost use Rattle.std.specs.Prelude.{◌≡◌, IfOk, option_map};
+ghost use Rattle.std.specs.Prelude.{◌≡◌, IfOk, Some, option_map};
 ghost use Rattle.std.specs.Result.{result_ok};
 ghost use Rattle.serde_json.specs.View.{view as data_of};
 ghost use Rattle.envelope.specs.Entries.{entry_at};
 ghost use Rattle.envelope.specs.Envelopes.{envelope_at};
 ghost use Rattle.envelope.specs.Tags.{tag_of_text};
+ghost use Rattle.letters.specs.Letters.{letter_of};
+ghost use Rattle.place_model.specs.Names.{Bytes as Text};
 ghost use Rattle.schedule_model.specs.Shapes.{entry_or_tag, entry_shape, envelope_shape, shape_of, tag_shape};
 ghost use Rattle.replay.specs.Openings.{is_blank, may_open};
 
 use envelope::{Envelope, EnvelopeFault, Tag, read, read_entry};
+use letters::{Letter, Letters};
 use line_text::{Legend, Shape};
 use std::alloc::{AllocError, Global};
 
@@ -23,6 +26,65 @@ impl Legend for Celery {
 
     fn shape(&self, alloc: Global, bytes: &[u8]) -> Result<Shape, AllocError> {
         shape_of(alloc, bytes)
+    }
+}
+
+/// The same, beside texts that are known: these aren't read.
+#[derive(Clone, Copy, Drop)]
+pub struct Lettered<'a> {
+    letters: &'a Letters,
+}
+
+impl<'a> Lettered<'a> {
+    /// Beside these texts.
+    pub fn new(letters: &'a Letters) -> Lettered<'a> {
+        Lettered { letters }
+    }
+}
+
+impl Legend for Lettered<'_> {
+    ghost use Rattle.schedule_model.specs.Shapes.{shape_of as spelled};
+
+    ghost shape = { λ _. spelled };
+
+    fn shape(&self, alloc: Global, bytes: &[u8]) -> Result<Shape, AllocError> {
+        shape_beside(alloc, self.letters, bytes)
+    }
+}
+
+/// What the bytes spell, beside texts that are known.
+fn shape_beside(alloc: Global, letters: &Letters, bytes: &[u8]) -> Result<Shape, AllocError>
+    ensures { IfOk result (λ shape. shape ≡ shape_of bytes.now) }
+{
+    if may_open(true, bytes) || may_open(false, bytes) {
+        if let Some(letter) = letters.known(alloc, bytes)? {
+            return Ok(letter_shape(letter));
+        }
+    }
+    shape_of(alloc, bytes)
+}
+
+/// The shape of what a known text spells.
+fn letter_shape(letter: Letter) -> Shape
+    ensures { (b : Text) → letter_of b ≡ Some letter → result ≡ shape_of b }
+{
+    match letter {
+        Letter::Envelope { number, marked } => {
+            let tag = Tag(number);
+            Shape::Envelope {
+                seed: tag.seed(),
+                counter: tag.counter(),
+                marked,
+            }
+        }
+        Letter::Entry { number, marked } => {
+            let tag = Tag(number);
+            Shape::Entry {
+                seed: tag.seed(),
+                counter: tag.counter(),
+                marked,
+            }
+        }
     }
 }
 

@@ -8,8 +8,8 @@ mod note_text;
 mod place_text;
 mod report_lines;
 
-pub use history_report::report;
-pub use legend::Celery;
+pub use history_report::{report, report_beside};
+pub use legend::{Celery, Lettered};
 pub use report_lines::report_of;
 pub use schedule_world::{LineFault, RunFault, World, run_schedule};
 

@@ -10,15 +10,11 @@ use Rattle.envelope.proofs.MarkedSaid.{said_marked, is_marked-marked, priority-m
 use Rattle.envelope.proofs.Said.{said_is}
 use Rattle.envelope.proofs.marks.redelivered.Goals as goal
 
-pub invariant_of-result : goal.invariant_of-result
-invariant_of-result c =
+pub whole-requires-said : goal.whole-requires-said
+whole-requires-said c =
     let d = view c.e.inside.tree in
     let p = parts_view c.e.inside.found in
-    let none : has_float (view c.in_ok-tree.tree) ≡ false = ap has_float c.in_ok-tree.ensures ∙ float-marked d (said_is d p c.e.invariant.said).plain.whole in
-    record {
-      said = ap said_by c.in_ok-tree.ensures ∙ said_marked d p c.e.invariant.said ∙ ap (λ q. Ok q) (sym c.in_ok-found.ensures);
-      sized = c.in_ok-size.ensures none;
-    }
+    ap said_by c.in_ok-tree.ensures ∙ said_marked d p c.e.invariant.said ∙ ap (λ q. Ok q) (sym c.in_ok-found.ensures)
 
 pub returns-clause-is_marked : goal.returns-clause-is_marked
 returns-clause-is_marked c =

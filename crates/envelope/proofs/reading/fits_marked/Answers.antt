@@ -22,4 +22,4 @@ returns-then-size c = λ whole sized. stays_short (data_of c.args.tree.now) c.ar
 pub returns : goal.returns
 returns c = λ whole sized.
     let none : has_float (data_of c.in_ok-copy.copy) ≡ false = ap has_float c.in_ok-copy.ensures ∙ float-marked (data_of c.args.tree.now) whole in
-    ap (λ (n : ℕ). nat_le n 1000000) (c.in_ok-size_of.ensures none ∙ ap (λ (d : Data). length (compact_text d)) c.in_ok-copy.ensures)
+    ap (λ (n : ℕ). nat_le n 1000000) (c.len.ensures ∙ ap length (c.in_ok-text.ensures.text none) ∙ ap (λ (d : Data). length (compact_text d)) c.in_ok-copy.ensures)

@@ -5,7 +5,7 @@ use Rattle.place_model.specs.Placed.{all_placed}
 use Rattle.place_model.specs.Shown.{history_of}
 use Rattle.schedule_model.specs.Programs.{program_legend}
 use Rattle.schedule_model.specs.Reports.{report_text}
-use Rattle.replay.proofs.history_report.report.Goals as goal
+use Rattle.replay.proofs.history_report.report_beside.Goals as goal
 
 pub returns : goal.returns
 returns c =

@@ -6,7 +6,7 @@ use Rattle.place_model.specs.Placed.{all_placed}
 use Rattle.place_model.specs.Shown.{history_of}
 use Rattle.place_model.specs.Tallies.{first_numbers}
 use Rattle.place_model.proofs.Acceptance.{places_known}
-use Rattle.place_model.proofs.placing.places.Goals as goal
+use Rattle.place_model.proofs.placing.places_beside.Goals as goal
 
 pub returns : goal.returns
 returns c =
