@@ -4,7 +4,7 @@ use Rattle.std.specs.Prelude.{OnErr, OnOk}
 use Rattle.std.specs.Ordering.{eq_by_cmp}
 use Rattle.std.specs.FinMap.{FinMap, empty, get, get-empty, get-insert, insert}
 use Rattle.std.proofs.Math.Logic.{∥∥₁_elim}
-use Rattle.resp_wire.specs.Order.{bytes_cmp}
+use Rattle.wire_values.specs.Order.{bytes_cmp}
 use Rattle.store_tables.proofs.Lookups.{tied_same}
 use Rattle.store_tables.proofs.Maps.{bytes_total, bytes_anti}
 use Rattle.letters.specs.Letters.{AreRight, letter_of}

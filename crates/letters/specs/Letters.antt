@@ -2,7 +2,7 @@
 use Rattle.std.specs.Prelude.{◌≡◌, ℕ, List, Option, None, Some, Result, Ok, Err}
 use Rattle.std.specs.FinMap.{FinMap, get}
 use Rattle.serde_json.specs.Data.{Data}
-use Rattle.resp_wire.specs.Order.{bytes_cmp}
+use Rattle.wire_values.specs.Order.{bytes_cmp}
 use Rattle.envelope.specs.Entries.{Entry, entry_at}
 use Rattle.envelope.specs.Envelopes.{envelope_at, parts_in}
 use Rattle.envelope.specs.Marks.{is_marked}

@@ -3,7 +3,7 @@ ghost use Rattle.letters.specs.Letters.{AreRight};
 
 use crate::Letter;
 use envelope::{Envelope, write_entry};
-use resp_wire::Bytes;
+use wire_values::Bytes;
 use std::alloc::{AllocError, Global};
 use store_tables::Table;
 

@@ -17,7 +17,7 @@ use Rattle.letters.specs.declared.letter.Letter.TheVariants as letter
 use Rattle.line_text.specs.declared.short.Shape.{Shape}
 use Rattle.line_text.specs.declared.short.Shape.TheVariants.{Envelope}
 use Rattle.line_text.specs.declared.short.Shape.TheVariants as shapes
-use Rattle.place_model.specs.Names.{Bytes}
+use Rattle.queue_keys.specs.Names.{Bytes}
 use Rattle.schedule_model.specs.Shapes.{entry_or_tag, entry_shape, envelope_or, envelope_shape, shape_of, tag_shape}
 use Rattle.envelope.specs.Tags.{tag_of_text}
 use Rattle.replay.specs.Openings.{may_open}

@@ -10,7 +10,7 @@ use crate::report_lines::report_of;
 use letters::Letters;
 use mini_store::Store;
 use place_model::{History, places_beside, store_after};
-use resp_wire::Bytes;
+use wire_values::Bytes;
 use std::alloc::{AllocError, Global};
 
 /// The report of a history: its entries, where its messages are, and how many there are in each place.

@@ -1,9 +1,0 @@
-use Rattle.std.proofs.Common.{rules}
-use Rattle.place_model.proofs.Messages.{entry_tells, letter_tells}
-use Rattle.place_model.proofs.told.number_in.Goals as goal
-
-pub returns-in-Envelope : goal.returns-in-Envelope
-returns-in-Envelope c = ?
-
-pub returns-in-Entry : goal.returns-in-Entry
-returns-in-Entry c = ?
