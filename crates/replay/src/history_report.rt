@@ -6,9 +6,10 @@ ghost use Rattle.schedule_model.specs.Reports.{report_text};
 
 use crate::legend::Celery;
 use crate::report_lines::report_of;
-use place_model::{History, places};
-use resp_wire::Bytes;
+use place_index::places;
+use place_model::History;
 use std::alloc::{AllocError, Global};
+use wire_values::Bytes;
 
 /// The report of a history: its entries, where its messages are, and how many there are in each place.
 pub fn report(alloc: Global, history: &History) -> Result<Bytes, AllocError>

@@ -3,13 +3,13 @@ ghost use Rattle.std.specs.Prelude.{◌≡◌, ◌<◌, ◌^◌, IfOk, OnOk, OnE
 ghost use Rattle.std.specs.Option.{option_copied};
 ghost use Rattle.std.specs.BTreeMap.{IsOrdered};
 ghost use Rattle.std.specs.FinMap as map;
-ghost use Rattle.resp_wire.specs.Order.{bytes_cmp};
+ghost use Rattle.wire_values.specs.Order.{bytes_cmp};
 
 use crate::Deque;
-use resp_wire::Bytes;
 use std::alloc::{AllocError, Global};
 use std::collections::BTreeMap;
 use std::marker::Model;
+use wire_values::Bytes;
 
 /// A table from byte strings to values, seen by contracts as a finite map in byte order.
 #[derive(Debug, Drop)]
@@ -20,7 +20,7 @@ pub struct Table<V> {
 impl<V> Model for Table<V> {
     ghost use Rattle.std.specs.Coded.{coded_list, coded_ℕ};
     ghost use Rattle.std.specs.FinMap as map;
-    ghost use Rattle.resp_wire.specs.Order.{bytes_cmp};
+    ghost use Rattle.wire_values.specs.Order.{bytes_cmp};
 
     ghost Value = { map.FinMap bytes_cmp V };
 

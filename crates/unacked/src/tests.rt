@@ -3,14 +3,17 @@
 //! The texts stand behind functions without clauses, so that no proof has to read them.
 use crate::words::three_words;
 use crate::{EndCore, PopCore};
+use command_blocks::answer::is_status;
+use command_blocks::{BlockEnd, CoreFault};
 use envelope::Tag;
-use mini_store::{Reply, Store, is_within_limits};
-use place_model::answer::is_status;
-use place_model::{BlockEnd, CoreFault, QueueName};
-use resp_wire::{Bytes, List, Value, Values, Words};
+use mini_store::Store;
+use queue_keys::QueueName;
 use std::alloc::{AllocError, Global};
 use std::process::Abort;
 use std::test::Fail;
+use store_model::Reply;
+use store_words::is_within_limits;
+use wire_values::{Bytes, List, Value, Values, Words};
 
 /// A message of `tasks.add` as Celery 5 writes it by Kombu's Redis transport.
 fn message() -> &'static str {
