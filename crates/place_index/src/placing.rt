@@ -14,10 +14,10 @@ ghost use Rattle.place_model.specs.declared.heard.Heard.{Heard};
 use crate::index::Index;
 use crate::stored::store_after;
 use crate::tagged::first_numbers;
-use place_model::{History, Place};
 use envelope::Tag;
 use letters::Letters;
 use mini_store::Store;
+use place_model::{History, Place};
 use std::alloc::{AllocError, Global};
 
 /// The place of a tag after a history.

@@ -7,16 +7,15 @@ ghost use Rattle.letters.specs.Letters.{letter_of};
 ghost use Rattle.queue_keys.specs.Names.{Bytes as Text};
 ghost use Rattle.command_blocks.specs.Setting.{is_queue};
 
-use queue_keys::split_key;
-use queue_keys::are_same;
 use crate::seat::{Act, Kind};
 use envelope::{EnvelopeFault, Tag};
 use letters::{Letter, Letters};
+use queue_keys::{are_same, split_key};
+use std::alloc::{AllocError, Global};
 use store_model::Command;
+use store_tables::Deque;
 use store_words::command_of;
 use wire_values::{Bytes, Words};
-use std::alloc::{AllocError, Global};
-use store_tables::Deque;
 
 /// What a command tells.
 #[derive(Clone, Copy, Debug)]

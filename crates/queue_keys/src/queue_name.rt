@@ -3,9 +3,9 @@ ghost use Rattle.std.specs.Prelude.{◌≡◌, true, IfOk, IfErr, None, is_none,
 ghost use Rattle.queue_keys.specs.Names.{has_end, has_front, index_name, is_free, is_name, is_reserved, mutex_name, same, unacked_name};
 ghost use Rattle.queue_keys.specs.NameFaults.{name_fault, told};
 
-use wire_values::Bytes;
 use std::alloc::{AllocError, Global};
 use std::marker::Model;
+use wire_values::Bytes;
 
 /// The first reason why a text is no queue's name, or want of memory.
 #[derive(Clone, Copy, Debug, PartialEq, Eq)]
@@ -144,7 +144,7 @@ fn is_table(name: &[u8]) -> bool
 
 /// Whether two texts are the same.
 #[tactic(auto, unfolding(crate::specs::Names::same))]
-pub(crate) fn are_same(one: &[u8], other: &[u8]) -> bool
+pub fn are_same(one: &[u8], other: &[u8]) -> bool
     ensures { result ≡ same one.now other.now }
 {
     one == other

@@ -9,9 +9,10 @@ use crate::legend::Lettered;
 use crate::report_lines::report_of;
 use letters::Letters;
 use mini_store::Store;
-use place_model::{History, places_beside, store_after};
-use wire_values::Bytes;
+use place_index::{places_beside, store_after};
+use place_model::History;
 use std::alloc::{AllocError, Global};
+use wire_values::Bytes;
 
 /// The report of a history: its entries, where its messages are, and how many there are in each place.
 pub fn report(alloc: Global, history: &History) -> Result<Bytes, AllocError>

@@ -11,13 +11,13 @@ ghost use Rattle.serde_json.specs.Data.{Data};
 ghost use Rattle.serde_json.specs.View.{view as data_of};
 ghost use Rattle.serde_json.specs.Written.{compact_text};
 
-use envelope::{Envelope, write};
-use store_model::Reply;
 use command_blocks::answer::integer;
 use command_blocks::{BlockEnd, CoreFault};
+use envelope::{Envelope, write};
 use queue_keys::{QueueName, queue_key, step_of};
-use wire_values::{Bytes, Words};
 use std::alloc::{AllocError, Global};
+use store_model::Reply;
+use wire_values::{Bytes, Words};
 
 /// The publication of a message that goes to its queue directly, by the empty exchange.
 ///

@@ -2,15 +2,15 @@
 //!
 //! The texts stand behind functions without clauses, so that no proof has to read them.
 use crate::PublishCore;
-use envelope::{EnvelopeFault, Tag, read, write};
-use mini_store::Store;
-use store_model::Reply;
 use command_blocks::answer::{integer, is_status};
 use command_blocks::{BlockEnd, CoreFault};
+use envelope::{EnvelopeFault, Tag, read, write};
+use mini_store::Store;
 use queue_keys::is_name;
-use wire_values::{Bytes, Value, Values, Words};
 use std::alloc::{AllocError, Global};
 use std::test::Fail;
+use store_model::Reply;
+use wire_values::{Bytes, Value, Values, Words};
 
 /// A message of `tasks.add` as Celery 5 writes it by Kombu's Redis transport, of priority 9.
 fn message() -> &'static str {

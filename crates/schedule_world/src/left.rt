@@ -5,14 +5,14 @@ ghost use Rattle.command_blocks.specs.Cores.{HasTaken};
 ghost use Rattle.command_blocks.specs.Scripts.{Script};
 ghost use Rattle.schedule_world.specs.Lefts.{HasGone, IsAtMost, core_left};
 
-use envelope::{Envelope, Tag};
-use store_model::Reply;
 use command_blocks::CoreFault;
+use envelope::{Envelope, Tag};
 use queue_keys::QueueName;
-use wire_values::{List, Words};
 use routes::PublishCore;
 use std::alloc::{AllocError, Global};
+use store_model::Reply;
 use unacked::{EndCore, PopCore};
+use wire_values::{List, Words};
 
 /// Which commands are left: none, none since an answer wasn't listed, or those of a core.
 #[derive(Debug, Drop)]

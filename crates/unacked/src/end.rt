@@ -14,11 +14,11 @@ ghost use Rattle.unacked.specs.declared.step.Step.TheVariants.{Begin};
 
 use crate::step::{Progress, Step};
 use crate::words::{one_word, three_words};
-use envelope::Tag;
-use store_model::Reply;
 use command_blocks::{BlockEnd, CoreFault};
-use wire_values::Words;
+use envelope::Tag;
 use std::alloc::{AllocError, Global};
+use store_model::Reply;
+use wire_values::Words;
 
 /// The acknowledgement of a message by its tag, one transaction on the table and its index.
 ///

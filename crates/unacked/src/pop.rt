@@ -15,14 +15,14 @@ ghost use Rattle.unacked.specs.Steps.{steps_left};
 use crate::queues::Queues;
 use crate::step::{Progress, Step};
 use crate::words::{decimal_text, four_words, one_word};
-use envelope::{Envelope, EnvelopeFault, read, write_entry};
-use store_model::Reply;
 use command_blocks::answer::{is_null_array, pair};
 use command_blocks::{BlockEnd, CoreFault};
+use envelope::{Envelope, EnvelopeFault, read, write_entry};
 use queue_keys::{QueueName, pop_keys};
-use wire_values::{Bytes, List, Value, Words};
 use std::alloc::{AllocError, Global};
 use std::mem;
+use store_model::Reply;
+use wire_values::{Bytes, List, Value, Words};
 
 /// A pop of some queues, which BRPOP begins; a message that it gives goes into the table and its index by one
 /// transaction.

@@ -3,17 +3,17 @@
 //! The texts stand behind functions without clauses, so that no proof has to read them.
 use crate::words::three_words;
 use crate::{EndCore, PopCore};
-use envelope::Tag;
-use mini_store::Store;
-use store_model::Reply;
-use store_words::is_within_limits;
 use command_blocks::answer::is_status;
 use command_blocks::{BlockEnd, CoreFault};
+use envelope::Tag;
+use mini_store::Store;
 use queue_keys::QueueName;
-use wire_values::{Bytes, List, Value, Values, Words};
 use std::alloc::{AllocError, Global};
 use std::process::Abort;
 use std::test::Fail;
+use store_model::Reply;
+use store_words::is_within_limits;
+use wire_values::{Bytes, List, Value, Values, Words};
 
 /// A message of `tasks.add` as Celery 5 writes it by Kombu's Redis transport.
 fn message() -> &'static str {
