@@ -75,6 +75,7 @@ client_mannered σ d h decide c s among =
 pub desk_sound : (σ : Setting) (d : Desk) → Holds σ d → DecidesFronts σ → IsSoundDesk σ d
 desk_sound σ d h decide = record {
   history = record { start = empty_start σ; table = h.table; legal = h.legal; mannered = client_mannered σ d h decide };
+  store = h.store;
   moments = h.rises;
   present = h.present;
 }

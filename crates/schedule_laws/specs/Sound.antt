@@ -3,6 +3,7 @@ use Rattle.std.specs.Prelude.{◌≡◌, ℕ, ◌^◌, ◌<◌, ◌≤◌, true,
 use Rattle.queue_keys.specs.Names.{Bytes, is_name}
 use Rattle.queue_keys.specs.Layouts.{Layout, is_layout}
 use Rattle.command_blocks.specs.Setting.{Setting, Texts, IsTexts, IsLawful, if_named, setting_of}
+use Rattle.place_model.specs.Histories.{after}
 use Rattle.place_model.specs.Starts.{IsSound}
 use Rattle.place_model.specs.declared.history.Entry.{Entry}
 use Rattle.place_model.specs.declared.history.Entry.TheVariants.{Call as Called, Heard, Stop}
@@ -34,9 +35,10 @@ RisesTo m (Called c at words reply ∷ es) n = (m ≤ at) × RisesTo at es n
 RisesTo m (Heard c note ∷ es) n = RisesTo m es n
 RisesTo m (Stop c ∷ es) n = RisesTo m es n
 
--- the history of a desk is sound, and its moments never fall, up to a present one below 2^40
+-- the history of a desk is sound and leaves the desk's store, and its moments never fall, up to a present one below 2^40
 pub record IsSoundDesk (σ : Setting) (d : Desk) : Type 0 where
   pub history : IsSound σ (history_of d)
+  pub store : (after (history_of d)).store ≡ d.store
   pub moments : RisesTo 0 d.entries d.moment
   pub present : d.moment < 2 ^ 40
 
