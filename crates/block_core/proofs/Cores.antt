@@ -1,17 +1,17 @@
 -- A core's trace goes on with each reply.
 use Rattle.std.proofs.Common.{◌≡◌, ℕ, ◌<◌, ◌^◌, List, [], ◌∷◌, ◌++◌, Bool, true, false, Some, None, Ok, Err, refl, Result, sym, subst, ap, ◌∙◌}
 use Rattle.std.specs.Prelude.{⊤}
-use Rattle.resp_wire.specs.declared.value.Value.{Value}
-use Rattle.mini_store.specs.Words.{Words}
-use Rattle.mini_store.specs.declared.reply.Reply.{Reply}
-use Rattle.place_model.specs.Calls.{Call, call}
-use Rattle.place_model.specs.Cores.{IsAnswered, is_saying}
-use Rattle.place_model.specs.EnvelopeTexts.{plain_setting, texts}
-use Rattle.place_model.specs.Layouts.{plain}
-use Rattle.place_model.specs.Scripts.{Plan, Script, Over, Off, next_words, rest_of, script_of}
-use Rattle.place_model.specs.Setting.{IsLawful}
-use Rattle.place_model.proofs.EnvelopeFacts.{envelopes_serve}
-use Rattle.place_model.proofs.Settings.{lawful_setting}
+use Rattle.wire_values.specs.declared.value.Value.{Value}
+use Rattle.store_model.specs.Words.{Words}
+use Rattle.store_model.specs.declared.reply.Reply.{Reply}
+use Rattle.command_blocks.specs.Calls.{Call, call}
+use Rattle.command_blocks.specs.Cores.{IsAnswered, is_saying}
+use Rattle.command_blocks.specs.EnvelopeTexts.{plain_setting, texts}
+use Rattle.queue_keys.specs.Layouts.{plain}
+use Rattle.command_blocks.specs.Scripts.{Plan, Script, Over, Off, next_words, rest_of, script_of}
+use Rattle.command_blocks.specs.Setting.{IsLawful}
+use Rattle.key_laws.proofs.EnvelopeFacts.{envelopes_serve}
+use Rattle.key_laws.proofs.Settings.{lawful_setting}
 use Rattle.block_laws.specs.Rows.{IsLawfulPlan, IsPlanBlock}
 use Rattle.block_laws.specs.Traces.{IsTrace}
 use Rattle.block_laws.proofs.Said.{plan_off}

@@ -1,10 +1,10 @@
 -- A core of a block: what is left of it, its end, and the calls that it had so far.
 use Rattle.std.specs.Prelude.{◌≡◌, ℕ, ⊤, Bool, true, false, List, [], ◌∷◌, ◌++◌, Option, None, Some, IsSome, Result, Ok, Err}
-use Rattle.mini_store.specs.declared.reply.Reply.{Reply}
-use Rattle.place_model.specs.Calls.{Call}
-use Rattle.place_model.specs.Cores.{IsAnswered}
-use Rattle.place_model.specs.EnvelopeTexts.{plain_setting}
-use Rattle.place_model.specs.Scripts.{Plan, Script, Over, Off, script_of}
+use Rattle.store_model.specs.declared.reply.Reply.{Reply}
+use Rattle.command_blocks.specs.Calls.{Call}
+use Rattle.command_blocks.specs.Cores.{IsAnswered}
+use Rattle.command_blocks.specs.EnvelopeTexts.{plain_setting}
+use Rattle.command_blocks.specs.Scripts.{Plan, Script, Over, Off, script_of}
 use Rattle.block_laws.specs.Rows.{IsLawfulPlan, IsPlanBlock}
 use Rattle.block_laws.specs.Traces.{IsTrace, IsFrontOf}
 use Rattle.block_core.specs.declared.core.BlockCore.{BlockCore}

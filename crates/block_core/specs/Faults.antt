@@ -1,6 +1,6 @@
 -- The fault of a core, as one of any block.
-use Rattle.place_model.specs.declared.block.CoreFault.{CoreFault}
-use Rattle.place_model.specs.declared.block.CoreFault.TheVariants as any
+use Rattle.command_blocks.specs.declared.block.CoreFault.{CoreFault}
+use Rattle.command_blocks.specs.declared.block.CoreFault.TheVariants as any
 use Rattle.block_core.specs.declared.fault.ReplyFault.{ReplyFault}
 use Rattle.block_core.specs.declared.fault.ReplyFault.TheVariants.{Refused, Memory}
 

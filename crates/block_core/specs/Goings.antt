@@ -1,6 +1,6 @@
 -- The steps of taking a reply; these serve the proofs of a core alone.
 use Rattle.std.specs.Prelude.{◌≡◌, ⊤, Result, Ok, Err, Some}
-use Rattle.mini_store.specs.declared.reply.Reply.{Reply}
+use Rattle.store_model.specs.declared.reply.Reply.{Reply}
 use Rattle.block_core.specs.declared.core.BlockCore.{BlockCore}
 use Rattle.block_core.specs.declared.core.State.TheVariants as state
 use Rattle.block_core.specs.declared.fault.ReplyFault.{ReplyFault}

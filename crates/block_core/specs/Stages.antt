@@ -1,7 +1,7 @@
 -- What an answer brings to a stage of a block.
 use Rattle.std.specs.Prelude.{List}
-use Rattle.place_model.specs.Calls.{Call}
-use Rattle.place_model.specs.Scripts.{Script, Over, Off}
+use Rattle.command_blocks.specs.Calls.{Call}
+use Rattle.command_blocks.specs.Scripts.{Script, Over, Off}
 use Rattle.block_core.specs.declared.stage.Progress.{Progress}
 use Rattle.block_core.specs.declared.stage.Progress.TheVariants as progress
 

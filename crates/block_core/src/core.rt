@@ -1,10 +1,10 @@
 //! A block, said command by command.
 ghost use Rattle.std.specs.Prelude.{List as Listed, ◌≡◌, [], ◌∷◌, ◌++◌, ◌<◌, ◌^◌, ℕ, true, false, IfOk, IfSome, IsSome, Some, None, alloc_error};
-ghost use Rattle.mini_store.specs.Words.{IsWithinLimits, Words as Said};
-ghost use Rattle.place_model.specs.Calls.{Call, call};
-ghost use Rattle.place_model.specs.Cores.{is_off, is_saying};
-ghost use Rattle.place_model.specs.EnvelopeTexts.{plain_setting};
-ghost use Rattle.place_model.specs.Scripts.{Plan, next_words, script_of};
+ghost use Rattle.store_model.specs.Words.{IsWithinLimits, Words as Said};
+ghost use Rattle.command_blocks.specs.Calls.{Call, call};
+ghost use Rattle.command_blocks.specs.Cores.{is_off, is_saying};
+ghost use Rattle.command_blocks.specs.EnvelopeTexts.{plain_setting};
+ghost use Rattle.command_blocks.specs.Scripts.{Plan, next_words, script_of};
 ghost use Rattle.block_laws.specs.Rows.{IsLawfulPlan, IsPlanBlock};
 ghost use Rattle.block_core.specs.Cores.{HasHad, HasHadOn, HasTaken, IsEnded, IsListed, IsWhole, core_end, core_left, is_spent};
 ghost use Rattle.block_core.specs.Goings.{HasGone, IsRefused, IsSpent};
@@ -12,8 +12,8 @@ ghost use Rattle.block_core.specs.declared.fault.ReplyFault.TheVariants.{Memory}
 
 use crate::fault::ReplyFault;
 use crate::stage::{Progress, Stage};
-use mini_store::Reply;
-use resp_wire::Words;
+use store_model::Reply;
+use wire_values::Words;
 use std::alloc::{AllocError, Global};
 use std::mem;
 

@@ -2,9 +2,9 @@
 ghost use Rattle.std.specs.Prelude.{◌≡◌, IfOk};
 ghost use Rattle.block_core.specs.declared.fault.ReplyFault.TheVariants.{Refused};
 
-use mini_store::Reply;
-use place_model::CoreFault;
-use resp_wire::copy_values;
+use store_model::Reply;
+use command_blocks::CoreFault;
+use wire_values::copy_values;
 use std::alloc::{AllocError, Global};
 
 /// Why a core took no reply.

@@ -1,12 +1,12 @@
 //! A stage of a block: its next command, and what the answer to it brings.
 ghost use Rattle.std.specs.Prelude.{List as Listed, ◌≡◌, ◌∷◌, [], ◌++◌, ℕ, true, IfOk, Some};
-ghost use Rattle.mini_store.specs.Words.{IsWithinLimits};
-ghost use Rattle.place_model.specs.Calls.{Call};
-ghost use Rattle.place_model.specs.Cores.{IsAnswered, is_saying};
-ghost use Rattle.place_model.specs.Scripts.{Plan, Script, next_words};
+ghost use Rattle.store_model.specs.Words.{IsWithinLimits};
+ghost use Rattle.command_blocks.specs.Calls.{Call};
+ghost use Rattle.command_blocks.specs.Cores.{IsAnswered, is_saying};
+ghost use Rattle.command_blocks.specs.Scripts.{Plan, Script, next_words};
 ghost use Rattle.block_core.specs.Stages.{TellsOn, progress_left};
 
-use resp_wire::{Value, Words};
+use wire_values::{Value, Words};
 use std::alloc::{AllocError, Global};
 
 /// What an answer brings to a block of stages `S` and ends `E`.

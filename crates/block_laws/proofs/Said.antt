@@ -1,25 +1,25 @@
 -- A whole block is said by its script, to its end.
 use Rattle.std.proofs.Common.{◌≡◌, ◌⊎◌, inl, inr, ℕ, ◌+◌, ◌<◌, zero, suc, List, [], ◌∷◌, ◌++◌, Option, None, Some, Bool, true, false, refl, ap, sym, subst, ◌∙◌, ℤ, codes, decimal, arith, if◌then◌else◌}
 use Rattle.std.specs.Prelude.{option_and_then}
-use Rattle.resp_wire.proofs.Layers.{layer-array}
-use Rattle.resp_wire.specs.Layer.{layer}
-use Rattle.resp_wire.specs.declared.value.Value.{Value}
-use Rattle.resp_wire.specs.declared.value.Value.TheVariants.{Status, Integer, Bulk, NullBulk, Array, NullArray}
-use Rattle.mini_store.specs.Words.{Words}
-use Rattle.mini_store.specs.Replies.{done, queued, bulks, pair}
-use Rattle.place_model.specs.Names.{Bytes, same}
-use Rattle.place_model.specs.Texts.{token}
-use Rattle.place_model.specs.Answers.{integers, number_of, items_of, bulk_of, pair_of}
-use Rattle.place_model.specs.Bindings.{member}
-use Rattle.place_model.specs.Setting.{Setting, IsLawful}
-use Rattle.place_model.specs.Calls.{Call, call, push_word}
-use Rattle.place_model.specs.RouteBlocks.{IsDeclareBlock, Told, direct_calls, direct_keys, IsPublishBlock, Plain, Named}
-use Rattle.place_model.specs.TakeBlocks.{IsPop, brpop_words, IsPopBlock, Empty, Unreadable, Popped, IsEndBlock, Acknowledged}
-use Rattle.place_model.specs.ReturnBlocks.{ReturnEnd, Contended, goes_on, queued_calls, queued_keys, reading, asking, leaving, taking, Carries, Try, whole_try, IsTry, IsTries, Missing, Useless, Nowhere, Whole, Eighth, Again}
-use Rattle.place_model.specs.PassBlocks.{PassEnd, IsReturns, All_returned, Returned, Returned_until, Ended_early, IsRelease, Own, Foreign, tags_among, lock_words, due_words, IsPassBlock, Is_held, Ran}
-use Rattle.place_model.specs.Scripts.{Script, Over, Off, Say, Plan, Declare, Undeclare, Publish, Pop, End, Return, Pass, script_of, plainly, if_told, on_status, on_done, on_queued, on_number, told_by, texts_of, on_texts, on_two, on_two_numbers, null_array_in, null_bulk_in, on_null_array, declare_script, pushes, asking_script, publish_script, keep_script, kept_by, on_popped, popping, pop_script, end_script, queued_script, on_ran, leave_script, take_script, carried_for, route_script, on_entry, try_script, tries_script, return_script, on_released, on_token, release_script, returns_script, on_locked, pass_script, rest_of, IsSaid}
-use Rattle.place_model.specs.declared.block.Side.{Side}
-use Rattle.place_model.specs.declared.block.Side.TheVariants.{Right}
+use Rattle.wire_values.proofs.Layers.{layer-array}
+use Rattle.wire_values.specs.Layer.{layer}
+use Rattle.wire_values.specs.declared.value.Value.{Value}
+use Rattle.wire_values.specs.declared.value.Value.TheVariants.{Status, Integer, Bulk, NullBulk, Array, NullArray}
+use Rattle.store_model.specs.Words.{Words}
+use Rattle.store_model.specs.Replies.{done, queued, bulks, pair}
+use Rattle.queue_keys.specs.Names.{Bytes, same}
+use Rattle.queue_keys.specs.Texts.{token}
+use Rattle.command_blocks.specs.Answers.{integers, number_of, items_of, bulk_of, pair_of}
+use Rattle.queue_keys.specs.Bindings.{member}
+use Rattle.command_blocks.specs.Setting.{Setting, IsLawful}
+use Rattle.command_blocks.specs.Calls.{Call, call, push_word}
+use Rattle.command_blocks.specs.RouteBlocks.{IsDeclareBlock, Told, direct_calls, direct_keys, IsPublishBlock, Plain, Named}
+use Rattle.command_blocks.specs.TakeBlocks.{IsPop, brpop_words, IsPopBlock, Empty, Unreadable, Popped, IsEndBlock, Acknowledged}
+use Rattle.command_blocks.specs.ReturnBlocks.{ReturnEnd, Contended, goes_on, queued_calls, queued_keys, reading, asking, leaving, taking, Carries, Try, whole_try, IsTry, IsTries, Missing, Useless, Nowhere, Whole, Eighth, Again}
+use Rattle.command_blocks.specs.PassBlocks.{PassEnd, IsReturns, All_returned, Returned, Returned_until, Ended_early, IsRelease, Own, Foreign, tags_among, lock_words, due_words, IsPassBlock, Is_held, Ran}
+use Rattle.command_blocks.specs.Scripts.{Script, Over, Off, Say, Plan, Declare, Undeclare, Publish, Pop, End, Return, Pass, script_of, plainly, if_told, on_status, on_done, on_queued, on_number, told_by, texts_of, on_texts, on_two, on_two_numbers, null_array_in, null_bulk_in, on_null_array, declare_script, pushes, asking_script, publish_script, keep_script, kept_by, on_popped, popping, pop_script, end_script, queued_script, on_ran, leave_script, take_script, carried_for, route_script, on_entry, try_script, tries_script, return_script, on_released, on_token, release_script, returns_script, on_locked, pass_script, rest_of, IsSaid}
+use Rattle.command_blocks.specs.declared.block.Side.{Side}
+use Rattle.command_blocks.specs.declared.block.Side.TheVariants.{Right}
 use Rattle.block_laws.specs.Rows.{IsPlanBlock}
 use Rattle.block_laws.proofs.Values.{eq_itself, eq_true, layer-Status, layer-NullBulk, layer-NullArray, layer-Bulk, number_of-Integer, items_of-Array, bulk_of-Bulk, texts_of-bulks, numbers_in-integers, pair_of-pair}
 use Rattle.block_laws.proofs.Good.{status_listed, number_listed, null_array_listed, null_bulk_listed}

@@ -3,25 +3,25 @@ use Rattle.std.proofs.Common.{◌≡◌, ◌≢◌, ◌⊎◌, inl, inr, ℕ, ze
 use Rattle.std.specs.Prelude.{◌||◌, ◌&&◌, is_some, bytes_eq, int_le}
 use Rattle.std.specs.Cmp.Lexicographic.{texts_ties}
 use Rattle.std.specs.FinMap.{FinMap, get, insert, remove, empty}
-use Rattle.resp_wire.specs.Order.{bytes_cmp}
-use Rattle.resp_wire.specs.declared.value.Value.{Value}
+use Rattle.wire_values.specs.Order.{bytes_cmp}
+use Rattle.wire_values.specs.declared.value.Value.{Value}
 use Rattle.store_tables.proofs.Lookups.{tied_itself, decided, get-insert_other, get-remove_other, get-remove_same}
 use Rattle.store_tables.proofs.Maps.{bytes_total, bytes_anti}
-use Rattle.mini_store.specs.Words.{Bytes, front}
-use Rattle.mini_store.specs.Replies.{number, full}
-use Rattle.mini_store.specs.Keys.{Keys, value_at, Outcome, out, after_taking, dropped, expire, is_long}
-use Rattle.mini_store.specs.Texts.{set_text, until}
-use Rattle.mini_store.specs.Lists.{lpush, rpush, rpop, shortened, brpop, brpop_at}
-use Rattle.mini_store.specs.Sets.{sadd, srem, after_adding}
-use Rattle.mini_store.specs.Hashes.{hset, hset_to, hdel}
-use Rattle.mini_store.specs.SortedSets.{zadd, zadd_to, zadd_over, zrem}
-use Rattle.mini_store.specs.Commands.{Around, run, both}
-use Rattle.mini_store.specs.Connections.{watches}
-use Rattle.mini_store.specs.declared.command.Command.{Command}
-use Rattle.mini_store.specs.declared.command.Command.TheVariants.{Set, Del, Expire, Lpush, Rpush, Rpop, Brpop, Sadd, Srem, Hset, Hdel, Zadd, Zrem}
-use Rattle.mini_store.specs.declared.held.Stored.{Stored}
-use Rattle.mini_store.specs.declared.held.Stored.TheVariants.{Items, Members, Hash, Scores}
-use Rattle.mini_store.specs.declared.held.Held.{Held}
+use Rattle.store_model.specs.Words.{Bytes, front}
+use Rattle.store_model.specs.Replies.{number, full}
+use Rattle.store_model.specs.Keys.{Keys, value_at, Outcome, out, after_taking, dropped, expire, is_long}
+use Rattle.store_model.specs.Texts.{set_text, until}
+use Rattle.store_model.specs.Lists.{lpush, rpush, rpop, shortened, brpop, brpop_at}
+use Rattle.store_model.specs.Sets.{sadd, srem, after_adding}
+use Rattle.store_model.specs.Hashes.{hset, hset_to, hdel}
+use Rattle.store_model.specs.SortedSets.{zadd, zadd_to, zadd_over, zrem}
+use Rattle.store_model.specs.Commands.{Around, run, both}
+use Rattle.store_model.specs.Connections.{watches}
+use Rattle.store_model.specs.declared.command.Command.{Command}
+use Rattle.store_model.specs.declared.command.Command.TheVariants.{Set, Del, Expire, Lpush, Rpush, Rpop, Brpop, Sadd, Srem, Hset, Hdel, Zadd, Zrem}
+use Rattle.store_model.specs.declared.held.Stored.{Stored}
+use Rattle.store_model.specs.declared.held.Stored.TheVariants.{Items, Members, Hash, Scores}
+use Rattle.store_model.specs.declared.held.Held.{Held}
 
 or_true : (a b : Bool) → b ≡ true → (a || b) ≡ true
 or_true true b e = refl

@@ -1,9 +1,9 @@
 //! Laws of what commands do.
-ghost use Rattle.mini_store.specs.Commands.{Around, run};
-ghost use Rattle.mini_store.specs.Connections.{watches};
-ghost use Rattle.mini_store.specs.Keys.{Keys};
-ghost use Rattle.mini_store.specs.Words.{Bytes};
-ghost use Rattle.mini_store.specs.declared.command.Command.{Command};
+ghost use Rattle.store_model.specs.Commands.{Around, run};
+ghost use Rattle.store_model.specs.Connections.{watches};
+ghost use Rattle.store_model.specs.Keys.{Keys};
+ghost use Rattle.store_model.specs.Words.{Bytes};
+ghost use Rattle.store_model.specs.declared.command.Command.{Command};
 ghost use Rattle.std.specs.FinMap.{get};
 ghost use Rattle.std.specs.Prelude.{◌≡◌, false};
 

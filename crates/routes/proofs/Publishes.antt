@@ -5,9 +5,9 @@ use Rattle.serde_json.specs.View.{view as data_of}
 use Rattle.serde_json.specs.Written.{compact_text}
 use Rattle.envelope.specs.Envelopes.{parts_in}
 use Rattle.envelope.specs.declared.tag.Tag.{Tag}
-use Rattle.place_model.specs.Calls.{Call}
-use Rattle.place_model.specs.EnvelopeTexts.{plain_setting}
-use Rattle.place_model.specs.Scripts.{Over, Plan, Declare, Undeclare, Publish, Pop, End, Return, Pass, if_told}
+use Rattle.command_blocks.specs.Calls.{Call}
+use Rattle.command_blocks.specs.EnvelopeTexts.{plain_setting}
+use Rattle.command_blocks.specs.Scripts.{Over, Plan, Declare, Undeclare, Publish, Pop, End, Return, Pass, if_told}
 use Rattle.block_core.specs.Stages.{TellsOn, progress_left}
 use Rattle.block_laws.specs.Rows.{IsPublication}
 use Rattle.routes.specs.Publishes.{GoesDirectly, PublishHad, TellsPublish, direct_key, pushed_by, stage_left}

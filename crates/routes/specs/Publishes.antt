@@ -5,11 +5,11 @@ use Rattle.serde_json.specs.View.{view as data_of}
 use Rattle.serde_json.specs.Written.{compact_text}
 use Rattle.envelope.specs.Envelopes.{envelope_at, parts_in, priority_of}
 use Rattle.envelope.specs.declared.tag.Tag.{Tag}
-use Rattle.place_model.specs.Calls.{Call}
-use Rattle.place_model.specs.Layouts.{plain, step_of}
-use Rattle.place_model.specs.Names.{Bytes, is_name}
-use Rattle.place_model.specs.QueueKeys.{queue_key}
-use Rattle.place_model.specs.Scripts.{Plan, Publish, Script, pushes}
+use Rattle.command_blocks.specs.Calls.{Call}
+use Rattle.queue_keys.specs.Layouts.{plain, step_of}
+use Rattle.queue_keys.specs.Names.{Bytes, is_name}
+use Rattle.queue_keys.specs.QueueKeys.{queue_key}
+use Rattle.command_blocks.specs.Scripts.{Plan, Publish, Script, pushes}
 use Rattle.block_core.specs.Cores.{HasHad, core_left}
 use Rattle.block_core.specs.declared.core.BlockCore.{BlockCore}
 use Rattle.block_core.specs.declared.stage.Progress.{Progress}

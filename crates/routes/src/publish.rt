@@ -1,9 +1,9 @@
 //! A publication: a message is pushed to the list of its queue.
 ghost use Rattle.std.specs.Prelude.{◌≡◌, ◌∷◌, [], ℕ, suc, codes, IfOk, Some, None};
-ghost use Rattle.mini_store.specs.Words.{IsWithinLimits};
-ghost use Rattle.place_model.specs.Answers.{number_of};
-ghost use Rattle.place_model.specs.EnvelopeTexts.{plain_setting};
-ghost use Rattle.place_model.specs.Scripts.{Publish, publish_script};
+ghost use Rattle.store_model.specs.Words.{IsWithinLimits};
+ghost use Rattle.command_blocks.specs.Answers.{number_of};
+ghost use Rattle.command_blocks.specs.EnvelopeTexts.{plain_setting};
+ghost use Rattle.command_blocks.specs.Scripts.{Publish, publish_script};
 ghost use Rattle.block_core.specs.Cores.{core_end};
 ghost use Rattle.block_laws.specs.Rows.{IsLawfulPlan};
 ghost use Rattle.routes.specs.Publishes.{GoesDirectly, HasPublishing, direct_key, publish_left, pushed_by};
@@ -12,9 +12,9 @@ ghost use Rattle.serde_json.specs.Written.{compact_text};
 
 use block_core::{BlockCore, Progress, Stage};
 use envelope::{Envelope, Tag, write};
-use place_model::answer::integer;
-use place_model::{QueueName, queue_key, step_of};
-use resp_wire::{Bytes, Value, Words};
+use command_blocks::answer::integer;
+use queue_keys::{QueueName, queue_key, step_of};
+use wire_values::{Bytes, Value, Words};
 use std::alloc::{AllocError, Global};
 
 /// The publication of a message that goes to its queue directly, by the empty exchange.

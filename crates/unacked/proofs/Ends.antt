@@ -2,13 +2,13 @@
 use Rattle.std.proofs.Common.{◌≡◌, ℕ, ◌<◌, ◌^◌, Bool, true, List, [], ◌∷◌, ◌++◌, Some, refl, ap, ◌∙◌, Result, Ok, Err}
 use Rattle.std.specs.declared.alloc.AllocError.{AllocError}
 use Rattle.std.specs.Prelude.{IfOk, is_some}
-use Rattle.resp_wire.specs.declared.value.Value.{Value}
-use Rattle.mini_store.specs.Words.{Words}
+use Rattle.wire_values.specs.declared.value.Value.{Value}
+use Rattle.store_model.specs.Words.{Words}
 use Rattle.envelope.specs.Tags.{tag_text}
 use Rattle.envelope.proofs.TagTexts.{tag_of_text-tag_text}
-use Rattle.place_model.specs.Calls.{Call}
-use Rattle.place_model.specs.EnvelopeTexts.{plain_setting}
-use Rattle.place_model.specs.Scripts.{Script, next_words}
+use Rattle.command_blocks.specs.Calls.{Call}
+use Rattle.command_blocks.specs.EnvelopeTexts.{plain_setting}
+use Rattle.command_blocks.specs.Scripts.{Script, next_words}
 use Rattle.unacked.specs.Ends.{TellsEnd}
 use Rattle.unacked.specs.Steps.{HasRun}
 use Rattle.unacked.specs.declared.step.Course.TheVariants.{Ran}

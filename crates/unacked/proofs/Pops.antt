@@ -2,17 +2,17 @@
 use Rattle.std.proofs.Common.{◌≡◌, ℕ, ◌*◌, ◌≤◌, List, [], ◌∷◌, ◌++◌, length, true, refl, sym, subst, ap, ◌∙◌, Result, Ok, Err, arith}
 use Rattle.std.specs.declared.alloc.AllocError.{AllocError}
 use Rattle.std.specs.Prelude.{IfOk}
-use Rattle.resp_wire.specs.declared.value.Value.{Value}
-use Rattle.mini_store.specs.Words.{Words}
-use Rattle.place_model.specs.Calls.{Call, call}
-use Rattle.place_model.specs.Cores.{IsAnswered}
-use Rattle.place_model.specs.EnvelopeTexts.{plain_setting}
-use Rattle.place_model.specs.Layouts.{plain}
-use Rattle.place_model.specs.Names.{Bytes, is_name}
-use Rattle.place_model.specs.QueueKeys.{Each, pop_keys}
-use Rattle.place_model.specs.Scripts.{after_call, on_popped, pop_script}
-use Rattle.place_model.specs.TakeBlocks.{IsPop}
-use Rattle.place_model.proofs.Lists.{length-pop_keys}
+use Rattle.wire_values.specs.declared.value.Value.{Value}
+use Rattle.store_model.specs.Words.{Words}
+use Rattle.command_blocks.specs.Calls.{Call, call}
+use Rattle.command_blocks.specs.Cores.{IsAnswered}
+use Rattle.command_blocks.specs.EnvelopeTexts.{plain_setting}
+use Rattle.queue_keys.specs.Layouts.{plain}
+use Rattle.queue_keys.specs.Names.{Bytes, is_name}
+use Rattle.queue_keys.specs.QueueKeys.{Each, pop_keys}
+use Rattle.command_blocks.specs.Scripts.{after_call, on_popped, pop_script}
+use Rattle.command_blocks.specs.TakeBlocks.{IsPop}
+use Rattle.key_laws.proofs.Lists.{length-pop_keys}
 use Rattle.block_core.specs.Stages.{TellsOn, progress_left}
 use Rattle.block_core.specs.declared.stage.Progress.{Progress}
 use Rattle.block_core.specs.declared.stage.Progress.TheVariants as found

@@ -1,13 +1,12 @@
 -- What is left of an acknowledgement, and what its end tells.
 use Rattle.std.specs.Prelude.{◌≡◌, ℕ, ℤ, true, refl, List, [], ◌∷◌, ◌++◌, codes, Some}
-use Rattle.mini_store.specs.Words.{Words}
+use Rattle.store_model.specs.Words.{Words}
 use Rattle.envelope.specs.Tags.{tag_text}
-use Rattle.place_model.specs.Answers.{integers}
-use Rattle.place_model.specs.Calls.{Call}
-use Rattle.place_model.specs.Cores.{is_saying}
-use Rattle.place_model.specs.EnvelopeTexts.{plain_setting}
-use Rattle.place_model.specs.Scripts.{End, Plan, Script}
-use Rattle.place_model.specs.Seen.{is_one}
+use Rattle.command_blocks.specs.Answers.{is_one, integers}
+use Rattle.command_blocks.specs.Calls.{Call}
+use Rattle.command_blocks.specs.Cores.{is_saying}
+use Rattle.command_blocks.specs.EnvelopeTexts.{plain_setting}
+use Rattle.command_blocks.specs.Scripts.{End, Plan, Script}
 use Rattle.block_core.specs.Cores.{HasHad, core_left}
 use Rattle.block_core.specs.declared.core.BlockCore.{BlockCore}
 use Rattle.unacked.specs.Steps.{steps_left}

@@ -3,19 +3,19 @@ use Rattle.std.specs.Prelude.{◌≡◌, ℕ, true, refl, List, [], ◌∷◌, c
 use Rattle.serde_json.specs.Data.{Data}
 use Rattle.serde_json.specs.View.{view as data_of}
 use Rattle.serde_json.specs.Written.{compact_text}
-use Rattle.resp_wire.specs.declared.value.Value.{Value}
-use Rattle.resp_wire.specs.declared.value.Value.TheVariants.{NullArray}
-use Rattle.mini_store.specs.Replies.{pair}
-use Rattle.mini_store.specs.Words.{Words}
+use Rattle.wire_values.specs.declared.value.Value.{Value}
+use Rattle.wire_values.specs.declared.value.Value.TheVariants.{NullArray}
+use Rattle.store_model.specs.Replies.{pair}
+use Rattle.store_model.specs.Words.{Words}
 use Rattle.envelope.specs.Bodies.{tag_of_bytes}
 use Rattle.envelope.specs.Entries.{entry_data, entry_for}
 use Rattle.envelope.specs.Envelopes.{envelope_at, parts_in}
 use Rattle.envelope.specs.Tags.{tag_text}
-use Rattle.place_model.specs.Calls.{Call}
-use Rattle.place_model.specs.Cores.{is_saying}
-use Rattle.place_model.specs.EnvelopeTexts.{plain_setting}
-use Rattle.place_model.specs.Names.{Bytes}
-use Rattle.place_model.specs.Scripts.{Plan, Pop, Script, pop_script}
+use Rattle.command_blocks.specs.Calls.{Call}
+use Rattle.command_blocks.specs.Cores.{is_saying}
+use Rattle.command_blocks.specs.EnvelopeTexts.{plain_setting}
+use Rattle.queue_keys.specs.Names.{Bytes}
+use Rattle.command_blocks.specs.Scripts.{Plan, Pop, Script, pop_script}
 use Rattle.block_core.specs.Cores.{HasHad, core_left}
 use Rattle.block_core.specs.declared.core.BlockCore.{BlockCore}
 use Rattle.block_core.specs.declared.stage.Progress.{Progress}

@@ -1,9 +1,9 @@
 //! An acknowledgement: a message is taken out of the table of messages that are not acknowledged, for good.
 ghost use Rattle.std.specs.Prelude.{◌≡◌, [], ℕ, IfOk, Some, None};
 ghost use Rattle.envelope.specs.Tags.{tag_text};
-ghost use Rattle.mini_store.specs.Words.{IsWithinLimits};
-ghost use Rattle.place_model.specs.EnvelopeTexts.{plain_setting};
-ghost use Rattle.place_model.specs.Scripts.{End, end_script, next_words};
+ghost use Rattle.store_model.specs.Words.{IsWithinLimits};
+ghost use Rattle.command_blocks.specs.EnvelopeTexts.{plain_setting};
+ghost use Rattle.command_blocks.specs.Scripts.{End, end_script, next_words};
 ghost use Rattle.block_core.specs.Cores.{core_end};
 ghost use Rattle.block_laws.specs.Rows.{IsLawfulPlan};
 ghost use Rattle.unacked.specs.Ends.{HasEnding, end_left, index_words, table_words};
@@ -13,7 +13,7 @@ use crate::step::{Course, Step};
 use crate::words::{one_word, three_words};
 use block_core::{BlockCore, Progress, Stage};
 use envelope::Tag;
-use resp_wire::{Value, Words};
+use wire_values::{Value, Words};
 use std::alloc::{AllocError, Global};
 
 /// The acknowledgement of a message by its tag, one transaction on the table and its index.

@@ -1,10 +1,10 @@
 //! A pop: a message goes from the list of its queue into the table of messages that are not acknowledged.
 ghost use Rattle.std.specs.Prelude.{◌≡◌, ◌≤◌, [], ℕ, length, IfOk, Some, None};
 ghost use Rattle.envelope.specs.Bodies.{tag_of_bytes};
-ghost use Rattle.mini_store.specs.Replies.{pair};
-ghost use Rattle.mini_store.specs.Words.{IsWithinLimits};
-ghost use Rattle.place_model.specs.EnvelopeTexts.{plain_setting};
-ghost use Rattle.place_model.specs.Scripts.{Pop, kept_by, next_words, on_popped, pop_script};
+ghost use Rattle.store_model.specs.Replies.{pair};
+ghost use Rattle.store_model.specs.Words.{IsWithinLimits};
+ghost use Rattle.command_blocks.specs.EnvelopeTexts.{plain_setting};
+ghost use Rattle.command_blocks.specs.Scripts.{Pop, kept_by, next_words, on_popped, pop_script};
 ghost use Rattle.serde_json.specs.View.{view as data_of};
 ghost use Rattle.block_core.specs.Cores.{core_end};
 ghost use Rattle.block_core.specs.Stages.{progress_left};
@@ -17,9 +17,9 @@ use crate::step::{Course, Step};
 use crate::words::{decimal_text, four_words, one_word};
 use block_core::{BlockCore, Progress, Stage};
 use envelope::{Envelope, EnvelopeFault, read, write_entry};
-use place_model::answer::{is_null_array, pair};
-use place_model::{QueueName, pop_keys};
-use resp_wire::{Bytes, List, Value, Words};
+use command_blocks::answer::{is_null_array, pair};
+use queue_keys::{QueueName, pop_keys};
+use wire_values::{Bytes, List, Value, Words};
 use std::alloc::{AllocError, Global};
 
 /// A pop of some queues, which BRPOP begins; a message that it gives goes into the table and its index by one

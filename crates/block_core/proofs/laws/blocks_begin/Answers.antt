@@ -1,4 +1,4 @@
-use Rattle.place_model.specs.EnvelopeTexts.{plain_setting}
+use Rattle.command_blocks.specs.EnvelopeTexts.{plain_setting}
 use Rattle.block_laws.proofs.Traces.{trace_front}
 use Rattle.block_core.proofs.laws.blocks_begin.Goals as goal
 

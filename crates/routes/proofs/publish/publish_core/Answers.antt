@@ -1,7 +1,7 @@
 use Rattle.std.proofs.Common.{refl, sym}
 use Rattle.serde_json.specs.View.{view as data_of}
 use Rattle.serde_json.specs.Written.{compact_text}
-use Rattle.place_model.specs.Scripts.{Publish}
+use Rattle.command_blocks.specs.Scripts.{Publish}
 use Rattle.routes.proofs.Direct.{direct_script}
 use Rattle.routes.proofs.Publishes.{lawful_push}
 use Rattle.routes.proofs.publish.publish_core.Goals as goal

@@ -1,6 +1,6 @@
 use Rattle.std.proofs.Common.{◌≡◌, ap, refl, subst, true}
-use Rattle.place_model.specs.EnvelopeTexts.{plain_setting}
-use Rattle.place_model.specs.Scripts.{Pop, pop_script}
+use Rattle.command_blocks.specs.EnvelopeTexts.{plain_setting}
+use Rattle.command_blocks.specs.Scripts.{Pop, pop_script}
 use Rattle.unacked.specs.Queues.{are_names}
 use Rattle.unacked.proofs.Pops.{can_pop}
 use Rattle.unacked.proofs.pop.pop_core.Goals as goal

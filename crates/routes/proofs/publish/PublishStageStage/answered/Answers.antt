@@ -1,5 +1,5 @@
 use Rattle.std.proofs.Common.{◌++◌, ◌∷◌, [], ◌∙◌, ap, subst, sym}
-use Rattle.place_model.specs.Answers.{number_of}
+use Rattle.command_blocks.specs.Answers.{number_of}
 use Rattle.block_core.specs.Stages.{TellsOn, progress_left}
 use Rattle.routes.specs.Publishes.{PublishHad, TellsPublish, stage_left}
 use Rattle.routes.proofs.Publishes.{pushed_left, pushed_tells}

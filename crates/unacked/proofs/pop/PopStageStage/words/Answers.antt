@@ -1,8 +1,8 @@
 use Rattle.std.proofs.Common.{◌≡◌, sym, subst, Some}
 use Rattle.std.specs.Prelude.{IfOk}
 use Rattle.serde_json.specs.View.{view as data_of}
-use Rattle.mini_store.specs.Words.{Words}
-use Rattle.place_model.specs.Scripts.{next_words}
+use Rattle.store_model.specs.Words.{Words}
+use Rattle.command_blocks.specs.Scripts.{next_words}
 use Rattle.unacked.specs.Pops.{index_words, popping_left, table_words}
 use Rattle.unacked.specs.Steps.{steps_left}
 use Rattle.unacked.specs.declared.pop.Delivery.{Delivery}
