@@ -11,7 +11,7 @@ use crate::envelope::Envelope;
 use crate::fault::EnvelopeFault;
 use crate::find::want;
 use crate::reading::{fit_names, json, of_tree};
-use resp_wire::Bytes;
+use wire_values::Bytes;
 use serde_json::{Value, json};
 use std::alloc::{AllocError, Global};
 

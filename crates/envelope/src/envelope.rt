@@ -8,7 +8,7 @@ ghost use Rattle.envelope.specs.Shown.{parts_view};
 
 use crate::marks::has_marks;
 use crate::tag::Tag;
-use resp_wire::Bytes;
+use wire_values::Bytes;
 use serde_json::Value;
 use std::alloc::{AllocError, Global};
 use std::marker::Model;

@@ -21,7 +21,7 @@ use crate::tag::Tag;
 use crate::walk::{holds_float, nests_within};
 use base64::DecodeAllocError;
 use base64::engine::general_purpose::STANDARD;
-use resp_wire::Bytes;
+use wire_values::Bytes;
 use serde_json::Value;
 use std::alloc::{AllocError, Global};
 

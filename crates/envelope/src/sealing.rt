@@ -12,7 +12,7 @@ use crate::fault::EnvelopeFault;
 use crate::reading::of_tree;
 use crate::tag::Tag;
 use base64::engine::general_purpose::STANDARD;
-use resp_wire::Bytes;
+use wire_values::Bytes;
 use serde_json::{Value, json};
 use std::alloc::{AllocError, Global};
 

@@ -7,7 +7,7 @@ use crate::{
     Draft, EnvelopeFault, Field, Seed, Tag, of_tree, read, read_entry, redelivered, seal, write,
     write_entry,
 };
-use resp_wire::Bytes;
+use wire_values::Bytes;
 use serde_json::Value;
 use std::alloc::{AllocError, Global};
 use std::process::Abort;

@@ -2,10 +2,10 @@
 use Rattle.std.proofs.Common.{◌≡◌, ℕ, ◌+◌, ◌<◌, List, [], ◌∷◌, ◌++◌, refl, ap, sym, ◌∙◌, append_assoc, map, drop, length, get_or}
 use Rattle.std.proofs.lemmas.List.{drop_more}
 use Rattle.std.specs.List.{flat_map}
-use Rattle.resp_wire.specs.declared.value.Value.{Value}
-use Rattle.resp_wire.specs.declared.value.Value.TheFolds.{fold-roll-Value}
-use Rattle.resp_wire.specs.declared.value.Value.TheOpen.{Value-F}
-use Rattle.resp_wire.specs.declared.value.Value.TheVariants.{Array, rolls-Array}
+use Rattle.wire_values.specs.declared.value.Value.{Value}
+use Rattle.wire_values.specs.declared.value.Value.TheFolds.{fold-roll-Value}
+use Rattle.wire_values.specs.declared.value.Value.TheOpen.{Value-F}
+use Rattle.wire_values.specs.declared.value.Value.TheVariants.{Array, rolls-Array}
 use Rattle.line_text.specs.Forms.{commas, value_step, value_text}
 
 -- texts, the first behind this separator and each other behind a comma and a space

@@ -1,7 +1,7 @@
 -- The short form of words and values, as a report has them.
 use Rattle.std.specs.Prelude.{ℕ, Bool, true, false, List, [], ◌∷◌, ◌++◌, ◌||◌, ◌&&◌, nat_le, nat_eq, codes, if◌then◌else◌, length, decimal}
 use Rattle.std.specs.List.{list_all}
-use Rattle.resp_wire.specs.declared.value.Value.{Value}
+use Rattle.wire_values.specs.declared.value.Value.{Value}
 use Rattle.line_text.specs.Forms.{quoted, value_text, words_text}
 use Rattle.line_text.specs.declared.short.Shape.{Shape}
 use Rattle.line_text.specs.declared.short.Shape.TheVariants.{Envelope, Entry, Tag, Other}

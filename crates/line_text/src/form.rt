@@ -4,7 +4,7 @@
 ghost use Rattle.std.specs.Prelude.{◌≡◌, ◌∷◌, ◌++◌, ◌<◌, List, OnOk, ℕ};
 ghost use Rattle.line_text.specs.Forms.{escaped, hex_digit, quoted, value_form, value_text, words_text};
 
-use resp_wire::{Bytes, Value};
+use wire_values::{Bytes, Value};
 use std::alloc::{AllocError, Global};
 
 /// A way to write bytes in a line.

@@ -7,7 +7,7 @@ ghost use Rattle.links.specs.Memory.{MemorySourceView, read_count, read_fails, s
 
 use crate::counts::{fails_now, raise};
 use crate::{Failed, Source};
-use resp_wire::Bytes;
+use wire_values::Bytes;
 use std::marker::Model;
 
 /// A source over bytes. Each read gives at most `piece` bytes; the k-th read, counted from 0, fails where k is

@@ -6,7 +6,7 @@ ghost use Rattle.links.specs.Ends.{HasReadEnd, IsWhole};
 ghost use Rattle.links.specs.Views.{source_view};
 
 use crate::{Failed, Sink, Source};
-use resp_wire::Bytes;
+use wire_values::Bytes;
 use std::alloc::{AllocError, Global};
 
 /// How many bytes one read asks for at most.

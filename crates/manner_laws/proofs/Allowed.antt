@@ -1,20 +1,20 @@
 -- What the machine lets words ask, they ask.
 use Rattle.std.proofs.Common.{◌≡◌, ℕ, suc, ◌^◌, ◌<◌, List, [], ◌∷◌, Bool, true, false, not, ◌&&◌, refl, sym, ap, subst, ◌∙◌, None, Some, Option, nat_lt, codes, length}
 use Rattle.std.specs.Prelude.{bytes_eq, is_some, nat_le}
-use Rattle.mini_store.specs.Words.{Words}
-use Rattle.place_model.specs.Names.{Bytes, is_name, all_free}
-use Rattle.place_model.specs.QueueKeys.{Each}
-use Rattle.place_model.specs.Bindings.{Binding, member, is_part, binding_of}
-use Rattle.place_model.specs.Texts.{token}
-use Rattle.place_model.specs.Setting.{Setting, IsLawful, is_queue, control_channel}
-use Rattle.place_model.specs.Calls.{push_word}
-use Rattle.place_model.specs.RouteBlocks.{is_exchange}
-use Rattle.place_model.specs.TakeBlocks.{IsPop, brpop_words}
-use Rattle.place_model.specs.PassBlocks.{lock_words, due_words}
-use Rattle.place_model.specs.Blocks.{IsNeutral, Pings, Selects, Measures, Subscribes, Unsubscribes, Announces, Replies, Receives, Limits}
-use Rattle.place_model.specs.declared.block.Side.{Side}
-use Rattle.place_model.specs.declared.block.Side.TheVariants.{Left, Right}
-use Rattle.place_model.proofs.Routes.{binding_of-member}
+use Rattle.store_model.specs.Words.{Words}
+use Rattle.queue_keys.specs.Names.{Bytes, is_name, all_free}
+use Rattle.queue_keys.specs.QueueKeys.{Each}
+use Rattle.queue_keys.specs.Bindings.{Binding, member, is_part, binding_of}
+use Rattle.queue_keys.specs.Texts.{token}
+use Rattle.command_blocks.specs.Setting.{Setting, IsLawful, is_queue, control_channel}
+use Rattle.command_blocks.specs.Calls.{push_word}
+use Rattle.command_blocks.specs.RouteBlocks.{is_exchange}
+use Rattle.command_blocks.specs.TakeBlocks.{IsPop, brpop_words}
+use Rattle.command_blocks.specs.PassBlocks.{lock_words, due_words}
+use Rattle.command_blocks.specs.Blocks.{IsNeutral, Pings, Selects, Measures, Subscribes, Unsubscribes, Announces, Replies, Receives, Limits}
+use Rattle.command_blocks.specs.declared.block.Side.{Side}
+use Rattle.command_blocks.specs.declared.block.Side.TheVariants.{Left, Right}
+use Rattle.key_laws.proofs.Routes.{binding_of-member}
 use Rattle.manner_laws.specs.Spots.{Job, Open, Alone, Of_pass, MayPush, settled, Spot, Free, End_begun, Looking, Putting, pushing, Ask, Count, Consent, Queueing, Anything, Bindings, Message, Lock, Due}
 use Rattle.manner_laws.specs.Machine.{Begins, Declares, Undeclares, Publishes, Lists, Pops, Ends, Returns, Passes, Concerns_none, Asks, Starts, Starts_next, Pushes_first, Pushes, Pop_begins, Pop_indexes, Pop_sets, End_removes, End_deletes, Executes, Names, Tries, Reads, Leaves, Looks_up, Takes, Removes, Deletes, Puts, Moves, Looks, Turns, Lets_go, Inspects, Release_begins, Release_deletes, Release_ends, Leaves_foreign}
 use Rattle.manner_laws.specs.Cursor.{same_words, is_command, second, third, middle, only_if, if_said, is_text, all_names, queues_among, declaration_ask, publication_ask, bindings_ask, pop_ask, neutral_ask, start_ask, first_push_ask, or_else, side_said, side_for, ask_at, IsReadable}

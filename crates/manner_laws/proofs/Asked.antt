@@ -1,15 +1,15 @@
 -- What words ask is just what the machine lets them ask.
 use Rattle.std.proofs.Common.{◌≡◌, ◌⊎◌, inl, inr, ℕ, suc, ◌^◌, List, [], ◌∷◌, true, not, ◌&&◌, refl, sym, ap, subst, ◌∙◌, None, Some, Option, nat_lt, codes, decimal, length}
 use Rattle.std.specs.Prelude.{bytes_eq, is_some, nat_le, if◌then◌else◌}
-use Rattle.mini_store.specs.Words.{Words}
-use Rattle.place_model.specs.Names.{Bytes, is_name}
-use Rattle.place_model.specs.Bindings.{Binding, member, is_part, binding_of}
-use Rattle.place_model.specs.Texts.{token}
-use Rattle.place_model.specs.Setting.{Setting, control_channel}
-use Rattle.place_model.specs.RouteBlocks.{is_exchange}
-use Rattle.place_model.specs.TakeBlocks.{brpop_words}
-use Rattle.place_model.specs.PassBlocks.{lock_words, due_words}
-use Rattle.place_model.specs.Blocks.{IsNeutral, Pings, Selects, Measures, Subscribes, Unsubscribes, Announces, Replies, Receives, Limits}
+use Rattle.store_model.specs.Words.{Words}
+use Rattle.queue_keys.specs.Names.{Bytes, is_name}
+use Rattle.queue_keys.specs.Bindings.{Binding, member, is_part, binding_of}
+use Rattle.queue_keys.specs.Texts.{token}
+use Rattle.command_blocks.specs.Setting.{Setting, control_channel}
+use Rattle.command_blocks.specs.RouteBlocks.{is_exchange}
+use Rattle.command_blocks.specs.TakeBlocks.{brpop_words}
+use Rattle.command_blocks.specs.PassBlocks.{lock_words, due_words}
+use Rattle.command_blocks.specs.Blocks.{IsNeutral, Pings, Selects, Measures, Subscribes, Unsubscribes, Announces, Replies, Receives, Limits}
 use Rattle.manner_laws.specs.Spots.{Job, Open, Alone, Of_pass, MayPush, Spot, Free, Listed, Pushing, Popped, Pop_begun, Pop_indexed, End_begun, End_removed, Filled, Looking, Waiting, Watched, Leaving, Asking, Ready, Begun, Removed, Putting, Locked, Turning, Release_watched, Release_own, Release_begun, Release_deleted, Release_foreign, pushing, Ask, Count, Consent, Queueing, Anything, Bindings, Message, Entry, Lock, Due}
 use Rattle.manner_laws.specs.Machine.{Begins, Declares, Undeclares, Publishes, Lists, Pops, Ends, Returns, Passes, Concerns_none, Asks, Starts, Starts_next, Pushes_first, Pushes, Pop_begins, Pop_indexes, Pop_sets, End_removes, End_deletes, Executes, Names, Tries, Reads, Leaves, Looks_up, Takes, Removes, Deletes, Puts, Moves, Looks, Turns, Lets_go, Inspects, Release_begins, Release_deletes, Release_ends, Leaves_foreign}
 use Rattle.manner_laws.specs.Cursor.{same_words, is_command, second, third, further, middle, if_said, is_text, all_names, queues_among, seconds_before, declaration_ask, publication_ask, bindings_ask, pop_ask, neutral_ask, start_ask, first_push_ask, or_else, side_for, ask_at}

@@ -1,12 +1,12 @@
 -- The cursor on a few calls, computed.
 use Rattle.std.proofs.Common.{◌≡◌, [], ◌∷◌, refl, codes, Option}
 use Rattle.std.specs.Prelude.{pos}
-use Rattle.resp_wire.specs.Layer.{layer}
-use Rattle.resp_wire.specs.declared.value.Value.TheVariants.{Integer}
-use Rattle.mini_store.specs.Replies.{done, queued}
-use Rattle.place_model.specs.Names.{Bytes}
-use Rattle.place_model.specs.Setting.{Setting}
-use Rattle.place_model.specs.Calls.{call}
+use Rattle.wire_values.specs.Layer.{layer}
+use Rattle.wire_values.specs.declared.value.Value.TheVariants.{Integer}
+use Rattle.store_model.specs.Replies.{done, queued}
+use Rattle.queue_keys.specs.Names.{Bytes}
+use Rattle.command_blocks.specs.Setting.{Setting}
+use Rattle.command_blocks.specs.Calls.{call}
 use Rattle.manner_laws.specs.Spots.{Free, End_begun}
 use Rattle.manner_laws.specs.Cursor.{start_ask, neutral_ask, At, Unlisted, Unmannered, cursor_of}
 

@@ -1,13 +1,13 @@
 -- The cursor says what the manner of a client says.
 use Rattle.std.proofs.Common.{◌≡◌, inl, inr, ℕ, ◌<◌, ◌^◌, List, [], ◌∷◌, ◌++◌, refl, sym, ap, subst, ◌∙◌, None, Some, Option}
 use Rattle.std.specs.Prelude.{pos}
-use Rattle.resp_wire.specs.declared.value.Value.{Value}
-use Rattle.mini_store.specs.Replies.{done}
-use Rattle.mini_store.specs.Words.{Words}
-use Rattle.place_model.specs.Names.{Bytes}
-use Rattle.place_model.specs.Setting.{Setting, IsLawful}
-use Rattle.place_model.specs.Calls.{Call, call}
-use Rattle.place_model.specs.Blocks.{IsFrontOfBlocks, IsUnlisted, IsMannered}
+use Rattle.wire_values.specs.declared.value.Value.{Value}
+use Rattle.store_model.specs.Replies.{done}
+use Rattle.store_model.specs.Words.{Words}
+use Rattle.queue_keys.specs.Names.{Bytes}
+use Rattle.command_blocks.specs.Setting.{Setting, IsLawful}
+use Rattle.command_blocks.specs.Calls.{Call, call}
+use Rattle.command_blocks.specs.Blocks.{IsFrontOfBlocks, IsUnlisted, IsMannered}
 use Rattle.manner_laws.specs.Spots.{Spot, Free, Ask, Count, Consent, Queueing, Counts, Anything, Bindings, Message, Entry, Routes, Move, Lock, Due, Holder, Release}
 use Rattle.manner_laws.specs.Machine.{Asks, Tells, Counted, Consented, Was_queued, Counted_both, Answered, Bound, Nothing_there, Missing, Looked_up, Moved, Taken, Members, Nobody, Altered, Goes, Runs}
 use Rattle.manner_laws.specs.Cursor.{ask_at, spot_after, Cursor, At, Unlisted, Unmannered, cursor_at, heard, judge, cursor_after, cursor_of, IsReadable, AreTimely}

@@ -3,12 +3,12 @@ use Rattle.std.proofs.Common.{arith, ◌≡◌, inl, inr, ℕ, suc, List, [], �
 use Rattle.std.specs.Prelude.{nat_le, option_and_then, if◌then◌else◌}
 use Rattle.std.specs.Str.{is_utf8}
 use Rattle.std.proofs.lemmas.Bool.Decides.{nat_tests}
-use Rattle.place_model.specs.Names.{Bytes, is_name, binding_front}
-use Rattle.place_model.specs.Layouts.{Layout, is_layout, is_prefix, HasStep, rises, rises_from_zero}
-use Rattle.place_model.specs.QueueKeys.{rest_after, queue_key, keys_at, keys_by, Each}
-use Rattle.place_model.specs.Setting.{Texts, Way, if_named, named_exchange, setting_of}
-use Rattle.place_model.specs.RouteBlocks.{is_exchange}
-use Rattle.place_model.proofs.Splits.{rest_after-front, split_of_key}
+use Rattle.queue_keys.specs.Names.{Bytes, is_name, binding_front}
+use Rattle.queue_keys.specs.Layouts.{Layout, is_layout, is_prefix, HasStep, rises, rises_from_zero}
+use Rattle.queue_keys.specs.QueueKeys.{rest_after, queue_key, keys_at, keys_by, Each}
+use Rattle.command_blocks.specs.Setting.{Texts, Way, if_named, named_exchange, setting_of}
+use Rattle.command_blocks.specs.RouteBlocks.{is_exchange}
+use Rattle.queue_keys.proofs.Splits.{rest_after-front, split_of_key}
 use Rattle.manner_laws.specs.Cursor.{onto_queues, queues_among, IsReadable}
 use Rattle.manner_laws.specs.LayoutKeys.{exchange_of_key, TellsShortExchanges}
 use Rattle.manner_laws.proofs.Tests.{false_true, none_some, some_parts, and_true, both_true}

@@ -1,21 +1,21 @@
 -- What the exact machine runs through, from a start to a start, is whole blocks.
 use Rattle.std.proofs.Common.{arith, ◌≡◌, ◌⊎◌, inl, inr, ℕ, ℤ, suc, ◌<◌, ◌^◌, List, [], ◌∷◌, ◌++◌, Bool, true, false, refl, sym, ap, subst, ◌∙◌, None, Some, Option, append_assoc, codes, decimal}
-use Rattle.resp_wire.specs.declared.value.Value.{Value}
-use Rattle.resp_wire.specs.declared.value.Value.TheVariants.{Integer, Bulk, NullBulk, Array, NullArray}
-use Rattle.mini_store.specs.Replies.{done, queued, pair, bulks}
-use Rattle.mini_store.specs.Words.{Words}
-use Rattle.place_model.specs.Names.{Bytes}
-use Rattle.place_model.specs.Texts.{token}
-use Rattle.place_model.specs.Answers.{integers}
-use Rattle.place_model.specs.Setting.{Setting}
-use Rattle.place_model.specs.Calls.{Call, call, push_word, concat}
-use Rattle.place_model.specs.RouteBlocks.{Told, direct_calls, direct_keys, Plain, Named as Named_block, is_exchange, Asked}
-use Rattle.place_model.specs.TakeBlocks.{IsPop, brpop_words, Empty, Unreadable as Unreadable_block, Popped as Popped_block, Acknowledged}
-use Rattle.place_model.specs.ReturnBlocks.{ReturnEnd, Moved as Was_moved, Gone, Stayed, Contended as Was_contended, goes_on, queued_calls, queued_keys, reading, asking, leaving, Carries, Try, whole_try, IsTry, IsTries, Missing as Missing_tries, Useless as Useless_tries, Nowhere, Whole, Eighth, Again}
-use Rattle.place_model.specs.PassBlocks.{PassEnd, Held, Stuck, Done, IsReturns, All_returned, Returned, Returned_until, Ended_early, IsRelease, Own as Own_release, Foreign as Foreign_release, lock_words, due_words, Is_held, Ran}
-use Rattle.place_model.specs.Blocks.{Answered as Answered_block, Kind, Drawing, Passing, Other, drawn, passed, IsBlock, Declare, Undeclare, Publish, Publish_short, Pop, End, Return, Pass, Neutral, AreBlocks}
-use Rattle.place_model.specs.declared.block.Side.{Side}
-use Rattle.place_model.specs.declared.block.Side.TheVariants.{Left, Right}
+use Rattle.wire_values.specs.declared.value.Value.{Value}
+use Rattle.wire_values.specs.declared.value.Value.TheVariants.{Integer, Bulk, NullBulk, Array, NullArray}
+use Rattle.store_model.specs.Replies.{done, queued, pair, bulks}
+use Rattle.store_model.specs.Words.{Words}
+use Rattle.queue_keys.specs.Names.{Bytes}
+use Rattle.queue_keys.specs.Texts.{token}
+use Rattle.command_blocks.specs.Answers.{integers}
+use Rattle.command_blocks.specs.Setting.{Setting}
+use Rattle.command_blocks.specs.Calls.{Call, call, push_word, concat}
+use Rattle.command_blocks.specs.RouteBlocks.{Told, direct_calls, direct_keys, Plain, Named as Named_block, is_exchange, Asked}
+use Rattle.command_blocks.specs.TakeBlocks.{IsPop, brpop_words, Empty, Unreadable as Unreadable_block, Popped as Popped_block, Acknowledged}
+use Rattle.command_blocks.specs.ReturnBlocks.{ReturnEnd, Moved as Was_moved, Gone, Stayed, Contended as Was_contended, goes_on, queued_calls, queued_keys, reading, asking, leaving, Carries, Try, whole_try, IsTry, IsTries, Missing as Missing_tries, Useless as Useless_tries, Nowhere, Whole, Eighth, Again}
+use Rattle.command_blocks.specs.PassBlocks.{PassEnd, Held, Stuck, Done, IsReturns, All_returned, Returned, Returned_until, Ended_early, IsRelease, Own as Own_release, Foreign as Foreign_release, lock_words, due_words, Is_held, Ran}
+use Rattle.command_blocks.specs.Blocks.{Answered as Answered_block, Kind, Drawing, Passing, Other, drawn, passed, IsBlock, Declare, Undeclare, Publish, Publish_short, Pop, End, Return, Pass, Neutral, AreBlocks}
+use Rattle.command_blocks.specs.declared.block.Side.{Side}
+use Rattle.command_blocks.specs.declared.block.Side.TheVariants.{Left, Right}
 use Rattle.manner_laws.specs.Spots.{Job, Open, Alone, Of_pass, tag_in, MayPush, settled, Spot, Free, Listed, Pushing, Popped, Pop_begun, Pop_indexed, End_begun, End_removed, Filled, Looking, Waiting, Watched, Leaving, Asking, Ready, Begun, Removed, Putting, Locked, Turning, Release_watched, Release_own, Release_begun, Release_deleted, Release_foreign, pushing, finished, gave_up, routed, Ask, Entry}
 use Rattle.manner_laws.specs.Machine.{Begins, Declares, Undeclares, Publishes, Lists, Pops, Ends, Returns, Passes, Concerns_none, Asks, Starts, Starts_next, Pushes_first, Pushes, Pop_begins, Pop_indexes, Pop_sets, End_removes, End_deletes, Executes, Names, Tries, Reads, Leaves, Looks_up, Takes, Removes, Deletes, Puts, Moves, Looks, Turns, Lets_go, Inspects, Release_begins, Release_deletes, Release_ends, Leaves_foreign, Tells, Runs}
 use Rattle.manner_laws.proofs.Steps.{on_count, on_consent, on_queueing, on_counts, on_anything, on_bindings, on_message, on_entry, on_routes, on_move, on_lock, on_due, on_holder, on_release}

@@ -1,16 +1,16 @@
 -- What can follow each thing that is asked.
 use Rattle.std.proofs.Common.{◌≡◌, ℕ, ℤ, suc, ◌<◌, List, [], ◌∷◌, false, Some, None}
-use Rattle.resp_wire.specs.declared.value.Value.{Value}
-use Rattle.resp_wire.specs.declared.value.Value.TheVariants.{Integer, Bulk, NullBulk, Array, NullArray}
-use Rattle.mini_store.specs.Replies.{done, queued, pair, bulks}
-use Rattle.mini_store.specs.Words.{Words}
-use Rattle.place_model.specs.Names.{Bytes}
-use Rattle.place_model.specs.Texts.{token}
-use Rattle.place_model.specs.Answers.{integers, is_error}
-use Rattle.place_model.specs.Setting.{Setting}
-use Rattle.place_model.specs.Calls.{call}
-use Rattle.place_model.specs.ReturnBlocks.{Carries}
-use Rattle.place_model.specs.PassBlocks.{tags_among}
+use Rattle.wire_values.specs.declared.value.Value.{Value}
+use Rattle.wire_values.specs.declared.value.Value.TheVariants.{Integer, Bulk, NullBulk, Array, NullArray}
+use Rattle.store_model.specs.Replies.{done, queued, pair, bulks}
+use Rattle.store_model.specs.Words.{Words}
+use Rattle.queue_keys.specs.Names.{Bytes}
+use Rattle.queue_keys.specs.Texts.{token}
+use Rattle.command_blocks.specs.Answers.{integers, is_error}
+use Rattle.command_blocks.specs.Setting.{Setting}
+use Rattle.command_blocks.specs.Calls.{call}
+use Rattle.command_blocks.specs.ReturnBlocks.{Carries}
+use Rattle.command_blocks.specs.PassBlocks.{tags_among}
 use Rattle.manner_laws.specs.Spots.{Job, tag_in, Spot, Free, Listed, Popped, Waiting, Leaving, Asking, Locked, Turning, Release_own, Release_foreign, finished, gave_up, routed, Ask, Count, Consent, Queueing, Counts, Anything, Bindings, Message, Entry, Routes, Move, Lock, Due, Holder, Release}
 use Rattle.manner_laws.specs.Machine.{Asks, Tells, Counted, Consented, Was_queued, Counted_both, Answered, Bound, Nothing_there, Unreadable, Readable, Missing, Useless, Unnamed, Named, Looked_up, Moved, Failed, Contended, Taken, Given, Members, Own, Foreign, Nobody, Released, Altered, Goes}
 

@@ -3,9 +3,9 @@ use Rattle.std.proofs.Common.{arith, ◌≡◌, ◌⊎◌, inl, inr, ℕ, ◌<�
 use Rattle.std.specs.Prelude.{bytes_eq, is_some, nat_le, option_map, if◌then◌else◌}
 use Rattle.std.proofs.lemmas.Slice.Eq.{bytes_eq-Decides}
 use Rattle.std.proofs.lemmas.Bool.Decides.{nat_tests}
-use Rattle.mini_store.specs.Words.{Words, front}
-use Rattle.place_model.specs.Names.{Bytes, is_name}
-use Rattle.place_model.specs.QueueKeys.{Each}
+use Rattle.store_model.specs.Words.{Words, front}
+use Rattle.queue_keys.specs.Names.{Bytes, is_name}
+use Rattle.queue_keys.specs.QueueKeys.{Each}
 use Rattle.manner_laws.specs.Spots.{Spot, Ask}
 use Rattle.manner_laws.specs.Cursor.{same_words, only_if, if_said, is_text, all_names, spot_if, middle}
 

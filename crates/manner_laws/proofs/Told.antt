@@ -2,16 +2,16 @@
 use Rattle.std.proofs.Common.{arith, ◌≡◌, ◌⊎◌, inl, inr, ℕ, suc, [], ◌∷◌, Bool, true, false, not, ◌==◌, refl, sym, ap, subst, ◌∙◌, None, Some, Option, nat_lt, codes}
 use Rattle.std.specs.Prelude.{bytes_eq, is_some, option_map, if◌then◌else◌}
 use Rattle.std.proofs.lemmas.Bool.Decides.{nat_tests}
-use Rattle.resp_wire.specs.Layer.{layer}
-use Rattle.resp_wire.specs.declared.value.Value.{Value}
-use Rattle.resp_wire.specs.declared.value.Value.TheVariants.{Integer, Bulk, NullBulk, Array, NullArray}
-use Rattle.mini_store.specs.Replies.{done, queued, pair, bulks}
-use Rattle.place_model.specs.Names.{Bytes}
-use Rattle.place_model.specs.Texts.{token}
-use Rattle.place_model.specs.Answers.{integers, number_of, bulk_of, items_of, pair_of, is_error}
-use Rattle.place_model.specs.Setting.{Setting}
-use Rattle.place_model.specs.ReturnBlocks.{Carries}
-use Rattle.place_model.specs.PassBlocks.{tags_among}
+use Rattle.wire_values.specs.Layer.{layer}
+use Rattle.wire_values.specs.declared.value.Value.{Value}
+use Rattle.wire_values.specs.declared.value.Value.TheVariants.{Integer, Bulk, NullBulk, Array, NullArray}
+use Rattle.store_model.specs.Replies.{done, queued, pair, bulks}
+use Rattle.queue_keys.specs.Names.{Bytes}
+use Rattle.queue_keys.specs.Texts.{token}
+use Rattle.command_blocks.specs.Answers.{integers, number_of, bulk_of, items_of, pair_of, is_error}
+use Rattle.command_blocks.specs.Setting.{Setting}
+use Rattle.command_blocks.specs.ReturnBlocks.{Carries}
+use Rattle.command_blocks.specs.PassBlocks.{tags_among}
 use Rattle.manner_laws.specs.Spots.{Job, tag_in, Spot, Free, Listed, Waiting, Leaving, Asking, Locked, Turning, Release_own, Release_foreign, finished, gave_up, routed, Ask, Count, Consent, Queueing, Counts, Anything, Bindings, Message, Entry, Routes, Move, Lock, Due, Holder, Release}
 use Rattle.manner_laws.specs.Machine.{Tells, Counted, Consented, Was_queued, Counted_both, Answered, Bound, Nothing_there, Unreadable, Readable, Missing, Useless, Unnamed, Named, Looked_up, Moved, Failed, Contended, Taken, Given, Members, Own, Foreign, Nobody, Released, Altered}
 use Rattle.manner_laws.specs.Cursor.{is_text, is_status, is_null_bulk, is_null_array, are_integers, are_two_integers, texts_of, spot_if, popped_spot, if_tagged, read_spot, entry_spot, failed_spot, holder_spot, spot_after}

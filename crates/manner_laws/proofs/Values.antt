@@ -2,14 +2,14 @@
 use Rattle.std.proofs.lemmas.Bool.Decides.{nat_tests}
 use Rattle.std.proofs.Common.{arith, ◌≡◌, ℕ, ℤ, suc, List, [], ◌∷◌, true, false, ◌==◌, refl, sym, ap, subst, ◌∙◌, None, Some, Option, map, length}
 use Rattle.std.specs.Prelude.{bytes_eq, is_some, option_and_then}
-use Rattle.resp_wire.specs.Layer.{layer}
-use Rattle.resp_wire.proofs.Layers.{layer-array, layers_tell}
-use Rattle.resp_wire.specs.declared.value.Value.{Value}
-use Rattle.resp_wire.specs.declared.value.Value.TheOpen.{Value-F}
-use Rattle.resp_wire.specs.declared.value.Value.TheVariants.{Status, Integer, Bulk, NullBulk, Array, NullArray}
-use Rattle.mini_store.specs.Replies.{pair, bulks}
-use Rattle.place_model.specs.Names.{Bytes}
-use Rattle.place_model.specs.Answers.{integers, bulk_in, bulk_of, number_in, number_of, items_in, items_of, both, pair_among, pair_of}
+use Rattle.wire_values.specs.Layer.{layer}
+use Rattle.wire_values.proofs.Layers.{layer-array, layers_tell}
+use Rattle.wire_values.specs.declared.value.Value.{Value}
+use Rattle.wire_values.specs.declared.value.Value.TheOpen.{Value-F}
+use Rattle.wire_values.specs.declared.value.Value.TheVariants.{Status, Integer, Bulk, NullBulk, Array, NullArray}
+use Rattle.store_model.specs.Replies.{pair, bulks}
+use Rattle.queue_keys.specs.Names.{Bytes}
+use Rattle.command_blocks.specs.Answers.{integers, bulk_in, bulk_of, number_in, number_of, items_in, items_of, both, pair_among, pair_of}
 use Rattle.manner_laws.specs.Cursor.{is_status, is_null_bulk, is_null_array, all_integers, are_integers, are_two_integers, onto_texts, texts_among, texts_of}
 use Rattle.manner_laws.proofs.Tests.{false_true, none_some, some_parts, bytes_true, and_true, both_true}
 

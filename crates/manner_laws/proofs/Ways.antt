@@ -1,22 +1,22 @@
 -- Blocks run through the exact machine, and from each spot there is a way to a start.
 use Rattle.std.proofs.Common.{arith, ◌≡◌, ◌⊎◌, inl, inr, ℕ, ℤ, suc, ◌^◌, ◌<◌, List, [], ◌∷◌, ◌++◌, Bool, true, false, refl, sym, subst, ◌∙◌, None, Some, Option, codes}
-use Rattle.resp_wire.specs.declared.value.Value.{Value}
-use Rattle.resp_wire.specs.declared.value.Value.TheVariants.{Bulk, NullBulk, Array, NullArray}
-use Rattle.resp_wire.specs.Layer.{layer}
-use Rattle.mini_store.specs.Replies.{done}
-use Rattle.mini_store.specs.Words.{Words}
-use Rattle.place_model.specs.Names.{Bytes}
-use Rattle.place_model.specs.Texts.{token}
-use Rattle.place_model.specs.Answers.{integers, is_error}
-use Rattle.place_model.specs.Setting.{Setting, IsLawful}
-use Rattle.place_model.specs.Calls.{Call, call, concat}
-use Rattle.place_model.specs.RouteBlocks.{IsDeclareBlock, IsPublishBlock, IsShortPublish, Told, direct_calls, direct_keys, Plain, Named as Named_block, Asked}
-use Rattle.place_model.specs.TakeBlocks.{IsPopBlock, Empty, Unreadable as Unreadable_block, Popped as Popped_block, IsEndBlock, Acknowledged}
-use Rattle.place_model.specs.ReturnBlocks.{ReturnEnd, Contended as Was_contended, goes_on, queued_calls, queued_keys, reading, asking, leaving, taking, Carries, Try, whole_try, IsTry, IsTries, Missing as Missing_tries, Useless as Useless_tries, Nowhere, Whole, Eighth, Again}
-use Rattle.place_model.specs.PassBlocks.{PassEnd, IsReturns, All_returned, Returned, Returned_until, Ended_early, IsRelease, Own as Own_release, Foreign as Foreign_release, IsPassBlock, tags_among, Is_held, Ran}
-use Rattle.place_model.specs.Blocks.{Pings, IsNeutralBlock, Answered as Answered_block, Kind, drawn, passed, IsBlock, Declare, Undeclare, Publish, Publish_short, Pop, End, Return, Pass, Neutral, AreBlocks, IsFrontOfBlocks, IsMannered}
-use Rattle.place_model.specs.declared.block.Side.{Side}
-use Rattle.place_model.specs.declared.block.Side.TheVariants.{Left, Right}
+use Rattle.wire_values.specs.declared.value.Value.{Value}
+use Rattle.wire_values.specs.declared.value.Value.TheVariants.{Bulk, NullBulk, Array, NullArray}
+use Rattle.wire_values.specs.Layer.{layer}
+use Rattle.store_model.specs.Replies.{done}
+use Rattle.store_model.specs.Words.{Words}
+use Rattle.queue_keys.specs.Names.{Bytes}
+use Rattle.queue_keys.specs.Texts.{token}
+use Rattle.command_blocks.specs.Answers.{integers, is_error}
+use Rattle.command_blocks.specs.Setting.{Setting, IsLawful}
+use Rattle.command_blocks.specs.Calls.{Call, call, concat}
+use Rattle.command_blocks.specs.RouteBlocks.{IsDeclareBlock, IsPublishBlock, IsShortPublish, Told, direct_calls, direct_keys, Plain, Named as Named_block, Asked}
+use Rattle.command_blocks.specs.TakeBlocks.{IsPopBlock, Empty, Unreadable as Unreadable_block, Popped as Popped_block, IsEndBlock, Acknowledged}
+use Rattle.command_blocks.specs.ReturnBlocks.{ReturnEnd, Contended as Was_contended, goes_on, queued_calls, queued_keys, reading, asking, leaving, taking, Carries, Try, whole_try, IsTry, IsTries, Missing as Missing_tries, Useless as Useless_tries, Nowhere, Whole, Eighth, Again}
+use Rattle.command_blocks.specs.PassBlocks.{PassEnd, IsReturns, All_returned, Returned, Returned_until, Ended_early, IsRelease, Own as Own_release, Foreign as Foreign_release, IsPassBlock, tags_among, Is_held, Ran}
+use Rattle.command_blocks.specs.Blocks.{Pings, IsNeutralBlock, Answered as Answered_block, Kind, drawn, passed, IsBlock, Declare, Undeclare, Publish, Publish_short, Pop, End, Return, Pass, Neutral, AreBlocks, IsFrontOfBlocks, IsMannered}
+use Rattle.command_blocks.specs.declared.block.Side.{Side}
+use Rattle.command_blocks.specs.declared.block.Side.TheVariants.{Left, Right}
 use Rattle.manner_laws.specs.Spots.{Job, Open, Alone, Of_pass, tag_in, MayPush, settled, Spot, Free, Listed, Pushing, Popped, Pop_begun, Pop_indexed, End_begun, End_removed, Filled, Looking, Waiting, Watched, Leaving, Asking, Ready, Begun, Removed, Putting, Locked, Turning, Release_watched, Release_own, Release_begun, Release_deleted, Release_foreign, pushing, finished, gave_up, routed, Ask, Consent, Entry}
 use Rattle.manner_laws.specs.Machine.{Begins, Declares, Undeclares, Publishes, Lists, Pops, Ends, Returns, Passes, Concerns_none, Asks, Starts, Starts_next, Pushes_first, Pushes, Pop_begins, Pop_indexes, Pop_sets, End_removes, End_deletes, Executes, Names, Tries, Reads, Leaves, Looks_up, Takes, Removes, Deletes, Puts, Moves, Looks, Turns, Lets_go, Inspects, Release_begins, Release_deletes, Release_ends, Leaves_foreign, Tells, Counted, Consented, Was_queued, Counted_both, Answered, Bound, Nothing_there, Unreadable, Readable, Missing, Useless, Unnamed, Named, Looked_up, Moved, Failed, Contended, Taken, Given, Members, Own, Foreign, Nobody, Released, Altered, Goes, Runs, RunsThrough, RunsOff, TellsExchanges}
 use Rattle.std.specs.Prelude.{pos}

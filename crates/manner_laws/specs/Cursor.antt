@@ -1,22 +1,22 @@
 -- The machine as a cursor, which takes one call after another: what words ask at a spot, and where an answer leads, by tests alone. It is one spot, since the keys and the exchange of a push tell whose it is.
 use Rattle.std.specs.Prelude.{◌≡◌, ℕ, suc, ◌+◌, ◌-◌, ◌^◌, ◌<◌, Bool, true, false, ◌&&◌, ◌==◌, not, nat_le, nat_lt, if◌then◌else◌, List, [], ◌∷◌, length, codes, decimal, bytes_eq, Option, Some, None, is_some, option_map, option_and_then}
 use Rattle.std.specs.Str.Parse.{digits_value}
-use Rattle.resp_wire.specs.Layer.{layer}
-use Rattle.resp_wire.specs.declared.value.Value.{Value}
-use Rattle.resp_wire.specs.declared.value.Value.TheOpen.{Value-F}
-use Rattle.mini_store.specs.Words.{Words, front}
-use Rattle.place_model.specs.Names.{Bytes, is_name}
-use Rattle.place_model.specs.QueueKeys.{Each}
-use Rattle.place_model.specs.Bindings.{Binding, member, is_part, binding_of}
-use Rattle.place_model.specs.Texts.{token}
-use Rattle.place_model.specs.Answers.{number_of, bulk_of, items_of, pair_of, is_error}
-use Rattle.place_model.specs.Setting.{Setting, control_channel}
-use Rattle.place_model.specs.Calls.{Call, push_word}
-use Rattle.place_model.specs.RouteBlocks.{is_exchange}
-use Rattle.place_model.specs.TakeBlocks.{brpop_words}
-use Rattle.place_model.specs.PassBlocks.{tags_among, lock_words, due_words}
-use Rattle.place_model.specs.declared.block.Side.{Side}
-use Rattle.place_model.specs.declared.block.Side.TheVariants.{Left, Right}
+use Rattle.wire_values.specs.Layer.{layer}
+use Rattle.wire_values.specs.declared.value.Value.{Value}
+use Rattle.wire_values.specs.declared.value.Value.TheOpen.{Value-F}
+use Rattle.store_model.specs.Words.{Words, front}
+use Rattle.queue_keys.specs.Names.{Bytes, is_name}
+use Rattle.queue_keys.specs.QueueKeys.{Each}
+use Rattle.queue_keys.specs.Bindings.{Binding, member, is_part, binding_of}
+use Rattle.queue_keys.specs.Texts.{token}
+use Rattle.command_blocks.specs.Answers.{number_of, bulk_of, items_of, pair_of, is_error}
+use Rattle.command_blocks.specs.Setting.{Setting, control_channel}
+use Rattle.command_blocks.specs.Calls.{Call, push_word}
+use Rattle.command_blocks.specs.RouteBlocks.{is_exchange}
+use Rattle.command_blocks.specs.TakeBlocks.{brpop_words}
+use Rattle.command_blocks.specs.PassBlocks.{tags_among, lock_words, due_words}
+use Rattle.command_blocks.specs.declared.block.Side.{Side}
+use Rattle.command_blocks.specs.declared.block.Side.TheVariants.{Left, Right}
 use Rattle.manner_laws.specs.Spots.{Job, Open, Alone, Of_pass, tag_in, settled, Spot, Free, Listed, Pushing, Popped, Pop_begun, Pop_indexed, End_begun, End_removed, Filled, Looking, Waiting, Watched, Leaving, Asking, Ready, Begun, Removed, Putting, Locked, Turning, Release_watched, Release_own, Release_begun, Release_deleted, Release_foreign, pushing, finished, gave_up, routed, Ask, Count, Consent, Queueing, Counts, Anything, Bindings, Message, Entry, Routes, Move, Lock, Due, Holder, Release}
 use Rattle.manner_laws.specs.Machine.{TellsExchanges}
 

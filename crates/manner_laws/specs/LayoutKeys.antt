@@ -1,10 +1,10 @@
 -- What the keys of a layout tell to a cursor.
 use Rattle.std.specs.Prelude.{◌≡◌, true, ◌&&◌, nat_le, length, Option, Some, option_and_then}
 use Rattle.std.specs.Str.{is_utf8}
-use Rattle.place_model.specs.Names.{Bytes, binding_front}
-use Rattle.place_model.specs.Layouts.{Layout, is_layout}
-use Rattle.place_model.specs.QueueKeys.{rest_after}
-use Rattle.place_model.specs.Setting.{Texts, Way, setting_of}
+use Rattle.queue_keys.specs.Names.{Bytes, binding_front}
+use Rattle.queue_keys.specs.Layouts.{Layout, is_layout}
+use Rattle.queue_keys.specs.QueueKeys.{rest_after}
+use Rattle.command_blocks.specs.Setting.{Texts, Way, setting_of}
 use Rattle.manner_laws.specs.Cursor.{IsReadable}
 
 -- the exchange whose bindings have this key

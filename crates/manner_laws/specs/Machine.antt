@@ -1,21 +1,21 @@
 -- The blocks as an exact machine of one call at a time: what words ask at a spot, and where their answer leads.
 use Rattle.std.specs.Prelude.{◌≡◌, ℕ, ℤ, ◌^◌, suc, true, false, ◌<◌, List, [], ◌∷◌, ◌++◌, codes, decimal, Some, None}
-use Rattle.resp_wire.specs.declared.value.Value.{Value}
-use Rattle.resp_wire.specs.declared.value.Value.TheVariants.{Integer, Bulk, NullBulk, Array, NullArray}
-use Rattle.mini_store.specs.Words.{Words}
-use Rattle.mini_store.specs.Replies.{done, queued, pair, bulks}
-use Rattle.place_model.specs.Names.{Bytes, is_name}
-use Rattle.place_model.specs.Bindings.{member, is_part}
-use Rattle.place_model.specs.Texts.{token}
-use Rattle.place_model.specs.Answers.{integers, is_error}
-use Rattle.place_model.specs.Setting.{Setting}
-use Rattle.place_model.specs.Calls.{Call, call, push_word}
-use Rattle.place_model.specs.RouteBlocks.{is_exchange}
-use Rattle.place_model.specs.TakeBlocks.{IsPop, brpop_words}
-use Rattle.place_model.specs.ReturnBlocks.{Carries}
-use Rattle.place_model.specs.PassBlocks.{tags_among, lock_words, due_words}
-use Rattle.place_model.specs.Blocks.{IsNeutral}
-use Rattle.place_model.specs.declared.block.Side.{Side}
+use Rattle.wire_values.specs.declared.value.Value.{Value}
+use Rattle.wire_values.specs.declared.value.Value.TheVariants.{Integer, Bulk, NullBulk, Array, NullArray}
+use Rattle.store_model.specs.Words.{Words}
+use Rattle.store_model.specs.Replies.{done, queued, pair, bulks}
+use Rattle.queue_keys.specs.Names.{Bytes, is_name}
+use Rattle.queue_keys.specs.Bindings.{member, is_part}
+use Rattle.queue_keys.specs.Texts.{token}
+use Rattle.command_blocks.specs.Answers.{integers, is_error}
+use Rattle.command_blocks.specs.Setting.{Setting}
+use Rattle.command_blocks.specs.Calls.{Call, call, push_word}
+use Rattle.command_blocks.specs.RouteBlocks.{is_exchange}
+use Rattle.command_blocks.specs.TakeBlocks.{IsPop, brpop_words}
+use Rattle.command_blocks.specs.ReturnBlocks.{Carries}
+use Rattle.command_blocks.specs.PassBlocks.{tags_among, lock_words, due_words}
+use Rattle.command_blocks.specs.Blocks.{IsNeutral}
+use Rattle.command_blocks.specs.declared.block.Side.{Side}
 use Rattle.manner_laws.specs.Spots.{Job, Open, Of_pass, tag_in, MayPush, settled, Spot, Free, Listed, Pushing, Popped, Pop_begun, Pop_indexed, End_begun, End_removed, Filled, Looking, Waiting, Watched, Leaving, Asking, Ready, Begun, Removed, Putting, Locked, Turning, Release_watched, Release_own, Release_begun, Release_deleted, Release_foreign, pushing, finished, gave_up, routed, Ask, Count, Consent, Queueing, Counts, Anything, Bindings, Message, Entry, Routes, Move, Lock, Due, Holder, Release}
 
 -- words that begin a block of a client of seed s that drew n tags and made p passes, and what they ask

@@ -6,12 +6,12 @@
 #![tactic(auto)]
 
 ghost use Rattle.std.specs.Prelude.{◌≡◌, ◌⊎◌, ℕ, ◌^◌, ◌<◌, List, [], ◌∷◌, ◌++◌, Option, Some};
-ghost use Rattle.resp_wire.specs.declared.value.Value.{Value};
-ghost use Rattle.mini_store.specs.Words.{Words};
-ghost use Rattle.place_model.specs.Names.{Bytes};
-ghost use Rattle.place_model.specs.Setting.{Setting, IsLawful};
-ghost use Rattle.place_model.specs.Calls.{Call};
-ghost use Rattle.place_model.specs.Blocks.{IsFrontOfBlocks, IsUnlisted, IsMannered};
+ghost use Rattle.wire_values.specs.declared.value.Value.{Value};
+ghost use Rattle.store_model.specs.Words.{Words};
+ghost use Rattle.queue_keys.specs.Names.{Bytes};
+ghost use Rattle.command_blocks.specs.Setting.{Setting, IsLawful};
+ghost use Rattle.command_blocks.specs.Calls.{Call};
+ghost use Rattle.command_blocks.specs.Blocks.{IsFrontOfBlocks, IsUnlisted, IsMannered};
 ghost use Rattle.manner_laws.specs.Spots.{Spot, Free, Ask};
 ghost use Rattle.manner_laws.specs.Machine.{Asks, Tells, Runs, RunsThrough, RunsOff, TellsExchanges};
 ghost use Rattle.manner_laws.specs.Cursor.{ask_at, spot_after, At, Unlisted, Unmannered, judge, cursor_of, IsReadable, AreTimely};

@@ -9,11 +9,11 @@ use Rattle.envelope.proofs.BodyTexts.{carried_body, entry_body}
 use Rattle.envelope.proofs.EnvelopeTags.{ok_is, tag_is, tag_parts, tag_text_is}
 use Rattle.envelope_laws.proofs.Names.{names_are}
 use Rattle.envelope_laws.proofs.Tags.{tag_length}
-use Rattle.place_model.specs.EnvelopeTexts.{texts, way_said}
-use Rattle.place_model.specs.Layouts.{Layout, is_layout}
-use Rattle.place_model.specs.Setting.{IsLawful, IsTexts, Way, setting_of}
-use Rattle.place_model.proofs.EnvelopeFacts.{written_tag_is}
-use Rattle.place_model.proofs.Settings.{lawful_setting}
+use Rattle.command_blocks.specs.EnvelopeTexts.{texts, way_said}
+use Rattle.queue_keys.specs.Layouts.{Layout, is_layout}
+use Rattle.command_blocks.specs.Setting.{IsLawful, IsTexts, Way, setting_of}
+use Rattle.key_laws.proofs.EnvelopeFacts.{written_tag_is}
+use Rattle.key_laws.proofs.Settings.{lawful_setting}
 use Rattle.place_theorem.proofs.Full.{Full}
 use Rattle.manner_laws.specs.Cursor.{IsReadable}
 use Rattle.manner_laws.specs.LayoutKeys.{TellsShortExchanges, exchange_of_key}

@@ -1,12 +1,12 @@
 //! All envelopes of a message are the one that was published, but for the marks of redelivery.
-ghost use Rattle.place_model.specs.Blocks.{AreBlocks, drawn_by};
-ghost use Rattle.place_model.specs.Calls.{Call, concat};
-ghost use Rattle.place_model.specs.EnvelopeTexts.{texts};
+ghost use Rattle.command_blocks.specs.Blocks.{AreBlocks, drawn_by};
+ghost use Rattle.command_blocks.specs.Calls.{Call, concat};
+ghost use Rattle.command_blocks.specs.EnvelopeTexts.{texts};
 ghost use Rattle.place_model.specs.Histories.{Client, History, IsHistoryPrefix, after};
 ghost use Rattle.place_model.specs.Identity.{HasEnvelope, HasOrigin, IsPublished};
-ghost use Rattle.place_model.specs.Layouts.{Layout, is_layout};
-ghost use Rattle.place_model.specs.Names.{Bytes};
-ghost use Rattle.place_model.specs.Setting.{setting_of};
+ghost use Rattle.queue_keys.specs.Layouts.{Layout, is_layout};
+ghost use Rattle.queue_keys.specs.Names.{Bytes};
+ghost use Rattle.command_blocks.specs.Setting.{setting_of};
 ghost use Rattle.place_model.specs.Starts.{IsSound};
 ghost use Rattle.std.specs.FinMap.{get};
 ghost use Rattle.std.specs.Prelude.{◌≡◌, true, ℕ, List, Some, suc};

@@ -1,14 +1,14 @@
 //! The manner of a client, judged call by call.
-ghost use Rattle.mini_store.specs.Words.{Words};
+ghost use Rattle.store_model.specs.Words.{Words};
 ghost use Rattle.manner_laws.specs.Cursor.{At, AreTimely, Unlisted, Unmannered, ask_at, cursor_of};
 ghost use Rattle.manner_laws.specs.LayoutKeys.{exchange_of_key};
 ghost use Rattle.manner_laws.specs.Machine.{Asks};
 ghost use Rattle.manner_laws.specs.Spots.{Ask, Spot};
-ghost use Rattle.place_model.specs.Blocks.{IsFrontOfBlocks, IsMannered, IsUnlisted};
-ghost use Rattle.place_model.specs.Calls.{Call};
-ghost use Rattle.place_model.specs.EnvelopeTexts.{texts};
-ghost use Rattle.place_model.specs.Layouts.{Layout, is_layout};
-ghost use Rattle.place_model.specs.Setting.{setting_of};
+ghost use Rattle.command_blocks.specs.Blocks.{IsFrontOfBlocks, IsMannered, IsUnlisted};
+ghost use Rattle.command_blocks.specs.Calls.{Call};
+ghost use Rattle.command_blocks.specs.EnvelopeTexts.{texts};
+ghost use Rattle.queue_keys.specs.Layouts.{Layout, is_layout};
+ghost use Rattle.command_blocks.specs.Setting.{setting_of};
 ghost use Rattle.std.specs.Prelude.{◌≡◌, true, ◌^◌, ◌<◌, ℕ, List, Some};
 
 /// The cursor judges a client's calls just as its manner does: it comes to a spot just where they are a prefix of blocks, to

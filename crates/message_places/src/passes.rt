@@ -1,17 +1,17 @@
 //! What a pass reads, and what becomes of it.
-ghost use Rattle.mini_store.specs.Replies.{bulks};
-ghost use Rattle.mini_store.specs.Words.{Words, command_of};
-ghost use Rattle.mini_store.specs.declared.command.Command.TheVariants.{Zrevrangebyscore};
-ghost use Rattle.mini_store.specs.declared.reply.Reply.{Reply};
-ghost use Rattle.place_model.specs.Calls.{Call};
-ghost use Rattle.place_model.specs.EnvelopeTexts.{texts};
+ghost use Rattle.store_model.specs.Replies.{bulks};
+ghost use Rattle.store_model.specs.Words.{Words, command_of};
+ghost use Rattle.store_model.specs.declared.command.Command.TheVariants.{Zrevrangebyscore};
+ghost use Rattle.store_model.specs.declared.reply.Reply.{Reply};
+ghost use Rattle.command_blocks.specs.Calls.{Call};
+ghost use Rattle.command_blocks.specs.EnvelopeTexts.{texts};
 ghost use Rattle.place_model.specs.Histories.{History, IsHistoryPrefix, after, and_then, calls_of};
-ghost use Rattle.place_model.specs.Layouts.{Layout, is_layout};
-ghost use Rattle.place_model.specs.Names.{Bytes};
-ghost use Rattle.place_model.specs.PassBlocks.{Done, IsPassBlock, IsReturns, due_words, tags_among};
+ghost use Rattle.queue_keys.specs.Layouts.{Layout, is_layout};
+ghost use Rattle.queue_keys.specs.Names.{Bytes};
+ghost use Rattle.command_blocks.specs.PassBlocks.{Done, IsPassBlock, IsReturns, due_words, tags_among};
 ghost use Rattle.place_model.specs.Passes.{AccountsForAll, AreEarly, ReadsTags, due_members, gone_count, moved_count, stayed_count};
-ghost use Rattle.place_model.specs.ReturnBlocks.{ReturnEnd};
-ghost use Rattle.place_model.specs.Setting.{setting_of};
+ghost use Rattle.command_blocks.specs.ReturnBlocks.{ReturnEnd};
+ghost use Rattle.command_blocks.specs.Setting.{setting_of};
 ghost use Rattle.place_model.specs.Starts.{IsSound};
 ghost use Rattle.place_model.specs.declared.history.Entry.TheVariants.{Call as Called};
 ghost use Rattle.std.specs.Prelude.{◌≡◌, true, ◌+◌, ◌++◌, ◌<◌, ◌^◌, [], ◌∷◌, ℕ, ℤ, List, length};

@@ -1,22 +1,22 @@
 //! Where each message is, after each prefix of a sound history.
-ghost use Rattle.mini_store.specs.Words.{Words, command_of};
-ghost use Rattle.mini_store.specs.declared.command.Command.TheVariants.{Exec};
-ghost use Rattle.mini_store.specs.declared.command.Command.{Command};
-ghost use Rattle.mini_store.specs.declared.reply.Reply.{Reply};
-ghost use Rattle.place_model.specs.Answers.{items_of};
+ghost use Rattle.store_model.specs.Words.{Words, command_of};
+ghost use Rattle.store_model.specs.declared.command.Command.TheVariants.{Exec};
+ghost use Rattle.store_model.specs.declared.command.Command.{Command};
+ghost use Rattle.store_model.specs.declared.reply.Reply.{Reply};
+ghost use Rattle.command_blocks.specs.Answers.{items_of};
 ghost use Rattle.place_model.specs.Counts.{IsAccepted, IsPlaced, IsSingle};
-ghost use Rattle.place_model.specs.EnvelopeTexts.{texts};
+ghost use Rattle.command_blocks.specs.EnvelopeTexts.{texts};
 ghost use Rattle.place_model.specs.Histories.{Client, History, IsHistoryPrefix, after, and_then};
-ghost use Rattle.place_model.specs.Layouts.{Layout, is_layout};
-ghost use Rattle.place_model.specs.Names.{Bytes};
+ghost use Rattle.queue_keys.specs.Layouts.{Layout, is_layout};
+ghost use Rattle.queue_keys.specs.Names.{Bytes};
 ghost use Rattle.place_model.specs.PlaceOf.{StopMoves, place_of};
 ghost use Rattle.place_model.specs.Returns.{ReturnsWhole};
 ghost use Rattle.place_model.specs.Seen.{seen};
-ghost use Rattle.place_model.specs.Setting.{setting_of};
+ghost use Rattle.command_blocks.specs.Setting.{setting_of};
 ghost use Rattle.place_model.specs.Starts.{IsSound};
 ghost use Rattle.place_model.specs.declared.history.Entry.TheVariants.{Call as Called, Stop};
 ghost use Rattle.place_model.specs.declared.place.Place.TheVariants.{Never};
-ghost use Rattle.resp_wire.specs.declared.value.Value.{Value};
+ghost use Rattle.wire_values.specs.declared.value.Value.{Value};
 ghost use Rattle.std.specs.FinMap.{get};
 ghost use Rattle.std.specs.Prelude.{◌≡◌, true, [], ◌∷◌, ℕ, List, Some};
 

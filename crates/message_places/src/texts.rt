@@ -1,9 +1,9 @@
 //! Celery's texts keep what the laws of places need of texts.
 ghost use Rattle.manner_laws.specs.Cursor.{IsReadable};
 ghost use Rattle.manner_laws.specs.LayoutKeys.{TellsShortExchanges, exchange_of_key};
-ghost use Rattle.place_model.specs.EnvelopeTexts.{plain_setting, texts};
-ghost use Rattle.place_model.specs.Layouts.{Layout, is_layout};
-ghost use Rattle.place_model.specs.Setting.{IsLawful, IsTexts, setting_of};
+ghost use Rattle.command_blocks.specs.EnvelopeTexts.{plain_setting, texts};
+ghost use Rattle.queue_keys.specs.Layouts.{Layout, is_layout};
+ghost use Rattle.command_blocks.specs.Setting.{IsLawful, IsTexts, setting_of};
 ghost use Rattle.std.specs.Prelude.{◌≡◌, true};
 
 /// Tags, envelopes and entries keep their facts, and an envelope's exchange is UTF-8 of at most 255 bytes.

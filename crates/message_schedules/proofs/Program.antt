@@ -1,9 +1,9 @@
 -- What the program's schedules determine.
 use Rattle.std.proofs.Common.{◌≡◌, true, length, ◌≤◌, refl, subst, arith}
-use Rattle.place_model.specs.EnvelopeTexts.{plain_setting, texts}
+use Rattle.command_blocks.specs.EnvelopeTexts.{plain_setting, texts}
 use Rattle.place_model.specs.Histories.{History}
-use Rattle.place_model.specs.Layouts.{is_layout, plain}
-use Rattle.place_model.specs.Names.{Bytes, same}
+use Rattle.queue_keys.specs.Layouts.{is_layout, plain}
+use Rattle.queue_keys.specs.Names.{Bytes, same}
 use Rattle.place_model.specs.Starts.{IsSound}
 use Rattle.place_model.specs.declared.heard.Heard.{Heard}
 use Rattle.place_theorem.proofs.Sound.{placed_one}

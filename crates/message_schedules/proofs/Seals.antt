@@ -14,10 +14,10 @@ use Rattle.envelope.specs.Tags.{is_tag, tag, tag_number, tag_of_text, tag_text}
 use Rattle.envelope.proofs.SortedTrees.{read_sorted}
 use Rattle.envelope.proofs.TagTexts.{tag_ascii, tag_of_text-tag_text}
 use Rattle.json_texts.proofs.Trees.{reads_texts}
-use Rattle.place_model.specs.EnvelopeTexts.{tag_as_written, texts, way_of, way_said, written_tag}
-use Rattle.place_model.specs.Names.{Bytes}
-use Rattle.place_model.specs.Setting.{Way}
-use Rattle.place_model.proofs.Basics.{same-refl}
+use Rattle.command_blocks.specs.EnvelopeTexts.{tag_as_written, texts, way_of, way_said, written_tag}
+use Rattle.queue_keys.specs.Names.{Bytes}
+use Rattle.command_blocks.specs.Setting.{Way}
+use Rattle.queue_keys.proofs.Basics.{same-refl}
 use Rattle.schedule_model.specs.Drafts.{are_told, are_texts, are_within, arguments_of, if_sealed, sealed_task, task_tree}
 use Rattle.schedule_model.specs.Programs.{program_craft}
 use Rattle.schedule_model.proofs.ArgumentTrees.{IsArguments, arguments_known}

@@ -21,7 +21,7 @@ use Rattle.envelope.proofs.SealedTrees.{content_back}
 use Rattle.envelope.proofs.TextsBack.{read-compact_text}
 use Rattle.envelope_laws.proofs.Written.{compact_utf8}
 use Rattle.json_texts.specs.Trees.{HasTexts, MembersHaveTexts}
-use Rattle.place_model.specs.Names.{Bytes}
+use Rattle.queue_keys.specs.Names.{Bytes}
 use Rattle.schedule_model.specs.Drafts.{content_tree, headers_tree, no_embed, task_tree}
 use Rattle.message_schedules.proofs.Octets.{utf8_bytes}
 

@@ -1,7 +1,7 @@
 -- What is known of the histories that the program's schedules determine.
 use Rattle.std.specs.Prelude.{◌≡◌, true, length}
-use Rattle.place_model.specs.EnvelopeTexts.{plain_setting}
-use Rattle.place_model.specs.Names.{Bytes}
+use Rattle.command_blocks.specs.EnvelopeTexts.{plain_setting}
+use Rattle.queue_keys.specs.Names.{Bytes}
 use Rattle.schedule_model.specs.Costs.{is_full, total_cost}
 use Rattle.schedule_model.specs.Desk.{Desk}
 use Rattle.schedule_model.specs.EachPlaced.{IsEachPlaced}

@@ -2,18 +2,18 @@
 use Rattle.std.proofs.Common.{◌≡◌, ℕ, List, Bool, refl, ap, ◌∙◌, length}
 use Rattle.std.specs.Prelude.{codes, nat_lt}
 use Rattle.std.specs.FinMap.{insert}
-use Rattle.resp_wire.specs.declared.value.Value.{Value}
-use Rattle.mini_store.specs.Words.{Bytes}
-use Rattle.mini_store.specs.Replies.{channel_answer}
-use Rattle.mini_store.specs.Keys.{Keys}
-use Rattle.mini_store.specs.Connections.{Conns, conn, joined, without}
-use Rattle.mini_store.specs.Commands.{is_queued}
-use Rattle.mini_store.specs.Store.{State, subscribe, unsubscribe, to_queue, inside}
-use Rattle.mini_store.specs.declared.command.Command.{Command}
-use Rattle.mini_store.specs.declared.command.Command.TheVariants.{Exec, Discard, Faulty}
-use Rattle.mini_store.specs.declared.command.Fault.{Fault}
-use Rattle.mini_store.specs.declared.connection.Queue.{Queue}
-use Rattle.mini_store.specs.declared.connection.Conn.{Conn}
+use Rattle.wire_values.specs.declared.value.Value.{Value}
+use Rattle.store_model.specs.Words.{Bytes}
+use Rattle.store_model.specs.Replies.{channel_answer}
+use Rattle.store_model.specs.Keys.{Keys}
+use Rattle.store_model.specs.Connections.{Conns, conn, joined, without}
+use Rattle.store_model.specs.Commands.{is_queued}
+use Rattle.store_model.specs.Store.{State, subscribe, unsubscribe, to_queue, inside}
+use Rattle.store_model.specs.declared.command.Command.{Command}
+use Rattle.store_model.specs.declared.command.Command.TheVariants.{Exec, Discard, Faulty}
+use Rattle.store_model.specs.declared.command.Fault.{Fault}
+use Rattle.store_model.specs.declared.connection.Queue.{Queue}
+use Rattle.store_model.specs.declared.connection.Conn.{Conn}
 
 module _ (keys : Keys) (conns : Conns) (c : ℕ) (x : Bytes) where
   -- the connection with other channels, and the answer

@@ -1,15 +1,15 @@
 //! What the store knows of its connections.
-ghost use Rattle.mini_store.specs.Connections.{Conns, broken_queue, cleared, conn, delivered, longer_queue, queue_length, with_broken, with_command, hearing, hears, hit, no_conn, told, touch, touch_due, touched};
-ghost use Rattle.mini_store.specs.Keys.{due_keys};
-ghost use Rattle.mini_store.specs.Replies.{message};
+ghost use Rattle.store_model.specs.Connections.{Conns, broken_queue, cleared, conn, delivered, longer_queue, queue_length, with_broken, with_command, hearing, hears, hit, no_conn, told, touch, touch_due, touched};
+ghost use Rattle.store_model.specs.Keys.{due_keys};
+ghost use Rattle.store_model.specs.Replies.{message};
 ghost use Rattle.std.specs.BTreeMap.{IsOrdered};
 ghost use Rattle.std.specs.FinMap as map;
 ghost use Rattle.std.specs.Ordering.{nat_cmp};
 ghost use Rattle.std.specs.Prelude.{◌≡◌, [], ◌∷◌, ◌++◌, IfOk, IsTrue, None, OnOk, is_some, length, map as mapped};
 
-use crate::keyspace::Keyspace;
-use crate::{Command, Conn, Queue};
-use resp_wire::{Bytes, Value, Values};
+use store_keys::keyspace::Keyspace;
+use store_model::{Command, Conn, Queue};
+use wire_values::{Bytes, Value, Values};
 use sqlite_items::Items;
 use std::alloc::{AllocError, Global};
 use std::collections::BTreeMap;
@@ -24,8 +24,8 @@ pub struct Connections {
 }
 
 impl Model for Connections {
-    ghost use Rattle.mini_store.specs.Connections.{Conns};
-    ghost use Rattle.mini_store.specs.Store.{conns_code};
+    ghost use Rattle.store_model.specs.Connections.{Conns};
+    ghost use Rattle.store_model.specs.Store.{conns_code};
     ghost use Rattle.std.specs.FinMap as map;
 
     ghost Value = { Conns };

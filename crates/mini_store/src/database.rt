@@ -1,21 +1,21 @@
 //! The keys and the connections, and what a command of a connection does to them.
-ghost use Rattle.mini_store.specs.Commands.{is_queued};
-ghost use Rattle.mini_store.specs.Connections.{Conns, cleared, conn, joined, posted, touched, with_queue, without};
-ghost use Rattle.mini_store.specs.Keys.{Keys};
-ghost use Rattle.mini_store.specs.Replies.{aborted, channel_answer, done, full, not_inside, queued};
-ghost use Rattle.mini_store.specs.Store.{State, answer_to, apply_of, discard, empty_state, executed, finds, gone_of, heard_plain, inside, is_heard, multi, plain, quiet, ready_of, refused, run_all, run_one, run_queue, serve, settled, set_conn, spoken, subscribe, to_queue, unsubscribe, unwatch, watch};
-ghost use Rattle.mini_store.specs.Words.{brpop_of, command_of, upper_byte};
+ghost use Rattle.store_model.specs.Commands.{is_queued};
+ghost use Rattle.store_model.specs.Connections.{Conns, cleared, conn, joined, posted, touched, with_queue, without};
+ghost use Rattle.store_model.specs.Keys.{Keys};
+ghost use Rattle.store_model.specs.Replies.{aborted, channel_answer, done, full, not_inside, queued};
+ghost use Rattle.store_model.specs.Store.{State, answer_to, apply_of, discard, empty_state, executed, finds, gone_of, heard_plain, inside, is_heard, multi, plain, quiet, ready_of, refused, run_all, run_one, run_queue, serve, settled, set_conn, spoken, subscribe, to_queue, unsubscribe, unwatch, watch};
+ghost use Rattle.store_model.specs.Words.{brpop_of, command_of, upper_byte};
 ghost use Rattle.std.specs.FinMap.{insert, remove};
 ghost use Rattle.std.specs.Prelude.{◌≡◌, ◌<◌, ◌^◌, [], ◌∷◌, ◌++◌, ℕ, IfOk, IsTrue, None, OnOk, Some, bytes_eq, codes, false, is_some, length, map as mapped, nat_lt, true};
 
 use crate::conns::Connections;
-use crate::effect::{error, number, pair, status};
-use crate::integer::natural;
-use crate::keyspace::Keyspace;
+use store_keys::effect::{error, number, pair, status};
+use store_words::integer::natural;
+use store_keys::keyspace::Keyspace;
 use crate::run::{fault_answer, is_queued, run};
-use crate::words::{command_of, upper_byte};
-use crate::{Command, Conn, Queue, Reply};
-use resp_wire::{Bytes, Value, Values, Words};
+use store_words::words::{command_of, upper_byte};
+use store_model::{Command, Conn, Queue, Reply};
+use wire_values::{Bytes, Value, Values, Words};
 use sqlite_items::Items;
 use std::alloc::{AllocError, Global};
 use std::marker::Model;
@@ -30,7 +30,7 @@ pub struct Database {
 }
 
 impl Model for Database {
-    ghost use Rattle.mini_store.specs.Store.{State, state_code};
+    ghost use Rattle.store_model.specs.Store.{State, state_code};
 
     ghost Value = { State };
 
@@ -451,7 +451,7 @@ impl Database {
     }
 
     /// A command of a connection, at a moment at which nothing is due.
-    #[tactic(auto, unfolding(crate::specs::Store::answer_to))]
+    #[tactic(auto, unfolding(store_model::specs::Store::answer_to))]
     fn answer(
         &mut self,
         alloc: Global,

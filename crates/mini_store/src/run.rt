@@ -1,17 +1,18 @@
 //! What each command does to the keys.
-ghost use Rattle.mini_store.specs.Commands.{is_queued, run, select_answer};
-ghost use Rattle.mini_store.specs.Connections.{around, delivered, hearing, posted};
-ghost use Rattle.mini_store.specs.Keys.{out};
-ghost use Rattle.mini_store.specs.Replies.{fault_text, number};
-ghost use Rattle.mini_store.specs.Texts.{until};
+ghost use Rattle.store_model.specs.Commands.{is_queued, run, select_answer};
+ghost use Rattle.store_model.specs.Connections.{around, delivered, hearing, posted};
+ghost use Rattle.store_model.specs.Keys.{out};
+ghost use Rattle.store_model.specs.Replies.{fault_text, number};
+ghost use Rattle.store_model.specs.Texts.{until};
 ghost use Rattle.std.specs.FinMap.{entries};
 ghost use Rattle.std.specs.Prelude.{◌≡◌, ◌<◌, ◌^◌, [], IfOk, OnOk};
 
 use crate::conns::Connections;
-use crate::effect::{Effect, error, number, status};
-use crate::keyspace::Keyspace;
-use crate::{Command, Fault, hashes, lists, sets, sorted_sets, texts};
-use resp_wire::{Bytes, Value};
+use store_keys::effect::{Effect, error, number, status};
+use store_keys::keyspace::Keyspace;
+use store_keys::{hashes, lists, sets, sorted_sets, texts};
+use store_model::{Command, Fault};
+use wire_values::{Bytes, Value};
 use std::alloc::{AllocError, Global};
 
 /// The answer to a faulty spelling.

@@ -1,11 +1,12 @@
 //! The store that clients share.
-ghost use Rattle.mini_store.specs.Store.{apply_of, empty_state, gone_of, ready_of};
-ghost use Rattle.mini_store.specs.Words.{IsWithinLimits};
+ghost use Rattle.store_model.specs.Store.{apply_of, empty_state, gone_of, ready_of};
+ghost use Rattle.store_model.specs.Words.{IsWithinLimits};
 ghost use Rattle.std.specs.Prelude.{◌≡◌, ◌<◌, ◌^◌, IfOk, IsErr, IsTrue, OnErr, OnOk, false, true};
 
 use crate::database::Database;
-use crate::{Keyspace, Reply};
-use resp_wire::Words;
+use store_keys::Keyspace;
+use store_model::Reply;
+use wire_values::Words;
 use std::alloc::{AllocError, Global};
 use std::marker::Model;
 
@@ -20,7 +21,7 @@ pub struct Store {
 }
 
 impl Model for Store {
-    ghost use Rattle.mini_store.specs.Store.{StoreView, view_code};
+    ghost use Rattle.store_model.specs.Store.{StoreView, view_code};
 
     ghost Value = { StoreView };
 

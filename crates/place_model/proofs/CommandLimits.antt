@@ -3,10 +3,10 @@ use Rattle.std.proofs.Common.{◌≡◌, ℕ, zero, suc, ◌<◌, ◌≤◌, Lis
 use Rattle.std.specs.Prelude.{nat_lt}
 use Rattle.std.proofs.lemmas.Bool.Decides.{nat_tests}
 use Rattle.std.proofs.lemmas.List.Elements.{All-nil, All-cons}
-use Rattle.mini_store.specs.Words.{IsWithinLimits}
-use Rattle.place_model.specs.Layouts.{plain}
-use Rattle.place_model.specs.Names.{Bytes, all_free, has_length, is_name, is_reserved}
-use Rattle.place_model.specs.QueueKeys.{queue_key, step_mark}
+use Rattle.store_model.specs.Words.{IsWithinLimits}
+use Rattle.queue_keys.specs.Layouts.{plain}
+use Rattle.queue_keys.specs.Names.{Bytes, all_free, has_length, is_name, is_reserved}
+use Rattle.queue_keys.specs.QueueKeys.{queue_key, step_mark}
 
 -- the word is short enough
 abbrev pub IsShort : Bytes → Type 0

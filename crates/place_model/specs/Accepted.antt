@@ -1,12 +1,12 @@
 -- Accepted messages, in the order of their first push, and where each is.
 use Rattle.std.specs.Prelude.{not, List, [], ◌∷◌, filter, map}
 use Rattle.std.specs.List.{flat_map}
-use Rattle.mini_store.specs.Words.{command_of}
+use Rattle.store_model.specs.Words.{command_of}
 use Rattle.place_model.specs.Histories.{History}
-use Rattle.place_model.specs.Names.{Bytes, same}
+use Rattle.queue_keys.specs.Names.{Bytes, same}
 use Rattle.place_model.specs.PlaceOf.{place_of}
 use Rattle.place_model.specs.Seen.{push_by}
-use Rattle.place_model.specs.Setting.{Setting}
+use Rattle.command_blocks.specs.Setting.{Setting}
 use Rattle.place_model.specs.declared.heard.Heard.{Heard}
 use Rattle.place_model.specs.declared.history.Entry.{Entry}
 use Rattle.place_model.specs.declared.history.Entry.TheVariants.{Call, Heard as Noted, Stop}

@@ -1,12 +1,12 @@
 -- The five counts of a message's places.
 use Rattle.std.specs.Prelude.{◌≡◌, ℕ, suc, zero, ◌+◌, ◌≤◌, Bool, false, ◌&&◌, List, [], ◌∷◌, is_some, Option, None, Some, if◌then◌else◌}
 use Rattle.std.specs.FinMap.{get, entries}
-use Rattle.mini_store.specs.Keys.{Keys, value_at}
-use Rattle.mini_store.specs.declared.held.Held.{Held}
-use Rattle.mini_store.specs.declared.held.Stored.{Stored}
-use Rattle.mini_store.specs.declared.held.Stored.TheVariants.{Items, Hash, Scores}
-use Rattle.place_model.specs.Names.{Bytes, same}
-use Rattle.place_model.specs.Setting.{Setting, is_queue}
+use Rattle.store_model.specs.Keys.{Keys, value_at}
+use Rattle.store_model.specs.declared.held.Held.{Held}
+use Rattle.store_model.specs.declared.held.Stored.{Stored}
+use Rattle.store_model.specs.declared.held.Stored.TheVariants.{Items, Hash, Scores}
+use Rattle.queue_keys.specs.Names.{Bytes, same}
+use Rattle.command_blocks.specs.Setting.{Setting, is_queue}
 use Rattle.place_model.specs.Histories.{History, Client, World, after}
 use Rattle.place_model.specs.Seen.{Ran, seen, tag_weight, deletes, queued_pushes}
 

@@ -2,10 +2,10 @@
 use Rattle.std.specs.Prelude.{◌≡◌, ℕ, Bool, true, false, List, [], ◌∷◌, ◌++◌, Option, None, Some, ◌==◌, if◌then◌else◌}
 use Rattle.std.specs.Ordering.{nat_cmp}
 use Rattle.std.specs.FinMap.{FinMap, get, insert, empty}
-use Rattle.mini_store.specs.Keys.{Keys}
-use Rattle.mini_store.specs.Store.{State, apply_of, gone_of}
-use Rattle.place_model.specs.QueueKeys.{IsAway, Differ}
-use Rattle.place_model.specs.Calls.{Call, call}
+use Rattle.store_model.specs.Keys.{Keys}
+use Rattle.store_model.specs.Store.{State, apply_of, gone_of}
+use Rattle.queue_keys.specs.QueueKeys.{IsAway, Differ}
+use Rattle.command_blocks.specs.Calls.{Call, call}
 use Rattle.place_model.specs.declared.history.Entry.{Entry}
 use Rattle.place_model.specs.declared.history.Entry.TheVariants.{Call as Called, Heard, Stop}
 

@@ -1,16 +1,16 @@
 -- Where the envelopes of a tag come from.
 use Rattle.std.specs.Prelude.{◌≡◌, ◌⊎◌, ℕ, ℤ, true, List, [], ◌∷◌, Some}
 use Rattle.std.specs.FinMap.{get}
-use Rattle.resp_wire.specs.declared.value.Value.{Value}
-use Rattle.mini_store.specs.Words.{command_of}
-use Rattle.mini_store.specs.Keys.{Keys}
-use Rattle.mini_store.specs.declared.command.Command.{Command}
-use Rattle.mini_store.specs.declared.command.Command.TheVariants.{Lpush}
-use Rattle.place_model.specs.Names.{Bytes}
-use Rattle.place_model.specs.QueueKeys.{Among}
-use Rattle.place_model.specs.Answers.{number_of}
-use Rattle.place_model.specs.Setting.{Setting, is_queue}
-use Rattle.place_model.specs.Calls.{Call}
+use Rattle.wire_values.specs.declared.value.Value.{Value}
+use Rattle.store_model.specs.Words.{command_of}
+use Rattle.store_model.specs.Keys.{Keys}
+use Rattle.store_model.specs.declared.command.Command.{Command}
+use Rattle.store_model.specs.declared.command.Command.TheVariants.{Lpush}
+use Rattle.queue_keys.specs.Names.{Bytes}
+use Rattle.queue_keys.specs.QueueKeys.{Among}
+use Rattle.command_blocks.specs.Answers.{number_of}
+use Rattle.command_blocks.specs.Setting.{Setting, is_queue}
+use Rattle.command_blocks.specs.Calls.{Call}
 use Rattle.place_model.specs.Histories.{History, World, Client, after}
 use Rattle.place_model.specs.Counts.{entry_at}
 use Rattle.place_model.specs.Starts.{elements_at}

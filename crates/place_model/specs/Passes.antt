@@ -1,16 +1,16 @@
 -- What a pass reads, and what becomes of it.
 use Rattle.std.specs.Prelude.{nat_le, ◌-◌, pos, negsuc, if◌then◌else◌, ◌≡◌, ℕ, ◌+◌, ℤ, List, [], ◌∷◌, Option, Some, ◌<◌, ◌^◌, length}
-use Rattle.mini_store.specs.Keys.{value_at}
-use Rattle.mini_store.specs.Store.{settled}
-use Rattle.mini_store.specs.SortedSets.{ranks}
-use Rattle.mini_store.specs.declared.held.Stored.{Stored}
-use Rattle.mini_store.specs.declared.held.Stored.TheVariants.{Scores}
-use Rattle.place_model.specs.Names.{Bytes}
-use Rattle.place_model.specs.Setting.{Setting}
-use Rattle.place_model.specs.ReturnBlocks.{ReturnEnd, Moved, Gone, Stayed}
-use Rattle.place_model.specs.PassBlocks.{tags_among}
+use Rattle.store_model.specs.Keys.{value_at}
+use Rattle.store_model.specs.Store.{settled}
+use Rattle.store_model.specs.SortedSets.{ranks}
+use Rattle.store_model.specs.declared.held.Stored.{Stored}
+use Rattle.store_model.specs.declared.held.Stored.TheVariants.{Scores}
+use Rattle.queue_keys.specs.Names.{Bytes}
+use Rattle.command_blocks.specs.Setting.{Setting}
+use Rattle.command_blocks.specs.ReturnBlocks.{ReturnEnd, Moved, Gone, Stayed}
+use Rattle.command_blocks.specs.PassBlocks.{tags_among}
 use Rattle.place_model.specs.Histories.{World, History, IsHistoryPrefix, after}
-use Rattle.place_model.specs.Calls.{Call}
+use Rattle.command_blocks.specs.Calls.{Call}
 
 -- the members with scores between these bounds of what stands at a key, the highest first
 abbrev pub ranks_of : ℤ → ℤ → ℕ → ℕ → Option Stored → List Bytes

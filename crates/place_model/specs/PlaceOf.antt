@@ -1,8 +1,8 @@
 -- The one place of a message, as it is reported.
 use Rattle.std.specs.Prelude.{◌≡◌, ◌⊎◌, ℕ, suc, zero, ◌+◌, List, [], ◌∷◌, Option, None, Some}
 use Rattle.std.specs.FinMap.{entries}
-use Rattle.place_model.specs.Names.{Bytes}
-use Rattle.place_model.specs.Setting.{Setting}
+use Rattle.queue_keys.specs.Names.{Bytes}
+use Rattle.command_blocks.specs.Setting.{Setting}
 use Rattle.place_model.specs.Histories.{History, World, and_then, after}
 use Rattle.place_model.specs.Counts.{in_held, table_count, hand_weight, loss_weight, end_count, direct_pushes, copy_count, start_count}
 use Rattle.place_model.specs.declared.history.Entry.TheVariants.{Stop}

@@ -2,7 +2,7 @@
 use Rattle.std.specs.Prelude.{List, map}
 use Rattle.envelope.specs.Tags.{tag_text}
 use Rattle.envelope.specs.declared.tag.Tag.{Tag}
-use Rattle.place_model.specs.Names.{Bytes}
+use Rattle.queue_keys.specs.Names.{Bytes}
 use Rattle.place_model.specs.declared.place.Place.{Place}
 
 -- a tag by its text, with its place

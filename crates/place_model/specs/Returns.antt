@@ -1,19 +1,19 @@
 -- What a return leaves: the message is out of the table, and in each of its queues.
 use Rattle.std.specs.Prelude.{◌≡◌, ◌⊎◌, ℕ, true, false, List, [], ◌∷◌, ◌++◌, None, Some}
 use Rattle.std.specs.FinMap.{get}
-use Rattle.mini_store.specs.Replies.{bulks}
-use Rattle.mini_store.specs.Keys.{Keys, is_due}
-use Rattle.mini_store.specs.declared.command.Command.{Command}
-use Rattle.mini_store.specs.declared.command.Command.TheVariants.{Lpush, Rpush, Zrem, Hdel}
-use Rattle.place_model.specs.Names.{Bytes}
-use Rattle.place_model.specs.QueueKeys.{IsAway, Among}
-use Rattle.place_model.specs.Setting.{Setting}
-use Rattle.place_model.specs.ReturnBlocks.{Carries}
+use Rattle.store_model.specs.Replies.{bulks}
+use Rattle.store_model.specs.Keys.{Keys, is_due}
+use Rattle.store_model.specs.declared.command.Command.{Command}
+use Rattle.store_model.specs.declared.command.Command.TheVariants.{Lpush, Rpush, Zrem, Hdel}
+use Rattle.queue_keys.specs.Names.{Bytes}
+use Rattle.queue_keys.specs.QueueKeys.{IsAway, Among}
+use Rattle.command_blocks.specs.Setting.{Setting}
+use Rattle.command_blocks.specs.ReturnBlocks.{Carries}
 use Rattle.place_model.specs.Seen.{Seen}
 use Rattle.place_model.specs.Counts.{entry_at, is_field, is_member}
 use Rattle.place_model.specs.Starts.{elements_at}
-use Rattle.place_model.specs.declared.block.Side.{Side}
-use Rattle.place_model.specs.declared.block.Side.TheVariants.{Left, Right}
+use Rattle.command_blocks.specs.declared.block.Side.{Side}
+use Rattle.command_blocks.specs.declared.block.Side.TheVariants.{Left, Right}
 
 -- the push at this side
 abbrev pub push_command : Side → Bytes → Bytes → Command

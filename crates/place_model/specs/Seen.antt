@@ -1,14 +1,14 @@
 -- What is read off a client's calls, one after the other.
 use Rattle.std.specs.Prelude.{ℕ, zero, suc, ◌+◌, ℤ, pos, Bool, true, false, ◌&&◌, ◌||◌, List, [], ◌∷◌, ◌++◌, Option, None, Some, if◌then◌else◌}
-use Rattle.resp_wire.specs.declared.value.Value.{Value}
-use Rattle.resp_wire.specs.declared.value.Value.TheVariants.{NullArray}
-use Rattle.mini_store.specs.Words.{command_of}
-use Rattle.mini_store.specs.declared.command.Command.{Command}
-use Rattle.mini_store.specs.declared.command.Command.TheVariants.{Lpush, Rpush, Brpop, Multi, Exec, Hdel, Smembers}
-use Rattle.place_model.specs.Names.{Bytes, same}
-use Rattle.place_model.specs.Answers.{number_of, items_of, pair_of}
-use Rattle.place_model.specs.Setting.{Setting, is_queue}
-use Rattle.place_model.specs.Calls.{Call}
+use Rattle.wire_values.specs.declared.value.Value.{Value}
+use Rattle.wire_values.specs.declared.value.Value.TheVariants.{NullArray}
+use Rattle.store_model.specs.Words.{command_of}
+use Rattle.store_model.specs.declared.command.Command.{Command}
+use Rattle.store_model.specs.declared.command.Command.TheVariants.{Lpush, Rpush, Brpop, Multi, Exec, Hdel, Smembers}
+use Rattle.queue_keys.specs.Names.{Bytes, same}
+use Rattle.command_blocks.specs.Answers.{is_one, number_of, items_of, pair_of}
+use Rattle.command_blocks.specs.Setting.{Setting, is_queue}
+use Rattle.command_blocks.specs.Calls.{Call}
 
 -- 1 where it is this tag
 abbrev pub tag_weight : Bytes → Option Bytes → ℕ
@@ -98,11 +98,6 @@ unfoldable pub seen : Setting → List Call → Seen
 seen σ l = seen_from σ nothing_seen l
 
 -- ---- transactions
-
--- the answer is the integer 1
-abbrev pub is_one : Option ℤ → Bool
-is_one (Some (pos (suc zero))) = true
-is_one other = false
 
 -- the command took t out of the table
 abbrev pub deletes_one : Setting → Bytes → Command → Value → Bool

@@ -1,7 +1,7 @@
 -- Histories of the code as histories of the definitions.
 use Rattle.std.specs.Prelude.{◌≡◌, ℕ, Bool, false, ◌==◌, ◌||◌, if◌then◌else◌, List, [], ◌∷◌, ◌++◌, Option, None, Some}
 use Rattle.std.specs.FinMap.{empty}
-use Rattle.place_model.specs.QueueKeys.{Among}
+use Rattle.queue_keys.specs.QueueKeys.{Among}
 use Rattle.place_model.specs.Histories.{History, connections}
 use Rattle.place_model.specs.declared.heard.Heard.{Heard}
 use Rattle.place_model.specs.declared.history.Entry.{Entry}

@@ -1,14 +1,14 @@
 -- Sound starts, and sound histories.
 use Rattle.std.specs.Prelude.{◌≡◌, ℕ, ◌≤◌, true, List, [], Option, None, Some}
 use Rattle.std.specs.FinMap.{get}
-use Rattle.mini_store.specs.Keys.{Keys, value_at, expiry_of}
-use Rattle.mini_store.specs.declared.held.Stored.{Stored}
-use Rattle.mini_store.specs.declared.held.Stored.TheVariants.{Items, Hash, Scores}
-use Rattle.place_model.specs.Names.{Bytes}
-use Rattle.place_model.specs.QueueKeys.{Among}
-use Rattle.place_model.specs.Setting.{Setting, is_queue}
-use Rattle.place_model.specs.ReturnBlocks.{Carries}
-use Rattle.place_model.specs.Blocks.{IsMannered}
+use Rattle.store_model.specs.Keys.{Keys, value_at, expiry_of}
+use Rattle.store_model.specs.declared.held.Stored.{Stored}
+use Rattle.store_model.specs.declared.held.Stored.TheVariants.{Items, Hash, Scores}
+use Rattle.queue_keys.specs.Names.{Bytes}
+use Rattle.queue_keys.specs.QueueKeys.{Among}
+use Rattle.command_blocks.specs.Setting.{Setting, is_queue}
+use Rattle.command_blocks.specs.ReturnBlocks.{Carries}
+use Rattle.command_blocks.specs.Blocks.{IsMannered}
 use Rattle.place_model.specs.Histories.{History, calls_of, IsLegal, IsTable}
 use Rattle.place_model.specs.Counts.{entry_at, is_field, is_member, start_count}
 

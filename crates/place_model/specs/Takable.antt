@@ -1,6 +1,6 @@
 -- What a store takes of a history's entries.
 use Rattle.std.specs.Prelude.{◌^◌, ◌<◌, List, All}
-use Rattle.mini_store.specs.Words.{IsWithinLimits}
+use Rattle.store_model.specs.Words.{IsWithinLimits}
 use Rattle.place_model.specs.declared.history.Entry.{Entry}
 use Rattle.place_model.specs.declared.history.Entry.TheVariants.{Call, Heard, Stop}
 

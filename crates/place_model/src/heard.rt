@@ -1,6 +1,6 @@
 //! What a worker notes of its messages.
 use envelope::Tag;
-use resp_wire::Bytes;
+use wire_values::Bytes;
 
 /// How a task ended.
 #[derive(Debug, Drop)]

@@ -3,8 +3,8 @@ ghost use Rattle.std.specs.Prelude.{◌≡◌, [], ◌∷◌, OnOk, OnErr};
 ghost use Rattle.place_model.specs.Takable.{AreTakable};
 
 use crate::Heard;
-use mini_store::Reply;
-use resp_wire::{List, Words};
+use store_model::Reply;
+use wire_values::{List, Words};
 use std::alloc::{AllocError, Global};
 
 /// An entry of a history: a call of a connection, a note of its client, or its end. `N` is the type of notes.
@@ -41,7 +41,7 @@ pub struct History {
 impl History {
     ghost use Rattle.std.specs.FinMap.{empty};
     ghost use Rattle.place_model.specs.Histories.{and_then, conn_of, connections, seeds};
-    ghost use Rattle.place_model.specs.QueueKeys.{IsAway};
+    ghost use Rattle.queue_keys.specs.QueueKeys.{IsAway};
     ghost use Rattle.place_model.specs.Shown.{IsRunning, and_client, history_of, seed_of};
     ghost use Rattle.place_model.specs.Takable.{IsTakable};
 

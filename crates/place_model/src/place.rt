@@ -1,5 +1,5 @@
 //! Where a message is.
-use resp_wire::Bytes;
+use wire_values::Bytes;
 
 /// The one place of a message, by its delivery tag.
 #[derive(Debug, Drop)]

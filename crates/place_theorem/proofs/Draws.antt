@@ -1,29 +1,29 @@
 -- The tags that a client draws: a second machine, which knows how many it has drawn and what it published under the last.
 use Rattle.std.proofs.Common.{◌++◌, List, None, Option, Some, [], ap, append-nil, append_assoc, arith, codes, decimal, false, inl, inr, pos, refl, subst, suc, sym, true, ℕ, ℤ, ◌∙◌, ◌∷◌, ◌≡◌, ◌≤◌, ◌⊎◌}
-use Rattle.resp_wire.specs.declared.value.Value.{Value}
-use Rattle.resp_wire.specs.declared.value.Value.TheVariants.{Integer, NullArray}
-use Rattle.mini_store.specs.Integers.{integer_of, natural_of, seconds_of}
-use Rattle.mini_store.specs.Replies.{queued}
-use Rattle.mini_store.specs.Store.{quiet}
-use Rattle.mini_store.specs.Words.{Words, brpop_until, command_of, expire_of, named, range_of, zadd_of}
-use Rattle.mini_store.specs.declared.command.Command.{Command}
-use Rattle.mini_store.specs.declared.command.Command.TheVariants.{Lpush}
-use Rattle.place_model.specs.Answers.{integers, number_of}
-use Rattle.place_model.specs.Bindings.{member}
-use Rattle.place_model.specs.Blocks.{Announces, Answered, AreBlocks, Declare, End, IsBlock, IsNeutral, IsNeutralBlock, Kind, Limits, Measures, Neutral, Pass, Pings, Pop, Publish, Publish_short, Receives, Replies, Return, Selects, Subscribes, Undeclare, Unsubscribes, drawn, drawn_by, passed}
-use Rattle.place_model.specs.Calls.{Call, call, concat}
+use Rattle.wire_values.specs.declared.value.Value.{Value}
+use Rattle.wire_values.specs.declared.value.Value.TheVariants.{Integer, NullArray}
+use Rattle.store_model.specs.Integers.{integer_of, natural_of, seconds_of}
+use Rattle.store_model.specs.Replies.{queued}
+use Rattle.store_model.specs.Store.{quiet}
+use Rattle.store_model.specs.Words.{Words, brpop_until, command_of, expire_of, named, range_of, zadd_of}
+use Rattle.store_model.specs.declared.command.Command.{Command}
+use Rattle.store_model.specs.declared.command.Command.TheVariants.{Lpush}
+use Rattle.command_blocks.specs.Answers.{integers, number_of}
+use Rattle.queue_keys.specs.Bindings.{member}
+use Rattle.command_blocks.specs.Blocks.{Announces, Answered, AreBlocks, Declare, End, IsBlock, IsNeutral, IsNeutralBlock, Kind, Limits, Measures, Neutral, Pass, Pings, Pop, Publish, Publish_short, Receives, Replies, Return, Selects, Subscribes, Undeclare, Unsubscribes, drawn, drawn_by, passed}
+use Rattle.command_blocks.specs.Calls.{Call, call, concat}
 use Rattle.place_model.specs.Histories.{next}
 use Rattle.place_model.specs.Identity.{IsPush, PushedIn}
-use Rattle.place_model.specs.Names.{Bytes}
-use Rattle.place_model.specs.PassBlocks.{All_returned, Ended_early, Foreign, IsPassBlock, IsRelease, IsReturns, Is_held, Own, PassEnd, Ran as Ran_pass, Returned, Returned_until, tags_among}
-use Rattle.place_model.specs.ReturnBlocks.{Again, Eighth, IsTries, Missing, Nowhere, ReturnEnd, Try, Useless, Whole as Whole_try, asking, leaving, queued_calls, whole_try}
-use Rattle.place_model.specs.RouteBlocks.{Asked, IsDeclareBlock, IsPublishBlock, IsShortPublish, Named, Plain, Told, direct_calls}
+use Rattle.queue_keys.specs.Names.{Bytes}
+use Rattle.command_blocks.specs.PassBlocks.{All_returned, Ended_early, Foreign, IsPassBlock, IsRelease, IsReturns, Is_held, Own, PassEnd, Ran as Ran_pass, Returned, Returned_until, tags_among}
+use Rattle.command_blocks.specs.ReturnBlocks.{Again, Eighth, IsTries, Missing, Nowhere, ReturnEnd, Try, Useless, Whole as Whole_try, asking, leaving, queued_calls, whole_try}
+use Rattle.command_blocks.specs.RouteBlocks.{Asked, IsDeclareBlock, IsPublishBlock, IsShortPublish, Named, Plain, Told, direct_calls}
 use Rattle.place_model.specs.Seen.{seen}
-use Rattle.place_model.specs.Setting.{is_queue}
-use Rattle.place_model.specs.TakeBlocks.{Acknowledged, Empty, IsEndBlock, IsPopBlock, Popped, Unreadable, brpop_words}
-use Rattle.place_model.specs.Texts.{difference, token}
-use Rattle.place_model.specs.declared.block.Side.{Side}
-use Rattle.place_model.specs.declared.block.Side.TheVariants.{Left, Right}
+use Rattle.command_blocks.specs.Setting.{is_queue}
+use Rattle.command_blocks.specs.TakeBlocks.{Acknowledged, Empty, IsEndBlock, IsPopBlock, Popped, Unreadable, brpop_words}
+use Rattle.queue_keys.specs.Texts.{difference, token}
+use Rattle.command_blocks.specs.declared.block.Side.{Side}
+use Rattle.command_blocks.specs.declared.block.Side.TheVariants.{Left, Right}
 use Rattle.place_theorem.proofs.Full.{Full}
 use Rattle.place_theorem.proofs.Machine.{reads_brpop}
 use Rattle.place_theorem.proofs.Values.{number_of-Status}

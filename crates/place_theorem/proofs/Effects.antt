@@ -1,31 +1,31 @@
 -- What each step of the machine does.
 use Rattle.std.proofs.Common.{◌++◌, Bool, List, None, Option, Some, [], ap, arith, cond, false, inl, inr, is_some, length, nat_lt, pos, refl, subst, sym, true, unwrap_or, ℕ, ℤ, ◌∙◌, ◌∷◌, ◌≡◌, ◌⊎◌}
 use Rattle.std.specs.FinMap.{get, insert}
-use Rattle.resp_wire.specs.declared.value.Value.{Value}
-use Rattle.resp_wire.specs.declared.value.Value.TheVariants.{Array, Bulk, Error, NullArray, Status}
-use Rattle.mini_store.specs.Commands.{Around, is_queued, run}
-use Rattle.mini_store.specs.Connections.{Conns, around, conn}
-use Rattle.mini_store.specs.Hashes.{field_answer}
-use Rattle.mini_store.specs.Keys.{value_at}
-use Rattle.mini_store.specs.Replies.{bulk, pair, queued}
-use Rattle.mini_store.specs.Store.{State, inside, is_heard, plain, run_all, run_one, run_queue, serve, set_conn, spoken, to_queue}
-use Rattle.mini_store.specs.declared.command.Command.{Command}
-use Rattle.mini_store.specs.declared.command.Command.TheVariants.{Brpop, Del, Discard, Exec, Faulty, Hget, Hset, Lpush, Multi, Ping, Smembers, Subscribe, Unsubscribe, Unwatch, Watch, Zadd}
-use Rattle.mini_store.specs.declared.connection.Conn.{Conn}
-use Rattle.mini_store.specs.declared.connection.Queue.{Queue}
-use Rattle.mini_store.specs.declared.held.Stored.{Stored}
-use Rattle.mini_store.specs.declared.held.Stored.TheVariants.{Hash}
+use Rattle.wire_values.specs.declared.value.Value.{Value}
+use Rattle.wire_values.specs.declared.value.Value.TheVariants.{Array, Bulk, Error, NullArray, Status}
+use Rattle.store_model.specs.Commands.{Around, is_queued, run}
+use Rattle.store_model.specs.Connections.{Conns, around, conn}
+use Rattle.store_model.specs.Hashes.{field_answer}
+use Rattle.store_model.specs.Keys.{value_at}
+use Rattle.store_model.specs.Replies.{bulk, pair, queued}
+use Rattle.store_model.specs.Store.{State, inside, is_heard, plain, run_all, run_one, run_queue, serve, set_conn, spoken, to_queue}
+use Rattle.store_model.specs.declared.command.Command.{Command}
+use Rattle.store_model.specs.declared.command.Command.TheVariants.{Brpop, Del, Discard, Exec, Faulty, Hget, Hset, Lpush, Multi, Ping, Smembers, Subscribe, Unsubscribe, Unwatch, Watch, Zadd}
+use Rattle.store_model.specs.declared.connection.Conn.{Conn}
+use Rattle.store_model.specs.declared.connection.Queue.{Queue}
+use Rattle.store_model.specs.declared.held.Stored.{Stored}
+use Rattle.store_model.specs.declared.held.Stored.TheVariants.{Hash}
 use Rattle.store_laws.proofs.Changes.{Brpopped, brpop_done, lpush_done}
 use Rattle.store_laws.proofs.Connections.{run_one_conns}
 use Rattle.store_laws.proofs.Law.{ToldBy, framed}
-use Rattle.place_model.specs.Answers.{items_of, number_of, pair_of}
+use Rattle.command_blocks.specs.Answers.{items_of, number_of, pair_of}
 use Rattle.place_model.specs.Counts.{count, entry_at, field_of, is_field}
-use Rattle.place_model.specs.Names.{Bytes}
+use Rattle.queue_keys.specs.Names.{Bytes}
 use Rattle.place_model.specs.Returns.{push_commands, take_out}
 use Rattle.place_model.specs.Seen.{Seen, asked_by, hand_by, hand_from, push_with, ran_with, seen, seen_by, since_by, tag_list, tag_weight}
-use Rattle.place_model.specs.Setting.{is_queue}
-use Rattle.place_model.specs.declared.block.Side.{Side}
-use Rattle.place_model.specs.declared.block.Side.TheVariants.{Right}
+use Rattle.command_blocks.specs.Setting.{is_queue}
+use Rattle.command_blocks.specs.declared.block.Side.{Side}
+use Rattle.command_blocks.specs.declared.block.Side.TheVariants.{Right}
 use Rattle.place_theorem.proofs.Full.{Alike, Full, Kinds, QueueKeys, keys_of, tag_short}
 use Rattle.place_theorem.proofs.Machine.{AllApart, Asks, At, Begins, Cursor, Ends, Fails, Finds, Finds_none, Finds_other, Idle, IsTalk, Leaves, Live, Passes_by, Publishes, Queues, Reads, Refuses, Step, Talks, Watches, Whole, Whole_end, Whole_free, Whole_pop, Whole_return, is_aside}
 use Rattle.place_theorem.proofs.Safe.{AskedIs, Effect, MarkOk, Quiet, Safe, SameOurs, SeenIs, Stands, alike_elsewhere, aside_quiet, conn_in, far_safe, far_same, kinds_elsewhere, quiet_safe, same_safe, set_safe, set_stands, table_of, touched_stands}

@@ -1,13 +1,13 @@
 -- The empty start.
 use Rattle.std.proofs.Common.{◌≡◌, ℕ, [], true, if◌then◌else◌, sym, ap, subst, ◌∙◌, arith, None, Some, Option}
 use Rattle.std.specs.FinMap.{get, empty, get-empty, entries}
-use Rattle.resp_wire.specs.Order.{bytes_cmp}
+use Rattle.wire_values.specs.Order.{bytes_cmp}
 use Rattle.store_tables.proofs.Maps.{bytes_total, bytes_anti}
-use Rattle.mini_store.specs.Keys.{value_of, expiry_of}
-use Rattle.mini_store.specs.declared.held.Held.{Held}
-use Rattle.place_model.specs.Names.{Bytes}
-use Rattle.place_model.specs.QueueKeys.{Among}
-use Rattle.place_model.specs.Setting.{Setting}
+use Rattle.store_model.specs.Keys.{value_of, expiry_of}
+use Rattle.store_model.specs.declared.held.Held.{Held}
+use Rattle.queue_keys.specs.Names.{Bytes}
+use Rattle.queue_keys.specs.QueueKeys.{Among}
+use Rattle.command_blocks.specs.Setting.{Setting}
 use Rattle.place_model.specs.Counts.{total, in_held, has_field, has_member, field_of, start_count}
 use Rattle.place_model.specs.Starts.{IsSoundStart, IsListOrNone, IsHashOrNone, IsScoresOrNone, elements_of}
 use Rattle.place_theorem.proofs.Whole.{total-empty}

@@ -6,7 +6,7 @@ use Rattle.std.specs.FinMap.Entries.{by_order, find, is_sorted, put}
 use Rattle.std.specs.Ordering.{eq_by_cmp}
 use Rattle.store_laws.proofs.Maps.{first, less_none, second, tied_same}
 use Rattle.place_model.specs.Counts.{total}
-use Rattle.place_model.specs.Names.{same}
+use Rattle.queue_keys.specs.Names.{same}
 use Rattle.place_model.specs.PlaceOf.{first_with, pick}
 
 pick_zero : {K : Type 0} (n : ℕ) (k : K) (o : Option K) → n ≡ 0 → pick n k o ≡ o

@@ -2,27 +2,27 @@
 use Rattle.std.proofs.Common.{◌++◌, Bool, List, None, Option, Some, [], ap, arith, false, inl, inr, length, nat_cmp, nat_lt, refl, subst, suc, sym, true, ℕ, ℤ, ◌∙◌, ◌∷◌, ◌≡◌, ◌≢◌, ◌⊎◌}
 use Rattle.std.proofs.lemmas.Cmp.{nat_cmp_total}
 use Rattle.std.specs.FinMap.{get, insert, nat_cmp-IsAntisymmetric}
-use Rattle.resp_wire.specs.declared.value.Value.{Value}
-use Rattle.mini_store.specs.Connections.{conn}
-use Rattle.mini_store.specs.Keys.{Keys}
-use Rattle.mini_store.specs.Store.{State, apply_of, gone_of, serve, to_queue}
-use Rattle.mini_store.specs.Words.{Words, command_of}
-use Rattle.mini_store.specs.declared.command.Command.{Command}
-use Rattle.mini_store.specs.declared.command.Command.TheVariants.{Lpush}
-use Rattle.mini_store.specs.declared.connection.Conn.{Conn}
-use Rattle.mini_store.specs.declared.connection.Queue.{Queue}
-use Rattle.mini_store.specs.declared.reply.Reply.{Reply}
+use Rattle.wire_values.specs.declared.value.Value.{Value}
+use Rattle.store_model.specs.Connections.{conn}
+use Rattle.store_model.specs.Keys.{Keys}
+use Rattle.store_model.specs.Store.{State, apply_of, gone_of, serve, to_queue}
+use Rattle.store_model.specs.Words.{Words, command_of}
+use Rattle.store_model.specs.declared.command.Command.{Command}
+use Rattle.store_model.specs.declared.command.Command.TheVariants.{Lpush}
+use Rattle.store_model.specs.declared.connection.Conn.{Conn}
+use Rattle.store_model.specs.declared.connection.Queue.{Queue}
+use Rattle.store_model.specs.declared.reply.Reply.{Reply}
 use Rattle.store_laws.proofs.Law.{altering}
 use Rattle.store_laws.proofs.Live.{live}
 use Rattle.store_laws.proofs.Maps.{conn_or, get-insert_other, get-insert_same}
-use Rattle.place_model.specs.Answers.{number_of}
-use Rattle.place_model.specs.Blocks.{AreBlocks, IsFrontOfBlocks, IsMannered, drawn_by}
-use Rattle.place_model.specs.Calls.{Call, call, concat}
+use Rattle.command_blocks.specs.Answers.{number_of}
+use Rattle.command_blocks.specs.Blocks.{AreBlocks, IsFrontOfBlocks, IsMannered, drawn_by}
+use Rattle.command_blocks.specs.Calls.{Call, call, concat}
 use Rattle.place_model.specs.Counts.{start_count}
 use Rattle.place_model.specs.Histories.{AllMayCome, Client, History, IsHistoryPrefix, MayCome, World, after, after_entries, and_then, conn_of, next, next_of, start_from, table, with_client}
 use Rattle.place_model.specs.Identity.{HasEnvelope, HasOrigin, IsPublished, IsPush, PushedIn}
-use Rattle.place_model.specs.Names.{Bytes, same}
-use Rattle.place_model.specs.Setting.{is_queue}
+use Rattle.queue_keys.specs.Names.{Bytes, same}
+use Rattle.command_blocks.specs.Setting.{is_queue}
 use Rattle.place_model.specs.Starts.{IsSound}
 use Rattle.place_model.specs.declared.history.Entry.{Entry}
 use Rattle.place_model.specs.declared.history.Entry.TheVariants.{Call as Called, Heard, Stop}

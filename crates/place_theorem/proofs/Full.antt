@@ -1,14 +1,14 @@
 -- A setting with what the proofs rest on, and the keys of messages as the laws of the store take them.
 use Rattle.std.proofs.Common.{List, Some, arith, bytes_eq, false, ◌≡◌}
 use Rattle.std.proofs.lemmas.Bool.Decides.{nat_tests}
-use Rattle.mini_store.specs.Keys.{Keys, is_long}
+use Rattle.store_model.specs.Keys.{Keys, is_long}
 use Rattle.store_laws.proofs.Changes.{Kinds as StoreKinds}
 use Rattle.store_laws.proofs.Names.{Names}
 use Rattle.place_model.specs.Counts.{is_field, is_member}
-use Rattle.place_model.specs.Names.{Bytes, same}
-use Rattle.place_model.specs.QueueKeys.{Each}
+use Rattle.queue_keys.specs.Names.{Bytes, same}
+use Rattle.queue_keys.specs.QueueKeys.{Each}
 use Rattle.place_model.specs.Seen.{tag_weight}
-use Rattle.place_model.specs.Setting.{IsLawful, Setting, is_queue}
+use Rattle.command_blocks.specs.Setting.{IsLawful, Setting, is_queue}
 
 -- a setting, and that it is lawful
 pub record Full : Type 0 where

@@ -2,15 +2,15 @@
 use Rattle.std.proofs.Common.{◌+◌, ◌++◌, List, Some, [], ap, arith, cond, false, inl, inr, nat_cmp, refl, subst, sym, true, ℕ, ◌∙◌, ◌∷◌, ◌≡◌, ◌≢◌, ◌≤◌, ◌⊎◌}
 use Rattle.std.proofs.lemmas.Cmp.{nat_cmp_total}
 use Rattle.std.specs.FinMap.{entries, get, insert, nat_cmp-IsAntisymmetric, remove}
-use Rattle.mini_store.specs.Connections.{conn, or_no_conn}
-use Rattle.mini_store.specs.Store.{State, gone_of, serve}
-use Rattle.mini_store.specs.Words.{command_of}
+use Rattle.store_model.specs.Connections.{conn, or_no_conn}
+use Rattle.store_model.specs.Store.{State, gone_of, serve}
+use Rattle.store_model.specs.Words.{command_of}
 use Rattle.store_laws.proofs.Live.{live}
 use Rattle.store_laws.proofs.Maps.{conn_or, get-insert_other, get-insert_same, get-remove_other, total-insert, total-remove, weight}
-use Rattle.place_model.specs.Calls.{Call}
+use Rattle.command_blocks.specs.Calls.{Call}
 use Rattle.place_model.specs.Counts.{copy_count, copy_one, copy_weight, count, direct_pushes, end_one, end_weight, hand_weight, loss_weight, place_count, push_weight, sum_of, total}
 use Rattle.place_model.specs.Histories.{Client, World, next, next_of, with_client}
-use Rattle.place_model.specs.Names.{Bytes}
+use Rattle.queue_keys.specs.Names.{Bytes}
 use Rattle.place_model.specs.Seen.{Seen, hand_by, nothing_seen, push_by, ran_by, seen, seen_by, seen_from, tag_weight}
 use Rattle.place_model.specs.declared.history.Entry.TheVariants.{Stop}
 use Rattle.place_theorem.proofs.Effects.{effect_of}

@@ -2,28 +2,28 @@
 use Rattle.std.proofs.Common.{◌≡◌, ◌⊎◌, ℕ, suc, ◌<◌, ◌^◌, List, [], ◌∷◌, ◌++◌, Bool, true, false, refl, sym, ap, subst, ◌∙◌, None, Some, Option, inl, inr, append_assoc, arith, codes, decimal}
 use Rattle.std.specs.Prelude.{ℤ, pos}
 use Rattle.std.proofs.lemmas.List.{append-nil}
-use Rattle.resp_wire.specs.declared.value.Value.{Value}
-use Rattle.resp_wire.specs.declared.value.Value.TheVariants.{Integer, Bulk, Array, NullArray}
-use Rattle.mini_store.specs.Integers.{integer_of, natural_of, seconds_of}
-use Rattle.mini_store.specs.Words.{Words, command_of, front, final, brpop_of, brpop_until, expire_of, range_of, zadd_of}
-use Rattle.mini_store.specs.Replies.{done, queued, pair, bulks}
-use Rattle.mini_store.specs.Commands.{is_queued}
-use Rattle.mini_store.specs.declared.command.Command.{Command}
-use Rattle.mini_store.specs.declared.command.Command.TheVariants.{Lpush, Brpop, Multi, Exec, Zadd, Hset, Zrem, Hget, Watch, Unwatch, Smembers, Sadd, Srem, Set, Get, Del, Expire, Zrevrangebyscore, Llen, Ping, Select, Subscribe, Unsubscribe, Publish as Announce, Faulty}
+use Rattle.wire_values.specs.declared.value.Value.{Value}
+use Rattle.wire_values.specs.declared.value.Value.TheVariants.{Integer, Bulk, Array, NullArray}
+use Rattle.store_model.specs.Integers.{integer_of, natural_of, seconds_of}
+use Rattle.store_model.specs.Words.{Words, command_of, front, final, brpop_of, brpop_until, expire_of, range_of, zadd_of}
+use Rattle.store_model.specs.Replies.{done, queued, pair, bulks}
+use Rattle.store_model.specs.Commands.{is_queued}
+use Rattle.store_model.specs.declared.command.Command.{Command}
+use Rattle.store_model.specs.declared.command.Command.TheVariants.{Lpush, Brpop, Multi, Exec, Zadd, Hset, Zrem, Hget, Watch, Unwatch, Smembers, Sadd, Srem, Set, Get, Del, Expire, Zrevrangebyscore, Llen, Ping, Select, Subscribe, Unsubscribe, Publish as Announce, Faulty}
 use Rattle.store_laws.proofs.Law.{altering}
-use Rattle.place_model.specs.Names.{Bytes}
-use Rattle.place_model.specs.Texts.{difference, token}
-use Rattle.place_model.specs.Answers.{integers}
-use Rattle.place_model.specs.Setting.{is_queue, IsApart}
-use Rattle.place_model.specs.Calls.{Call, call, push_word, concat}
-use Rattle.place_model.specs.RouteBlocks.{IsDeclareBlock, Told, direct_calls, direct_keys, IsPublishBlock, Plain, Named, IsShortPublish, Asked}
-use Rattle.place_model.specs.TakeBlocks.{IsPop, brpop_words, IsPopBlock, Empty, Unreadable, Popped, IsEndBlock, Acknowledged}
-use Rattle.place_model.specs.ReturnBlocks.{ReturnEnd, queued_calls, queued_keys, asking, leaving, Carries, Try, whole_try, IsTry, IsTries, Missing, Useless, Nowhere, Whole as Whole_try, Eighth, Again}
-use Rattle.place_model.specs.PassBlocks.{PassEnd, IsReturns, All_returned, Returned, Returned_until, Ended_early, IsRelease, Own, Foreign, tags_among, due_words, IsPassBlock, Is_held, Ran as Ran_pass}
-use Rattle.place_model.specs.Blocks.{IsNeutral, Pings, Selects, Measures, Subscribes, Unsubscribes, Announces, Replies, Receives, Limits, IsNeutralBlock, Answered, Kind, drawn, passed, IsBlock, Declare, Undeclare, Publish, Publish_short, Pop, End, Return, Pass, Neutral, AreBlocks, IsFrontOfBlocks, IsMannered}
+use Rattle.queue_keys.specs.Names.{Bytes}
+use Rattle.queue_keys.specs.Texts.{difference, token}
+use Rattle.command_blocks.specs.Answers.{integers}
+use Rattle.command_blocks.specs.Setting.{is_queue, IsApart}
+use Rattle.command_blocks.specs.Calls.{Call, call, push_word, concat}
+use Rattle.command_blocks.specs.RouteBlocks.{IsDeclareBlock, Told, direct_calls, direct_keys, IsPublishBlock, Plain, Named, IsShortPublish, Asked}
+use Rattle.command_blocks.specs.TakeBlocks.{IsPop, brpop_words, IsPopBlock, Empty, Unreadable, Popped, IsEndBlock, Acknowledged}
+use Rattle.command_blocks.specs.ReturnBlocks.{ReturnEnd, queued_calls, queued_keys, asking, leaving, Carries, Try, whole_try, IsTry, IsTries, Missing, Useless, Nowhere, Whole as Whole_try, Eighth, Again}
+use Rattle.command_blocks.specs.PassBlocks.{PassEnd, IsReturns, All_returned, Returned, Returned_until, Ended_early, IsRelease, Own, Foreign, tags_among, due_words, IsPassBlock, Is_held, Ran as Ran_pass}
+use Rattle.command_blocks.specs.Blocks.{IsNeutral, Pings, Selects, Measures, Subscribes, Unsubscribes, Announces, Replies, Receives, Limits, IsNeutralBlock, Answered, Kind, drawn, passed, IsBlock, Declare, Undeclare, Publish, Publish_short, Pop, End, Return, Pass, Neutral, AreBlocks, IsFrontOfBlocks, IsMannered}
 use Rattle.place_model.specs.Returns.{push_command, push_commands, take_out}
-use Rattle.place_model.specs.declared.block.Side.{Side}
-use Rattle.place_model.specs.declared.block.Side.TheVariants.{Left, Right}
+use Rattle.command_blocks.specs.declared.block.Side.{Side}
+use Rattle.command_blocks.specs.declared.block.Side.TheVariants.{Left, Right}
 use Rattle.place_theorem.proofs.Full.{Full, QueueKeys}
 use Rattle.place_theorem.proofs.Numerals.{integer_of-decimal}
 

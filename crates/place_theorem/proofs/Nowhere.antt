@@ -1,10 +1,10 @@
 -- A tag that is accepted once has a place.
 use Rattle.std.proofs.Common.{◌+◌, List, None, Option, Some, [], arith, if◌then◌else◌, is_some, refl, subst, suc, sym, zero, ℕ, ◌∙◌, ◌∷◌, ◌≡◌, ◌≤◌}
 use Rattle.std.specs.FinMap.{entries}
-use Rattle.mini_store.specs.declared.held.Held.{Held}
+use Rattle.store_model.specs.declared.held.Held.{Held}
 use Rattle.place_model.specs.Counts.{IsAccepted, IsSingle, direct_pushes, end_weight, hand_weight, in_held, in_value, loss_weight, over_clients, place_count, start_count, table_count, total}
 use Rattle.place_model.specs.Histories.{History, IsHistoryPrefix, World, after}
-use Rattle.place_model.specs.Names.{Bytes}
+use Rattle.queue_keys.specs.Names.{Bytes}
 use Rattle.place_model.specs.PlaceOf.{by_counts, first_place, first_with, if_any, list_place, or_else, pick, place_of}
 use Rattle.place_model.specs.Starts.{IsSound}
 use Rattle.place_model.specs.declared.place.Place.{Place}

@@ -1,19 +1,19 @@
 -- In a sound start a tag has one envelope, and none is of a client's seed; clients of one seed are one.
 use Rattle.std.proofs.Common.{◌+◌, Bool, List, None, Option, Some, [], ap, arith, if◌then◌else◌, inl, inr, is_some, refl, subst, sym, true, ℕ, ◌∙◌, ◌∷◌, ◌≡◌, ◌≢◌, ◌≤◌, ◌⊎◌}
 use Rattle.std.specs.FinMap.{entries, get, remove}
-use Rattle.resp_wire.specs.Order.{bytes_cmp}
-use Rattle.mini_store.specs.Keys.{Keys, value_of}
-use Rattle.mini_store.specs.declared.held.Held.{Held}
-use Rattle.mini_store.specs.declared.held.Stored.{Stored}
-use Rattle.mini_store.specs.declared.held.Stored.TheVariants.{Items}
+use Rattle.wire_values.specs.Order.{bytes_cmp}
+use Rattle.store_model.specs.Keys.{Keys, value_of}
+use Rattle.store_model.specs.declared.held.Held.{Held}
+use Rattle.store_model.specs.declared.held.Stored.{Stored}
+use Rattle.store_model.specs.declared.held.Stored.TheVariants.{Items}
 use Rattle.store_laws.proofs.Maps.{get-remove_other, total-remove, weight}
 use Rattle.place_model.specs.Counts.{entry_at, in_held, in_value, is_field, start_count, tagged, total}
 use Rattle.place_model.specs.Histories.{AreUnused, Client, IsTable, seeds, table}
 use Rattle.place_model.specs.Identity.{HasEnvelope, In_a_list, In_the_table}
-use Rattle.place_model.specs.Names.{Bytes, same}
-use Rattle.place_model.specs.QueueKeys.{Among, Differ, IsAway}
+use Rattle.queue_keys.specs.Names.{Bytes, same}
+use Rattle.queue_keys.specs.QueueKeys.{Among, Differ, IsAway}
 use Rattle.place_model.specs.Seen.{tag_weight}
-use Rattle.place_model.specs.Setting.{is_queue}
+use Rattle.command_blocks.specs.Setting.{is_queue}
 use Rattle.place_model.specs.Starts.{IsSoundStart, elements_at, elements_of}
 use Rattle.place_theorem.proofs.Full.{Full}
 use Rattle.place_theorem.proofs.Sound.{in_table}

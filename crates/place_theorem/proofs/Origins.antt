@@ -2,19 +2,19 @@
 use Rattle.std.proofs.Common.{◌++◌, Bool, List, None, Option, Some, [], ap, false, inl, inr, nat_cmp, refl, subst, sym, true, ℕ, ◌∙◌, ◌∷◌, ◌≡◌, ◌≢◌, ◌⊎◌}
 use Rattle.std.proofs.lemmas.Cmp.{nat_cmp_total}
 use Rattle.std.specs.FinMap.{get, insert, nat_cmp-IsAntisymmetric}
-use Rattle.resp_wire.specs.declared.value.Value.{Value}
-use Rattle.mini_store.specs.Connections.{conn}
-use Rattle.mini_store.specs.Keys.{Keys, live_at, value_of}
-use Rattle.mini_store.specs.Store.{State, apply_of, gone_of, serve, settled}
-use Rattle.mini_store.specs.Words.{Words, command_of}
-use Rattle.mini_store.specs.declared.reply.Reply.{Reply}
+use Rattle.wire_values.specs.declared.value.Value.{Value}
+use Rattle.store_model.specs.Connections.{conn}
+use Rattle.store_model.specs.Keys.{Keys, live_at, value_of}
+use Rattle.store_model.specs.Store.{State, apply_of, gone_of, serve, settled}
+use Rattle.store_model.specs.Words.{Words, command_of}
+use Rattle.store_model.specs.declared.reply.Reply.{Reply}
 use Rattle.store_laws.proofs.Maps.{conn_or, get-insert_other, get-insert_same}
-use Rattle.place_model.specs.Calls.{Call}
+use Rattle.command_blocks.specs.Calls.{Call}
 use Rattle.place_model.specs.Counts.{field_of, start_count}
 use Rattle.place_model.specs.Histories.{AllMayCome, Client, History, IsHistoryPrefix, MayCome, World, after, after_entries, and_then, next, start_from, with_client}
 use Rattle.place_model.specs.Identity.{HasEnvelope, HasOrigin, In_a_list, In_the_table, IsPublished, IsPush, PushedIn}
-use Rattle.place_model.specs.Names.{Bytes}
-use Rattle.place_model.specs.QueueKeys.{Among}
+use Rattle.queue_keys.specs.Names.{Bytes}
+use Rattle.queue_keys.specs.QueueKeys.{Among}
 use Rattle.place_model.specs.Seen.{seen}
 use Rattle.place_model.specs.Starts.{IsSound, elements_of}
 use Rattle.place_model.specs.declared.history.Entry.{Entry}

@@ -1,26 +1,26 @@
 -- The members that a pass reads are tags, and a pass that ended whole accounts for each of them.
 use Rattle.std.proofs.Common.{◌+◌, ◌++◌, ◌<◌, ◌==◌, Bool, List, None, Option, Some, [], ◌^◌, ap, append_assoc, arith, false, if◌then◌else◌, inl, inr, is_some, length, pos, refl, subst, suc, sym, true, ℕ, ℤ, ◌∙◌, ◌∷◌, ◌≡◌}
-use Rattle.mini_store.specs.Connections.{conn}
-use Rattle.mini_store.specs.Keys.{value_at, value_of}
-use Rattle.mini_store.specs.Replies.{bulks, done}
-use Rattle.mini_store.specs.Store.{State, serve, serve_by, settled}
-use Rattle.mini_store.specs.Words.{Words, command_of, range_of}
-use Rattle.mini_store.specs.declared.command.Command.TheVariants.{Zrevrangebyscore}
-use Rattle.mini_store.specs.declared.connection.Conn.{Conn}
-use Rattle.mini_store.specs.declared.connection.Queue.{Queue}
-use Rattle.mini_store.specs.declared.reply.Reply.{Reply}
+use Rattle.store_model.specs.Connections.{conn}
+use Rattle.store_model.specs.Keys.{value_at, value_of}
+use Rattle.store_model.specs.Replies.{bulks, done}
+use Rattle.store_model.specs.Store.{State, serve, serve_by, settled}
+use Rattle.store_model.specs.Words.{Words, command_of, range_of}
+use Rattle.store_model.specs.declared.command.Command.TheVariants.{Zrevrangebyscore}
+use Rattle.store_model.specs.declared.connection.Conn.{Conn}
+use Rattle.store_model.specs.declared.connection.Queue.{Queue}
+use Rattle.store_model.specs.declared.reply.Reply.{Reply}
 use Rattle.store_laws.proofs.Ranks.{among_ranks, ranks_are}
-use Rattle.place_model.specs.Calls.{Call, call}
+use Rattle.command_blocks.specs.Calls.{Call, call}
 use Rattle.place_model.specs.Counts.{entry_at, has_member, is_member}
 use Rattle.place_model.specs.Histories.{History, IsHistoryPrefix, after, and_then, calls_among, calls_of, conn_of, own_entries}
 use Rattle.place_model.specs.Identity.{HasOrigin, In_the_table}
-use Rattle.place_model.specs.Names.{Bytes, same}
-use Rattle.place_model.specs.PassBlocks.{All_returned, Done, Ended_early, IsPassBlock, IsReturns, Is_held, PassEnd, Ran as Ran_pass, Returned, Returned_until, due_words, lock_words, tags_among}
+use Rattle.queue_keys.specs.Names.{Bytes, same}
+use Rattle.command_blocks.specs.PassBlocks.{All_returned, Done, Ended_early, IsPassBlock, IsReturns, Is_held, PassEnd, Ran as Ran_pass, Returned, Returned_until, due_words, lock_words, tags_among}
 use Rattle.place_model.specs.Passes.{AccountsForAll, AreEarly, ReadsTags, due_members, gone_count, less, moved_count, ranks_of, stayed_count}
-use Rattle.place_model.specs.QueueKeys.{Among}
-use Rattle.place_model.specs.ReturnBlocks.{Contended, Gone, Moved, ReturnEnd, Stayed, goes_on}
+use Rattle.queue_keys.specs.QueueKeys.{Among}
+use Rattle.command_blocks.specs.ReturnBlocks.{Contended, Gone, Moved, ReturnEnd, Stayed, goes_on}
 use Rattle.place_model.specs.Starts.{IsSound, IsSoundStart}
-use Rattle.place_model.specs.Texts.{token}
+use Rattle.queue_keys.specs.Texts.{token}
 use Rattle.place_model.specs.declared.history.Entry.{Entry}
 use Rattle.place_model.specs.declared.history.Entry.TheVariants.{Call as Called, Heard, Stop}
 use Rattle.place_theorem.proofs.Draws.{pushed_tag}

@@ -1,9 +1,9 @@
 -- Each prefix of a sound history is sound.
 use Rattle.std.proofs.Common.{◌++◌, List, [], ap, append_assoc, drop, inl, inr, refl, subst, sym, ℕ, ◌∙◌, ◌∷◌, ◌≡◌, ◌⊎◌}
-use Rattle.place_model.specs.Blocks.{IsFrontOfBlocks, IsMannered}
-use Rattle.place_model.specs.Calls.{Call, call}
+use Rattle.command_blocks.specs.Blocks.{IsFrontOfBlocks, IsMannered}
+use Rattle.command_blocks.specs.Calls.{Call, call}
 use Rattle.place_model.specs.Histories.{AllMayCome, History, IsHistoryPrefix, World, and_then, calls_of, next, start_from}
-use Rattle.place_model.specs.Setting.{Setting}
+use Rattle.command_blocks.specs.Setting.{Setting}
 use Rattle.place_model.specs.Starts.{IsSound}
 use Rattle.place_model.specs.declared.history.Entry.{Entry}
 use Rattle.place_theorem.proofs.Kept.{part}

@@ -1,19 +1,19 @@
 -- The lists after the pushes of a return.
 use Rattle.std.proofs.Common.{List, [], ap, inl, inr, refl, subst, sym, true, ℕ, ◌∙◌, ◌∷◌, ◌≡◌, ◌≢◌}
 use Rattle.std.specs.FinMap.{get}
-use Rattle.mini_store.specs.Commands.{Around, run}
-use Rattle.mini_store.specs.Connections.{Conns, around, posted}
-use Rattle.mini_store.specs.Keys.{Keys, value_at, value_of}
-use Rattle.mini_store.specs.Store.{run_all}
+use Rattle.store_model.specs.Commands.{Around, run}
+use Rattle.store_model.specs.Connections.{Conns, around, posted}
+use Rattle.store_model.specs.Keys.{Keys, value_at, value_of}
+use Rattle.store_model.specs.Store.{run_all}
 use Rattle.store_laws.proofs.Elements.{lpush_elements, rpush_elements}
 use Rattle.store_laws.proofs.Law.{altering, framed}
-use Rattle.place_model.specs.Names.{Bytes, same}
-use Rattle.place_model.specs.QueueKeys.{Among, Differ, IsAway}
+use Rattle.queue_keys.specs.Names.{Bytes, same}
+use Rattle.queue_keys.specs.QueueKeys.{Among, Differ, IsAway}
 use Rattle.place_model.specs.Returns.{gain, push_command, push_commands}
-use Rattle.place_model.specs.Setting.{is_queue}
+use Rattle.command_blocks.specs.Setting.{is_queue}
 use Rattle.place_model.specs.Starts.{IsListOrNone, elements_at, elements_of}
-use Rattle.place_model.specs.declared.block.Side.{Side}
-use Rattle.place_model.specs.declared.block.Side.TheVariants.{Left, Right}
+use Rattle.command_blocks.specs.declared.block.Side.{Side}
+use Rattle.command_blocks.specs.declared.block.Side.TheVariants.{Left, Right}
 use Rattle.place_theorem.proofs.Full.{Full, Kinds, QueueKeys}
 use Rattle.place_theorem.proofs.Transactions.{push_done}
 

@@ -1,34 +1,34 @@
 -- Each transaction that ran and pushes is a whole return.
 use Rattle.std.proofs.Common.{◌++◌, Bool, List, None, Option, Some, [], ap, false, if◌then◌else◌, inl, inr, refl, subst, sym, true, ℕ, ◌∙◌, ◌∷◌, ◌≡◌, ◌≢◌, ◌⊎◌}
 use Rattle.std.specs.FinMap.{get, insert}
-use Rattle.resp_wire.specs.declared.value.Value.{Value}
-use Rattle.resp_wire.specs.declared.value.Value.TheVariants.{Array}
-use Rattle.mini_store.specs.Commands.{Around, is_queued, run}
-use Rattle.mini_store.specs.Connections.{Conns, around, conn}
-use Rattle.mini_store.specs.Keys.{Keys, is_due, live_at, value_of}
-use Rattle.mini_store.specs.Replies.{bulks}
-use Rattle.mini_store.specs.Store.{State, run_all, serve, settled}
-use Rattle.mini_store.specs.Words.{Words, command_of}
-use Rattle.mini_store.specs.declared.command.Command.{Command}
-use Rattle.mini_store.specs.declared.command.Command.TheVariants.{Exec, Hdel, Zrem}
-use Rattle.mini_store.specs.declared.reply.Reply.{Reply}
+use Rattle.wire_values.specs.declared.value.Value.{Value}
+use Rattle.wire_values.specs.declared.value.Value.TheVariants.{Array}
+use Rattle.store_model.specs.Commands.{Around, is_queued, run}
+use Rattle.store_model.specs.Connections.{Conns, around, conn}
+use Rattle.store_model.specs.Keys.{Keys, is_due, live_at, value_of}
+use Rattle.store_model.specs.Replies.{bulks}
+use Rattle.store_model.specs.Store.{State, run_all, serve, settled}
+use Rattle.store_model.specs.Words.{Words, command_of}
+use Rattle.store_model.specs.declared.command.Command.{Command}
+use Rattle.store_model.specs.declared.command.Command.TheVariants.{Exec, Hdel, Zrem}
+use Rattle.store_model.specs.declared.reply.Reply.{Reply}
 use Rattle.store_laws.proofs.Changes.{queue_not_index, queue_not_unacked}
 use Rattle.store_laws.proofs.Law.{framed}
 use Rattle.store_laws.proofs.Settled.{get-live_at}
 use Rattle.store_laws.proofs.Table.{Turned}
-use Rattle.place_model.specs.Answers.{items_of}
-use Rattle.place_model.specs.Calls.{Call}
+use Rattle.command_blocks.specs.Answers.{items_of}
+use Rattle.command_blocks.specs.Calls.{Call}
 use Rattle.place_model.specs.Counts.{entry_at, field_of, has_field, has_member, is_field, is_member, start_count}
 use Rattle.place_model.specs.Histories.{Client, History, IsHistoryPrefix, World, after, and_then, start_from}
-use Rattle.place_model.specs.Lookup.{lookup}
-use Rattle.place_model.specs.Names.{Bytes}
-use Rattle.place_model.specs.QueueKeys.{Among, IsAway}
-use Rattle.place_model.specs.ReturnBlocks.{Carries}
+use Rattle.queue_keys.specs.Lookup.{lookup}
+use Rattle.queue_keys.specs.Names.{Bytes}
+use Rattle.queue_keys.specs.QueueKeys.{Among, IsAway}
+use Rattle.command_blocks.specs.ReturnBlocks.{Carries}
 use Rattle.place_model.specs.Returns.{IsWholeReturn, ReturnsWhole, gain, push_commands, take_out}
 use Rattle.place_model.specs.Seen.{Seen, seen}
-use Rattle.place_model.specs.Setting.{is_queue}
+use Rattle.command_blocks.specs.Setting.{is_queue}
 use Rattle.place_model.specs.Starts.{IsSound, elements_at, elements_of}
-use Rattle.place_model.specs.declared.block.Side.{Side}
+use Rattle.command_blocks.specs.declared.block.Side.{Side}
 use Rattle.place_model.specs.declared.history.Entry.TheVariants.{Call as Called}
 use Rattle.place_theorem.proofs.Full.{Alike, Full, Kinds, keys_of}
 use Rattle.place_theorem.proofs.Kept.{Inv}

@@ -1,32 +1,32 @@
 -- What a call keeps, whatever block it is of, and where its client then stands.
 use Rattle.std.proofs.Common.{◌&&◌, ◌+◌, Bool, List, None, Option, Some, [], ap, arith, false, if◌then◌else◌, inl, inr, refl, subst, sym, true, ◌||◌, ℕ, ℤ, ◌∙◌, ◌∷◌, ◌≡◌, ◌≢◌, ◌≤◌, ◌⊎◌}
 use Rattle.std.specs.FinMap.{get}
-use Rattle.resp_wire.specs.Order.{bytes_cmp}
-use Rattle.resp_wire.specs.declared.value.Value.{Value}
-use Rattle.mini_store.specs.Commands.{Around, run}
-use Rattle.mini_store.specs.Connections.{around, conn, hit}
-use Rattle.mini_store.specs.Keys.{Keys, expiry_of, value_at, value_of}
-use Rattle.mini_store.specs.Lists.{brpop, brpop_at}
-use Rattle.mini_store.specs.Store.{State, run_one, set_conn}
-use Rattle.mini_store.specs.Words.{final}
-use Rattle.mini_store.specs.declared.command.Command.{Command}
-use Rattle.mini_store.specs.declared.command.Command.TheVariants.{Brpop, Exec, Lpush}
-use Rattle.mini_store.specs.declared.connection.Conn.{Conn}
-use Rattle.mini_store.specs.declared.connection.Queue.{Queue}
-use Rattle.mini_store.specs.declared.held.Held.{Held}
-use Rattle.mini_store.specs.declared.held.Stored.{Stored}
-use Rattle.mini_store.specs.declared.held.Stored.TheVariants.{Items}
+use Rattle.wire_values.specs.Order.{bytes_cmp}
+use Rattle.wire_values.specs.declared.value.Value.{Value}
+use Rattle.store_model.specs.Commands.{Around, run}
+use Rattle.store_model.specs.Connections.{around, conn, hit}
+use Rattle.store_model.specs.Keys.{Keys, expiry_of, value_at, value_of}
+use Rattle.store_model.specs.Lists.{brpop, brpop_at}
+use Rattle.store_model.specs.Store.{State, run_one, set_conn}
+use Rattle.store_model.specs.Words.{final}
+use Rattle.store_model.specs.declared.command.Command.{Command}
+use Rattle.store_model.specs.declared.command.Command.TheVariants.{Brpop, Exec, Lpush}
+use Rattle.store_model.specs.declared.connection.Conn.{Conn}
+use Rattle.store_model.specs.declared.connection.Queue.{Queue}
+use Rattle.store_model.specs.declared.held.Held.{Held}
+use Rattle.store_model.specs.declared.held.Stored.{Stored}
+use Rattle.store_model.specs.declared.held.Stored.TheVariants.{Items}
 use Rattle.store_laws.proofs.Connections.{conn_is, hit_none, run_one_conns, set_kept, set_same, untouched}
 use Rattle.store_laws.proofs.Law.{ToldBy, altering, framed}
 use Rattle.store_laws.proofs.Live.{total-same}
 use Rattle.store_laws.proofs.Maps.{weight}
 use Rattle.store_laws.specs.Laws.{IsTouched}
-use Rattle.place_model.specs.Answers.{number_of, pair_of}
+use Rattle.command_blocks.specs.Answers.{number_of, pair_of}
 use Rattle.place_model.specs.Counts.{copy_one, count, end_one, entry_at, field_of, has_field, has_member, in_held, in_value, list_count, sum_of, table_count}
-use Rattle.place_model.specs.Names.{Bytes, same}
-use Rattle.place_model.specs.QueueKeys.{IsAway}
+use Rattle.queue_keys.specs.Names.{Bytes, same}
+use Rattle.queue_keys.specs.QueueKeys.{IsAway}
 use Rattle.place_model.specs.Seen.{Seen, hand_by, hand_from, push_by, push_with, ran_by, seen, seen_by, tag_list, tag_weight}
-use Rattle.place_model.specs.Setting.{IsApart, is_queue}
+use Rattle.command_blocks.specs.Setting.{IsApart, is_queue}
 use Rattle.place_model.specs.Starts.{IsHashOrNone, IsListOrNone, IsScoresOrNone}
 use Rattle.place_theorem.proofs.Full.{Alike, Full, Kinds}
 use Rattle.place_theorem.proofs.Machine.{AllApart, At, Cursor, Halted, Idle, IsAside, Live}

@@ -1,22 +1,22 @@
 -- Dropping what is due keeps the invariant, whatever block comes next.
 use Rattle.std.proofs.Common.{◌&&◌, Bool, List, None, Option, Some, [], ap, arith, cond, false, inl, inr, not, refl, subst, sym, true, ℕ, ◌∙◌, ◌∷◌, ◌≡◌, ◌≢◌, ◌⊎◌}
 use Rattle.std.specs.FinMap.{entries, get, insert}
-use Rattle.resp_wire.specs.Order.{bytes_cmp}
-use Rattle.resp_wire.specs.declared.value.Value.{Value}
-use Rattle.mini_store.specs.Connections.{conn}
-use Rattle.mini_store.specs.Keys.{Keys, due_keys, expiry_of, is_due, is_over, live_at, value_of}
-use Rattle.mini_store.specs.Store.{State, answer_to, quiet, serve, set_conn, settled}
-use Rattle.mini_store.specs.Words.{Words, command_of}
-use Rattle.mini_store.specs.declared.connection.Conn.{Conn}
-use Rattle.mini_store.specs.declared.held.Held.{Held}
+use Rattle.wire_values.specs.Order.{bytes_cmp}
+use Rattle.wire_values.specs.declared.value.Value.{Value}
+use Rattle.store_model.specs.Connections.{conn}
+use Rattle.store_model.specs.Keys.{Keys, due_keys, expiry_of, is_due, is_over, live_at, value_of}
+use Rattle.store_model.specs.Store.{State, answer_to, quiet, serve, set_conn, settled}
+use Rattle.store_model.specs.Words.{Words, command_of}
+use Rattle.store_model.specs.declared.connection.Conn.{Conn}
+use Rattle.store_model.specs.declared.held.Held.{Held}
 use Rattle.store_laws.proofs.Connections.{marks_kept, set_other, set_same, untouched}
 use Rattle.store_laws.proofs.Live.{get-live, total-live}
 use Rattle.store_laws.proofs.Maps.{conn_or, weight}
 use Rattle.place_model.specs.Counts.{has_field, has_member, in_held, in_value, table_count, total}
 use Rattle.place_model.specs.Histories.{World}
-use Rattle.place_model.specs.Names.{Bytes}
+use Rattle.queue_keys.specs.Names.{Bytes}
 use Rattle.place_model.specs.Seen.{Seen, seen}
-use Rattle.place_model.specs.Setting.{is_queue}
+use Rattle.command_blocks.specs.Setting.{is_queue}
 use Rattle.place_model.specs.Starts.{IsHashOrNone, IsListOrNone, IsScoresOrNone}
 use Rattle.place_theorem.proofs.Full.{Full, Kinds}
 use Rattle.place_theorem.proofs.Kept.{Inv}

@@ -2,15 +2,15 @@
 use Rattle.std.proofs.Common.{◌+◌, ◌++◌, ◌==◌, Bool, List, None, Option, Some, [], ap, append-nil, append_assoc, arith, false, if◌then◌else◌, inl, inr, nat_cmp, refl, subst, sym, true, ℕ, ◌∙◌, ◌∷◌, ◌≡◌, ◌≢◌, ◌⊎◌}
 use Rattle.std.proofs.lemmas.Cmp.{nat_cmp_total}
 use Rattle.std.specs.FinMap.{get, get-empty, insert, nat_cmp-IsAntisymmetric}
-use Rattle.mini_store.specs.Keys.{Keys}
-use Rattle.mini_store.specs.Store.{State, apply_of, gone_of}
+use Rattle.store_model.specs.Keys.{Keys}
+use Rattle.store_model.specs.Store.{State, apply_of, gone_of}
 use Rattle.store_laws.proofs.Maps.{conn_or, get-insert_other, get-insert_same}
-use Rattle.place_model.specs.Blocks.{IsMannered}
-use Rattle.place_model.specs.Calls.{Call}
+use Rattle.command_blocks.specs.Blocks.{IsMannered}
+use Rattle.command_blocks.specs.Calls.{Call}
 use Rattle.place_model.specs.Counts.{IsAccepted, IsPlaced, IsSingle, direct_pushes, list_count, start_count}
 use Rattle.place_model.specs.Histories.{AllMayCome, Client, History, IsHistoryPrefix, MayCome, World, after, after_entries, and_then, calls_among, calls_of, conn_of, new_client, next, next_of, onto_calls, own_entries, start_from, table, with_client}
-use Rattle.place_model.specs.Names.{Bytes, same}
-use Rattle.place_model.specs.QueueKeys.{Among}
+use Rattle.queue_keys.specs.Names.{Bytes, same}
+use Rattle.queue_keys.specs.QueueKeys.{Among}
 use Rattle.place_model.specs.Starts.{IsSound, IsSoundStart}
 use Rattle.place_model.specs.declared.history.Entry.{Entry}
 use Rattle.place_model.specs.declared.history.Entry.TheVariants.{Call as Called, Heard, Stop}

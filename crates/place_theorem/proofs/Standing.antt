@@ -1,35 +1,35 @@
 -- What each step adds to the envelopes that stand in the store: what it publishes, and what its client has in hand.
 use Rattle.std.proofs.Common.{Bool, List, None, Option, Some, [], ap, false, inl, inr, length, nat_lt, pos, refl, subst, sym, true, ℕ, ◌∙◌, ◌∷◌, ◌≡◌, ◌≢◌, ◌⊎◌}
 use Rattle.std.specs.FinMap.{insert}
-use Rattle.resp_wire.specs.declared.value.Value.{Value}
-use Rattle.mini_store.specs.Commands.{Around, run}
-use Rattle.mini_store.specs.Connections.{Conns, around, posted}
-use Rattle.mini_store.specs.Keys.{Keys, value_at, value_of}
-use Rattle.mini_store.specs.Lists.{brpop, brpop_at, shortened}
-use Rattle.mini_store.specs.Replies.{pair}
-use Rattle.mini_store.specs.Store.{State, is_heard, run_all, serve, spoken, to_queue}
-use Rattle.mini_store.specs.Words.{front}
-use Rattle.mini_store.specs.declared.command.Command.{Command}
-use Rattle.mini_store.specs.declared.command.Command.TheVariants.{Del, Exec, Faulty, Hdel, Hset, Ping, Subscribe, Unsubscribe, Zadd, Zrem}
-use Rattle.mini_store.specs.declared.connection.Conn.{Conn}
-use Rattle.mini_store.specs.declared.connection.Queue.{Queue}
-use Rattle.mini_store.specs.declared.held.Stored.{Stored}
-use Rattle.mini_store.specs.declared.held.Stored.TheVariants.{Items}
+use Rattle.wire_values.specs.declared.value.Value.{Value}
+use Rattle.store_model.specs.Commands.{Around, run}
+use Rattle.store_model.specs.Connections.{Conns, around, posted}
+use Rattle.store_model.specs.Keys.{Keys, value_at, value_of}
+use Rattle.store_model.specs.Lists.{brpop, brpop_at, shortened}
+use Rattle.store_model.specs.Replies.{pair}
+use Rattle.store_model.specs.Store.{State, is_heard, run_all, serve, spoken, to_queue}
+use Rattle.store_model.specs.Words.{front}
+use Rattle.store_model.specs.declared.command.Command.{Command}
+use Rattle.store_model.specs.declared.command.Command.TheVariants.{Del, Exec, Faulty, Hdel, Hset, Ping, Subscribe, Unsubscribe, Zadd, Zrem}
+use Rattle.store_model.specs.declared.connection.Conn.{Conn}
+use Rattle.store_model.specs.declared.connection.Queue.{Queue}
+use Rattle.store_model.specs.declared.held.Stored.{Stored}
+use Rattle.store_model.specs.declared.held.Stored.TheVariants.{Items}
 use Rattle.store_laws.proofs.Changes.{lpush_done, queue_not_index, queue_not_unacked, unacked_not_index}
 use Rattle.store_laws.proofs.Elements.{among_append, brpop_gives, shortened_among, shortened_away}
 use Rattle.store_laws.proofs.Fields.{hdel_from, hset_from}
 use Rattle.store_laws.proofs.Law.{altering, framed}
-use Rattle.place_model.specs.Answers.{number_of}
+use Rattle.command_blocks.specs.Answers.{number_of}
 use Rattle.place_model.specs.Counts.{entry_at, field_of}
 use Rattle.place_model.specs.Identity.{HasEnvelope, In_a_list, In_the_table, IsPush}
-use Rattle.place_model.specs.Names.{Bytes, same}
-use Rattle.place_model.specs.QueueKeys.{Among, IsAway}
+use Rattle.queue_keys.specs.Names.{Bytes, same}
+use Rattle.queue_keys.specs.QueueKeys.{Among, IsAway}
 use Rattle.place_model.specs.Returns.{gain, push_command, push_commands}
 use Rattle.place_model.specs.Seen.{Seen}
-use Rattle.place_model.specs.Setting.{is_queue}
+use Rattle.command_blocks.specs.Setting.{is_queue}
 use Rattle.place_model.specs.Starts.{IsHashOrNone, elements_at, elements_of}
-use Rattle.place_model.specs.declared.block.Side.{Side}
-use Rattle.place_model.specs.declared.block.Side.TheVariants.{Left, Right}
+use Rattle.command_blocks.specs.declared.block.Side.{Side}
+use Rattle.command_blocks.specs.declared.block.Side.TheVariants.{Left, Right}
 use Rattle.place_theorem.proofs.Effects.{Ready, aside_plain, queued_inside}
 use Rattle.place_theorem.proofs.Full.{Alike, Full, Kinds, QueueKeys, keys_of}
 use Rattle.place_theorem.proofs.Machine.{Asks, At, Begins, Cursor, Ends, Fails, Finds, Finds_none, Finds_other, Idle, IsTalk, Leaves, Passes_by, Publishes, Queues, Reads, Refuses, Step, Talks, Watches, Whole, Whole_end, Whole_free, Whole_pop, Whole_return}

@@ -2,12 +2,12 @@
 use Rattle.std.proofs.Common.{◌+◌, None, Option, Some, [], ap, arith, cond, false, inl, inr, nat_cmp, refl, subst, suc, sym, true, zero, ℕ, ◌∙◌, ◌∷◌, ◌≡◌, ◌≢◌, ◌≤◌, ◌⊎◌}
 use Rattle.std.proofs.lemmas.Cmp.{nat_cmp_total}
 use Rattle.std.specs.FinMap.{entries, get, insert, nat_cmp-IsAntisymmetric}
-use Rattle.mini_store.specs.Keys.{Keys}
-use Rattle.mini_store.specs.Store.{gone_of}
+use Rattle.store_model.specs.Keys.{Keys}
+use Rattle.store_model.specs.Store.{gone_of}
 use Rattle.store_laws.proofs.Maps.{get-insert_same}
 use Rattle.place_model.specs.Counts.{copy_count, copy_weight, direct_pushes, end_weight, hand_weight, in_held, loss_weight, over_clients, place_count, push_weight, start_count, table_count, total}
 use Rattle.place_model.specs.Histories.{Client, History, IsHistoryPrefix, World, after, and_then, start_from, with_client}
-use Rattle.place_model.specs.Names.{Bytes}
+use Rattle.queue_keys.specs.Names.{Bytes}
 use Rattle.place_model.specs.PlaceOf.{StopMoves, by_counts, first_place, first_with, if_any, list_place, or_else}
 use Rattle.place_model.specs.Seen.{seen, tag_weight}
 use Rattle.place_model.specs.Starts.{IsSound}

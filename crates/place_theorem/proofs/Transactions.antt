@@ -1,30 +1,30 @@
 -- What a transaction that runs does: no message is lost or doubled.
 use Rattle.std.proofs.Common.{◌&&◌, ◌+◌, Bool, List, None, Some, [], ap, arith, cond, false, inl, inr, pos, refl, subst, suc, sym, true, zero, ◌||◌, ℕ, ℤ, ◌∙◌, ◌∷◌, ◌≡◌, ◌≢◌, ◌≤◌, ◌⊎◌}
 use Rattle.std.specs.FinMap.{insert}
-use Rattle.resp_wire.specs.declared.value.Value.{Value}
-use Rattle.resp_wire.specs.declared.value.Value.TheVariants.{Array}
-use Rattle.mini_store.specs.Commands.{Around, run}
-use Rattle.mini_store.specs.Connections.{Conns, around, conn, hit, posted}
-use Rattle.mini_store.specs.Keys.{Keys, is_long, value_at, value_of}
-use Rattle.mini_store.specs.Replies.{number}
-use Rattle.mini_store.specs.Store.{State, run_all, run_queue, set_conn}
-use Rattle.mini_store.specs.declared.command.Command.{Command}
-use Rattle.mini_store.specs.declared.command.Command.TheVariants.{Del, Exec, Hdel, Hset, Zadd, Zrem}
-use Rattle.mini_store.specs.declared.connection.Conn.{Conn}
+use Rattle.wire_values.specs.declared.value.Value.{Value}
+use Rattle.wire_values.specs.declared.value.Value.TheVariants.{Array}
+use Rattle.store_model.specs.Commands.{Around, run}
+use Rattle.store_model.specs.Connections.{Conns, around, conn, hit, posted}
+use Rattle.store_model.specs.Keys.{Keys, is_long, value_at, value_of}
+use Rattle.store_model.specs.Replies.{number}
+use Rattle.store_model.specs.Store.{State, run_all, run_queue, set_conn}
+use Rattle.store_model.specs.declared.command.Command.{Command}
+use Rattle.store_model.specs.declared.command.Command.TheVariants.{Del, Exec, Hdel, Hset, Zadd, Zrem}
+use Rattle.store_model.specs.declared.connection.Conn.{Conn}
 use Rattle.store_laws.proofs.Changes.{Pushed, hdel_answer, hdel_done, hset_done, lpush_done, rpush_done, unacked_not_index, zadd_done, zrem_done}
 use Rattle.store_laws.proofs.Connections.{hit_none, or_false, run_queue_conns, set_other, set_same}
 use Rattle.store_laws.proofs.Law.{run_all_told}
 use Rattle.store_laws.proofs.Table.{Turned, table_turned}
 use Rattle.store_laws.specs.Laws.{IsTouched}
-use Rattle.place_model.specs.Answers.{number_of}
+use Rattle.command_blocks.specs.Answers.{is_one, number_of}
 use Rattle.place_model.specs.Counts.{copy_one, end_one, has_field, has_member, is_field, one_if_more, one_if_none, sum_of}
-use Rattle.place_model.specs.Names.{Bytes, same}
+use Rattle.queue_keys.specs.Names.{Bytes, same}
 use Rattle.place_model.specs.Returns.{push_command, push_commands, take_out}
-use Rattle.place_model.specs.Seen.{Seen, deletes, hand_by, is_one, queued_push, queued_pushes, ran_by, ran_with, tag_weight}
-use Rattle.place_model.specs.Setting.{is_queue}
+use Rattle.place_model.specs.Seen.{Seen, deletes, hand_by, queued_push, queued_pushes, ran_by, ran_with, tag_weight}
+use Rattle.command_blocks.specs.Setting.{is_queue}
 use Rattle.place_model.specs.Starts.{IsHashOrNone}
-use Rattle.place_model.specs.declared.block.Side.{Side}
-use Rattle.place_model.specs.declared.block.Side.TheVariants.{Left, Right}
+use Rattle.command_blocks.specs.declared.block.Side.{Side}
+use Rattle.command_blocks.specs.declared.block.Side.TheVariants.{Left, Right}
 use Rattle.place_theorem.proofs.Full.{Alike, Full, Kinds, QueueKeys, keys_of}
 use Rattle.place_theorem.proofs.Machine.{AllApart, Idle}
 use Rattle.place_theorem.proofs.Safe.{Safe, Stands, conn_in, far_same, lists_elsewhere, lists_of, table_elsewhere, table_of, touched_is}

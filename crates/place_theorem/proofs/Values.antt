@@ -1,14 +1,14 @@
 -- Answers tell what they are.
 use Rattle.std.proofs.Common.{List, None, Some, [], ap, false, refl, sym, true, unwrap_or, ℤ, ◌∙◌, ◌∷◌, ◌≡◌, ◌⊎◌}
-use Rattle.resp_wire.proofs.Layers.{layer-array, layers_tell}
-use Rattle.resp_wire.specs.Layer.{layer}
-use Rattle.resp_wire.specs.declared.value.Value.{Value}
-use Rattle.resp_wire.specs.declared.value.Value.TheOpen.{Value-F}
-use Rattle.resp_wire.specs.declared.value.Value.TheVariants.{Array, Bulk, Error, Integer, NullArray, Status}
-use Rattle.mini_store.specs.Replies.{pair}
+use Rattle.wire_values.proofs.Layers.{layer-array, layers_tell}
+use Rattle.wire_values.specs.Layer.{layer}
+use Rattle.wire_values.specs.declared.value.Value.{Value}
+use Rattle.wire_values.specs.declared.value.Value.TheOpen.{Value-F}
+use Rattle.wire_values.specs.declared.value.Value.TheVariants.{Array, Bulk, Error, Integer, NullArray, Status}
+use Rattle.store_model.specs.Replies.{pair}
 use Rattle.store_laws.proofs.Maps.{same-refl, same_false, same_or}
-use Rattle.place_model.specs.Answers.{bulk_of, items_in, items_of, number_of, pair_of}
-use Rattle.place_model.specs.Names.{Bytes, same}
+use Rattle.command_blocks.specs.Answers.{bulk_of, items_in, items_of, number_of, pair_of}
+use Rattle.queue_keys.specs.Names.{Bytes, same}
 
 -- an integer tells its number
 pub number_of-Integer : (z : ℤ) → number_of (Integer z) ≡ Some z

@@ -3,18 +3,18 @@ use Rattle.std.proofs.Common.{◌+◌, ◌++◌, List, None, Option, Ordering, S
 use Rattle.std.proofs.lemmas.Cmp.{nat_cmp_total}
 use Rattle.std.specs.Cmp.{IsTotalOrder}
 use Rattle.std.specs.FinMap.{IsAntisymmetric, empty, entries, entries-from_sorted, from_sorted, get, get-empty, get-from_sorted, insert, nat_cmp-IsAntisymmetric, same_map}
-use Rattle.resp_wire.specs.declared.value.Value.{Value}
-use Rattle.mini_store.specs.Connections.{conn, or_no_conn}
-use Rattle.mini_store.specs.Keys.{Keys, live_at}
-use Rattle.mini_store.specs.Store.{State, apply_of, gone_of, quiet, serve, settled}
-use Rattle.mini_store.specs.Words.{Words, command_of}
-use Rattle.mini_store.specs.declared.reply.Reply.{Reply}
+use Rattle.wire_values.specs.declared.value.Value.{Value}
+use Rattle.store_model.specs.Connections.{conn, or_no_conn}
+use Rattle.store_model.specs.Keys.{Keys, live_at}
+use Rattle.store_model.specs.Store.{State, apply_of, gone_of, quiet, serve, settled}
+use Rattle.store_model.specs.Words.{Words, command_of}
+use Rattle.store_model.specs.declared.reply.Reply.{Reply}
 use Rattle.store_laws.proofs.Maps.{conn_or, get-insert_other, get-insert_same, total-insert}
-use Rattle.place_model.specs.Blocks.{IsMannered}
-use Rattle.place_model.specs.Calls.{Call, IsPrefixOf, call}
+use Rattle.command_blocks.specs.Blocks.{IsMannered}
+use Rattle.command_blocks.specs.Calls.{Call, IsPrefixOf, call}
 use Rattle.place_model.specs.Counts.{count, end_one, end_weight, hand_weight, loss_weight, push_weight, sum_of, total}
 use Rattle.place_model.specs.Histories.{AllMayCome, Client, MayCome, World, after_entries, conn_of, next, next_of, start_from, table, with_client}
-use Rattle.place_model.specs.Names.{Bytes}
+use Rattle.queue_keys.specs.Names.{Bytes}
 use Rattle.place_model.specs.Seen.{nothing_seen, seen, tag_weight}
 use Rattle.place_model.specs.declared.history.Entry.{Entry}
 use Rattle.place_model.specs.declared.history.Entry.TheVariants.{Call as Called, Heard, Stop}

@@ -1,11 +1,11 @@
 //! All envelopes of a message are the one that was published, but for the marks of redelivery.
-ghost use Rattle.place_model.specs.Blocks.{AreBlocks, drawn_by};
-ghost use Rattle.place_model.specs.Calls.{Call, concat};
+ghost use Rattle.command_blocks.specs.Blocks.{AreBlocks, drawn_by};
+ghost use Rattle.command_blocks.specs.Calls.{Call, concat};
 ghost use Rattle.place_model.specs.Histories.{Client, History, IsHistoryPrefix, after, calls_of};
 ghost use Rattle.place_model.specs.Identity.{HasEnvelope, HasOrigin, IsPublished};
-ghost use Rattle.place_model.specs.Names.{Bytes};
-ghost use Rattle.place_model.specs.QueueKeys.{Among};
-ghost use Rattle.place_model.specs.Setting.{IsLawful, Setting};
+ghost use Rattle.queue_keys.specs.Names.{Bytes};
+ghost use Rattle.queue_keys.specs.QueueKeys.{Among};
+ghost use Rattle.command_blocks.specs.Setting.{IsLawful, Setting};
 ghost use Rattle.place_model.specs.Starts.{IsSound};
 ghost use Rattle.std.specs.FinMap.{get};
 ghost use Rattle.std.specs.Prelude.{◌≡◌, ℕ, List, Some, suc};

@@ -1,7 +1,7 @@
 //! The premises of the laws can be met.
-ghost use Rattle.place_model.specs.Layouts.{Layout, is_layout, plain};
-ghost use Rattle.place_model.specs.EnvelopeTexts.{texts};
-ghost use Rattle.place_model.specs.Setting.{IsLawful, Setting, setting_of};
+ghost use Rattle.queue_keys.specs.Layouts.{Layout, is_layout, plain};
+ghost use Rattle.command_blocks.specs.EnvelopeTexts.{texts};
+ghost use Rattle.command_blocks.specs.Setting.{IsLawful, Setting, setting_of};
 ghost use Rattle.place_model.specs.Starts.{IsSoundStart};
 ghost use Rattle.std.specs.FinMap.{empty};
 ghost use Rattle.std.specs.Prelude.{◌≡◌, [], true};

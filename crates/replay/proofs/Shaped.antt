@@ -10,7 +10,7 @@ use Rattle.envelope.proofs.BodyTexts.{entry_is_read, envelope_from_read}
 use Rattle.envelope.proofs.Said.{said_is}
 use Rattle.envelope.proofs.Told.{told_by}
 use Rattle.line_text.specs.declared.short.Shape.{Shape}
-use Rattle.place_model.specs.Names.{Bytes}
+use Rattle.queue_keys.specs.Names.{Bytes}
 use Rattle.schedule_model.specs.Shapes.{entry_or_tag, entry_shape, envelope_or, envelope_shape, shape_of, tag_shape}
 use Rattle.envelope.specs.Tags.{tag_of_text}
 use Rattle.replay.specs.Openings.{may_open}

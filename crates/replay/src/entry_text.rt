@@ -4,16 +4,16 @@
 ghost use Rattle.std.specs.Prelude.{◌≡◌, [], ◌∷◌, ◌++◌, OnOk, codes, decimal, map};
 ghost use Rattle.std.specs.List.{flat_map};
 ghost use Rattle.line_text.specs.Short.{short_value, short_word};
-ghost use Rattle.place_model.specs.Setting.{Setting};
+ghost use Rattle.command_blocks.specs.Setting.{Setting};
 ghost use Rattle.place_model.specs.declared.history.Entry.TheVariants.{Call};
 ghost use Rattle.schedule_model.specs.Legends.{legend_of};
 ghost use Rattle.schedule_model.specs.Reports.{entry_line, entry_lines, line, note_words, reply_text};
 
 use crate::note_text::note;
 use line_text::{Legend, short_value, short_word};
-use mini_store::Reply;
+use store_model::Reply;
 use place_model::{Entry, Heard};
-use resp_wire::{Bytes, Value};
+use wire_values::{Bytes, Value};
 use std::alloc::{AllocError, Global};
 
 /// Appends the lines of entries, the first of them numbered 1.

@@ -6,8 +6,9 @@ ghost use Rattle.schedule_model.specs.Reports.{report_text};
 
 use crate::legend::Celery;
 use crate::report_lines::report_of;
-use place_model::{History, places};
-use resp_wire::Bytes;
+use place_index::places;
+use place_model::History;
+use wire_values::Bytes;
 use std::alloc::{AllocError, Global};
 
 /// The report of a history: its entries, where its messages are, and how many there are in each place.

@@ -5,7 +5,7 @@ ghost use Rattle.std.specs.Prelude.{◌≡◌, ◌++◌, ◌/◌, ◌%◌, ◌^�
 ghost use Rattle.std.specs.List.{flat_map};
 ghost use Rattle.envelope.specs.Tags.{tag_text};
 ghost use Rattle.line_text.specs.Short.{tag_short};
-ghost use Rattle.place_model.specs.Setting.{Setting};
+ghost use Rattle.command_blocks.specs.Setting.{Setting};
 ghost use Rattle.replay.specs.Kinds.{is_of, totals};
 ghost use Rattle.place_model.specs.Placed.{all_placed, placed};
 ghost use Rattle.schedule_model.specs.Legends.{legend_of};

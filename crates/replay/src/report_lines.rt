@@ -1,7 +1,7 @@
 //! Reports: the text of a history, of its entries and of where its messages are.
 ghost use Rattle.std.specs.Prelude.{◌≡◌, IfOk};
 ghost use Rattle.place_model.specs.Histories.{History};
-ghost use Rattle.place_model.specs.Setting.{Setting};
+ghost use Rattle.command_blocks.specs.Setting.{Setting};
 ghost use Rattle.place_model.specs.declared.heard.Heard.{Heard as Noted};
 ghost use Rattle.place_model.specs.Placed.{all_placed};
 ghost use Rattle.schedule_model.specs.Legends.{legend_of};
@@ -13,7 +13,7 @@ use crate::place_text::{place_lines, total_line};
 use envelope::Tag;
 use line_text::Legend;
 use place_model::{Entry, Heard, Place};
-use resp_wire::Bytes;
+use wire_values::Bytes;
 use std::alloc::{AllocError, Global};
 
 /// The report of a history of these entries, whose accepted tags have these places in the order of their first push.

@@ -6,14 +6,14 @@ use Rattle.serde_json.specs.Written.{compact_text}
 use Rattle.envelope.specs.Envelopes.{envelope_at, parts_in, priority_of}
 use Rattle.envelope.proofs.EnvelopeTags.{read_said}
 use Rattle.envelope.proofs.Said.{said_is}
-use Rattle.mini_store.specs.Words.{IsWithinLimits, Words}
-use Rattle.place_model.specs.EnvelopeTexts.{plain_setting, way_of, way_said}
-use Rattle.place_model.specs.Layouts.{plain, step_of}
-use Rattle.place_model.specs.Lookup.{route_keys}
-use Rattle.place_model.specs.Names.{Bytes, is_name}
-use Rattle.place_model.specs.QueueKeys.{keys_at, queue_key}
-use Rattle.place_model.specs.Scripts.{asking_script, publish_script, pushes}
-use Rattle.place_model.specs.Setting.{Way, if_named, named_exchange, way_keys}
+use Rattle.store_model.specs.Words.{IsWithinLimits, Words}
+use Rattle.command_blocks.specs.EnvelopeTexts.{plain_setting, way_of, way_said}
+use Rattle.queue_keys.specs.Layouts.{plain, step_of}
+use Rattle.queue_keys.specs.Lookup.{route_keys}
+use Rattle.queue_keys.specs.Names.{Bytes, is_name}
+use Rattle.queue_keys.specs.QueueKeys.{keys_at, queue_key}
+use Rattle.command_blocks.specs.Scripts.{asking_script, publish_script, pushes}
+use Rattle.command_blocks.specs.Setting.{Way, if_named, named_exchange, way_keys}
 use Rattle.place_model.proofs.CommandLimits.{IsShort, key_short, three_within}
 use Rattle.routes.specs.Publishes.{GoesDirectly, direct_key}
 

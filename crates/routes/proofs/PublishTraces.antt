@@ -3,17 +3,17 @@ use Rattle.std.proofs.Common.{◌≡◌, ℕ, suc, ◌<◌, ◌^◌, List, [], �
 use Rattle.serde_json.specs.Data.{Data}
 use Rattle.serde_json.specs.View.{view as data_of}
 use Rattle.serde_json.specs.Written.{compact_text}
-use Rattle.resp_wire.specs.declared.value.Value.{Value}
+use Rattle.wire_values.specs.declared.value.Value.{Value}
 use Rattle.envelope.specs.Envelopes.{parts_in}
-use Rattle.mini_store.specs.Words.{Words}
-use Rattle.place_model.specs.Answers.{number_of}
-use Rattle.place_model.specs.Calls.{Call, call}
-use Rattle.place_model.specs.Cores.{IsAnswered}
-use Rattle.place_model.specs.EnvelopeTexts.{plain_setting}
-use Rattle.place_model.specs.RouteBlocks.{IsPublishBlock}
-use Rattle.place_model.specs.Scripts.{Script, Over, Publish, after_call, if_told, next_words, publish_script}
-use Rattle.place_model.specs.declared.block.BlockEnd.{BlockEnd}
-use Rattle.place_model.specs.declared.block.BlockEnd.TheVariants.{Sent}
+use Rattle.store_model.specs.Words.{Words}
+use Rattle.command_blocks.specs.Answers.{number_of}
+use Rattle.command_blocks.specs.Calls.{Call, call}
+use Rattle.command_blocks.specs.Cores.{IsAnswered}
+use Rattle.command_blocks.specs.EnvelopeTexts.{plain_setting}
+use Rattle.command_blocks.specs.RouteBlocks.{IsPublishBlock}
+use Rattle.command_blocks.specs.Scripts.{Script, Over, Publish, after_call, if_told, next_words, publish_script}
+use Rattle.command_blocks.specs.declared.block.BlockEnd.{BlockEnd}
+use Rattle.command_blocks.specs.declared.block.BlockEnd.TheVariants.{Sent}
 use Rattle.schedule_laws.specs.Rows.{IsPublication}
 use Rattle.schedule_laws.specs.Traces.{IsTrace, IsFrontOf}
 use Rattle.schedule_laws.proofs.Traces.{first_trace, next_trace, trace_front}

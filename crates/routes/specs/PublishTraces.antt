@@ -4,14 +4,14 @@ use Rattle.serde_json.specs.Data.{Data}
 use Rattle.serde_json.specs.View.{view as data_of}
 use Rattle.serde_json.specs.Written.{compact_text}
 use Rattle.envelope.specs.Envelopes.{parts_in}
-use Rattle.place_model.specs.Calls.{Call}
-use Rattle.place_model.specs.EnvelopeTexts.{plain_setting}
-use Rattle.place_model.specs.RouteBlocks.{IsPublishBlock}
-use Rattle.place_model.specs.Scripts.{publish_script}
-use Rattle.place_model.specs.declared.block.BlockEnd.{BlockEnd}
-use Rattle.place_model.specs.declared.block.BlockEnd.TheVariants.{Declared, Sent, NoQueue, Empty, Popped, Unreadable, Acked, Moved, Gone, Stayed, Contended, Done, Held, Told}
-use Rattle.place_model.specs.declared.block.CoreFault.{CoreFault}
-use Rattle.place_model.specs.declared.block.CoreFault.TheVariants.{Draft, Name, NoTag, BadNeutral, Refused, Memory}
+use Rattle.command_blocks.specs.Calls.{Call}
+use Rattle.command_blocks.specs.EnvelopeTexts.{plain_setting}
+use Rattle.command_blocks.specs.RouteBlocks.{IsPublishBlock}
+use Rattle.command_blocks.specs.Scripts.{publish_script}
+use Rattle.command_blocks.specs.declared.block.BlockEnd.{BlockEnd}
+use Rattle.command_blocks.specs.declared.block.BlockEnd.TheVariants.{Declared, Sent, NoQueue, Empty, Popped, Unreadable, Acked, Moved, Gone, Stayed, Contended, Done, Held, Told}
+use Rattle.command_blocks.specs.declared.block.CoreFault.{CoreFault}
+use Rattle.command_blocks.specs.declared.block.CoreFault.TheVariants.{Draft, Name, NoTag, BadNeutral, Refused, Memory}
 use Rattle.schedule_laws.specs.Traces.{IsTrace, IsFrontOf}
 use Rattle.routes.specs.Publishes.{GoesDirectly, publish_left}
 use Rattle.routes.specs.declared.publish.PublishCore.{PublishCore}

@@ -4,11 +4,11 @@ use Rattle.serde_json.specs.Data.{Data}
 use Rattle.serde_json.specs.View.{view as data_of}
 use Rattle.serde_json.specs.Written.{compact_text}
 use Rattle.envelope.specs.Envelopes.{envelope_at, parts_in, priority_of}
-use Rattle.place_model.specs.Layouts.{plain, step_of}
-use Rattle.place_model.specs.Names.{Bytes, is_name}
-use Rattle.place_model.specs.QueueKeys.{queue_key}
-use Rattle.place_model.specs.Scripts.{Script, Over, Off, pushes}
-use Rattle.place_model.specs.declared.block.BlockEnd.{BlockEnd}
+use Rattle.queue_keys.specs.Layouts.{plain, step_of}
+use Rattle.queue_keys.specs.Names.{Bytes, is_name}
+use Rattle.queue_keys.specs.QueueKeys.{queue_key}
+use Rattle.command_blocks.specs.Scripts.{Script, Over, Off, pushes}
+use Rattle.command_blocks.specs.declared.block.BlockEnd.{BlockEnd}
 use Rattle.routes.specs.declared.publish.PublishCore.{PublishCore}
 use Rattle.routes.specs.declared.publish.PublishStage.{PublishStage}
 use Rattle.routes.specs.declared.publish.PublishStage.TheVariants as stage

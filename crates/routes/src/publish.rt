@@ -1,10 +1,10 @@
 //! A publication: a message is pushed to the list of its queue.
 ghost use Rattle.std.specs.Prelude.{List as Listed, ◌≡◌, ◌∷◌, [], ◌<◌, ◌^◌, true, codes, IfOk, IfSome, IsSome, Some, None, Ok};
-ghost use Rattle.mini_store.specs.Words.{IsWithinLimits, Words as Said};
-ghost use Rattle.place_model.specs.Calls.{Call, call};
-ghost use Rattle.place_model.specs.Cores.{HasTaken, is_off, is_saying};
-ghost use Rattle.place_model.specs.EnvelopeTexts.{plain_setting};
-ghost use Rattle.place_model.specs.Scripts.{next_words, publish_script};
+ghost use Rattle.store_model.specs.Words.{IsWithinLimits, Words as Said};
+ghost use Rattle.command_blocks.specs.Calls.{Call, call};
+ghost use Rattle.command_blocks.specs.Cores.{HasTaken, is_off, is_saying};
+ghost use Rattle.command_blocks.specs.EnvelopeTexts.{plain_setting};
+ghost use Rattle.command_blocks.specs.Scripts.{next_words, publish_script};
 ghost use Rattle.routes.specs.Publishes.{GoesDirectly, direct_key, publish_end, publish_left};
 ghost use Rattle.routes.specs.PublishTraces.{HasPublished, HasPublishedOn, IsPublishEnded};
 ghost use Rattle.serde_json.specs.Data.{Data};
@@ -12,10 +12,11 @@ ghost use Rattle.serde_json.specs.View.{view as data_of};
 ghost use Rattle.serde_json.specs.Written.{compact_text};
 
 use envelope::{Envelope, write};
-use mini_store::Reply;
-use place_model::answer::integer;
-use place_model::{BlockEnd, CoreFault, QueueName, queue_key, step_of};
-use resp_wire::{Bytes, Words};
+use store_model::Reply;
+use command_blocks::answer::integer;
+use command_blocks::{BlockEnd, CoreFault};
+use queue_keys::{QueueName, queue_key, step_of};
+use wire_values::{Bytes, Words};
 use std::alloc::{AllocError, Global};
 
 /// The publication of a message that goes to its queue directly, by the empty exchange.

@@ -3,10 +3,12 @@
 //! The texts stand behind functions without clauses, so that no proof has to read them.
 use crate::PublishCore;
 use envelope::{EnvelopeFault, Tag, read, write};
-use mini_store::{Reply, Store};
-use place_model::answer::{integer, is_status};
-use place_model::{BlockEnd, CoreFault, is_name};
-use resp_wire::{Bytes, Value, Values, Words};
+use mini_store::Store;
+use store_model::Reply;
+use command_blocks::answer::{integer, is_status};
+use command_blocks::{BlockEnd, CoreFault};
+use queue_keys::is_name;
+use wire_values::{Bytes, Value, Values, Words};
 use std::alloc::{AllocError, Global};
 use std::test::Fail;
 

@@ -2,13 +2,13 @@
 use Rattle.std.proofs.Common.{◌≡◌, ℕ, suc, refl, sym, ◌∙◌, subst, List, [], ◌∷◌, Bool, true, false, Option, None, Some, if◌then◌else◌}
 use Rattle.std.specs.Prelude.{◌||◌, ◌&&◌, not}
 use Rattle.std.specs.List.{list_any}
-use Rattle.place_model.specs.Bindings.{is_part}
-use Rattle.place_model.specs.Names.{Bytes, all_free, has_length, is_name, is_reserved}
-use Rattle.place_model.specs.QueueKeys.{Each}
-use Rattle.place_model.specs.Setting.{if_named}
-use Rattle.place_model.specs.TakeBlocks.{IsPop}
-use Rattle.place_model.specs.Scripts.{Plan, Declare, Undeclare, Publish, Pop, End, Return, Pass}
-use Rattle.place_model.specs.declared.block.Side.TheVariants.{Left, Right}
+use Rattle.queue_keys.specs.Bindings.{is_part}
+use Rattle.queue_keys.specs.Names.{Bytes, all_free, has_length, is_name, is_reserved}
+use Rattle.queue_keys.specs.QueueKeys.{Each}
+use Rattle.command_blocks.specs.Setting.{if_named}
+use Rattle.command_blocks.specs.TakeBlocks.{IsPop}
+use Rattle.command_blocks.specs.Scripts.{Plan, Declare, Undeclare, Publish, Pop, End, Return, Pass}
+use Rattle.command_blocks.specs.declared.block.Side.TheVariants.{Left, Right}
 use Rattle.schedule_model.specs.Faults.{Craft, Test, first_reason, is_no_name, is_empty, declare_tests, asked_tests}
 use Rattle.schedule_model.specs.Schedules.{publish_plan, plan_of}
 use Rattle.schedule_model.specs.declared.line.Asked.{Asked}

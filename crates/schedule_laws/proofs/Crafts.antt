@@ -1,12 +1,12 @@
 -- The crafts of lawful layouts.
 use Rattle.std.proofs.Common.{◌≡◌, ℕ, ◌*◌, ◌≤◌, suc, arith, refl, ap, sym, ◌∙◌, subst, List, [], ◌∷◌, ◌++◌, Bool, true, false, Some, if◌then◌else◌, length, length-append}
 use Rattle.std.specs.Prelude.{◌&&◌}
-use Rattle.place_model.specs.Names.{Bytes, is_name}
-use Rattle.place_model.specs.Layouts.{Layout, is_layout, is_prefix, rises_from_zero, step_of}
-use Rattle.place_model.specs.QueueKeys.{queue_key, keys_at, keys_by, pop_keys}
-use Rattle.place_model.specs.Lookup.{route_keys}
-use Rattle.place_model.specs.Setting.{Texts, IsTexts, IsLawful, named_exchange, way_keys, setting_of}
-use Rattle.place_model.proofs.Settings.{lawful_setting}
+use Rattle.queue_keys.specs.Names.{Bytes, is_name}
+use Rattle.queue_keys.specs.Layouts.{Layout, is_layout, is_prefix, rises_from_zero, step_of}
+use Rattle.queue_keys.specs.QueueKeys.{queue_key, keys_at, keys_by, pop_keys}
+use Rattle.queue_keys.specs.Lookup.{route_keys}
+use Rattle.command_blocks.specs.Setting.{Texts, IsTexts, IsLawful, named_exchange, way_keys, setting_of}
+use Rattle.key_laws.proofs.Settings.{lawful_setting}
 use Rattle.manner_laws.specs.Cursor.{IsReadable}
 use Rattle.manner_laws.specs.LayoutKeys.{exchange_of_key, TellsShortExchanges}
 use Rattle.manner_laws.proofs.LayoutReads.{readable_layout}

@@ -1,9 +1,9 @@
 -- It is decided whether calls are a front of blocks: the cursor of a client tells.
 use Rattle.std.proofs.Common.{◌≡◌, ◌⊎◌, inl, inr, arith, refl, sym, ◌∙◌, List, [], ◌∷◌, Option}
-use Rattle.place_model.specs.Names.{Bytes}
-use Rattle.place_model.specs.Setting.{Setting, IsLawful}
-use Rattle.place_model.specs.Calls.{Call}
-use Rattle.place_model.specs.Blocks.{IsFrontOfBlocks}
+use Rattle.queue_keys.specs.Names.{Bytes}
+use Rattle.command_blocks.specs.Setting.{Setting, IsLawful}
+use Rattle.command_blocks.specs.Calls.{Call}
+use Rattle.command_blocks.specs.Blocks.{IsFrontOfBlocks}
 use Rattle.manner_laws.specs.Spots.{Spot}
 use Rattle.manner_laws.specs.Cursor.{Cursor, At, Unlisted, Unmannered, cursor_of, IsReadable, AreTimely as HaveMoments}
 use Rattle.manner_laws.proofs.Judged.{front_at, at_front}

@@ -3,15 +3,15 @@ use Rattle.std.proofs.Common.{◌≡◌, ◌≢◌, ◌⊎◌, inl, inr, ℕ, �
 use Rattle.std.proofs.lemmas.List.{append-nil}
 use Rattle.std.specs.Ordering.{nat_cmp}
 use Rattle.std.specs.FinMap.{FinMap, get, insert, empty, get-empty}
-use Rattle.resp_wire.specs.declared.value.Value.{Value}
-use Rattle.mini_store.specs.Words.{Words}
-use Rattle.mini_store.specs.Store.{State, apply_of, gone_of}
-use Rattle.mini_store.specs.declared.reply.Reply.{Reply}
-use Rattle.place_model.specs.Setting.{Setting}
-use Rattle.place_model.specs.Calls.{call}
-use Rattle.place_model.specs.QueueKeys.{Among}
+use Rattle.wire_values.specs.declared.value.Value.{Value}
+use Rattle.store_model.specs.Words.{Words}
+use Rattle.store_model.specs.Store.{State, apply_of, gone_of}
+use Rattle.store_model.specs.declared.reply.Reply.{Reply}
+use Rattle.command_blocks.specs.Setting.{Setting}
+use Rattle.command_blocks.specs.Calls.{call}
+use Rattle.queue_keys.specs.QueueKeys.{Among}
 use Rattle.place_model.specs.Histories.{calls_of, Client, World, after_entries, new_client, start_from, AllMayCome, IsTable, with_client as with_known}
-use Rattle.place_model.specs.Scripts.{Script, Over, Off, Say}
+use Rattle.command_blocks.specs.Scripts.{Script, Over, Off, Say}
 use Rattle.place_model.specs.declared.history.Entry.TheVariants.{Call as Called, Stop}
 use Rattle.schedule_model.specs.Costs.{is_full}
 use Rattle.schedule_model.specs.Desk.{Book, Desk, first_desk, with_book, with_client, Said, with_call, said_one, said_all, with_stop}

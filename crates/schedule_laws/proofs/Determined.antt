@@ -7,10 +7,10 @@ use Rattle.line_text.specs.Lines.{lines_of, text_fault}
 use Rattle.line_text.specs.Words.{words_of}
 use Rattle.line_text.specs.declared.reason.Reason.{Reason}
 use Rattle.line_text.specs.declared.reason.Reason.TheVariants.{Header, Later}
-use Rattle.place_model.specs.Names.{Bytes}
+use Rattle.queue_keys.specs.Names.{Bytes}
 use Rattle.place_model.specs.Histories.{calls_of}
-use Rattle.place_model.specs.Setting.{Setting}
-use Rattle.place_model.specs.Scripts.{Script, Over, Off, Say, Plan}
+use Rattle.command_blocks.specs.Setting.{Setting}
+use Rattle.command_blocks.specs.Scripts.{Script, Over, Off, Say, Plan}
 use Rattle.schedule_model.specs.Built.{waits}
 use Rattle.schedule_model.specs.Costs.{is_full}
 use Rattle.schedule_model.specs.Desk.{Desk, Book, Said, first_desk, with_book, begun, said_one, said_all, with_stop}

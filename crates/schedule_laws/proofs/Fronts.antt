@@ -1,12 +1,12 @@
 -- Scripts and fronts of blocks.
 use Rattle.std.proofs.Common.{◌≡◌, ◌⊎◌, inl, inr, ℕ, ◌<◌, ◌^◌, refl, ap, sym, ◌∙◌, subst, List, [], ◌∷◌, ◌++◌, append_assoc, Some, lit<}
 use Rattle.std.proofs.lemmas.List.{append-nil}
-use Rattle.resp_wire.specs.declared.value.Value.{Value}
-use Rattle.mini_store.specs.Words.{Words}
-use Rattle.place_model.specs.Setting.{Setting}
-use Rattle.place_model.specs.Calls.{Call, call, concat}
-use Rattle.place_model.specs.Blocks.{Kind, drawn, passed, IsBlock, AreBlocks, IsFrontOfBlocks}
-use Rattle.place_model.specs.Scripts.{Script, Over, Off, Say, after_call, rest_of, IsSaid}
+use Rattle.wire_values.specs.declared.value.Value.{Value}
+use Rattle.store_model.specs.Words.{Words}
+use Rattle.command_blocks.specs.Setting.{Setting}
+use Rattle.command_blocks.specs.Calls.{Call, call, concat}
+use Rattle.command_blocks.specs.Blocks.{Kind, drawn, passed, IsBlock, AreBlocks, IsFrontOfBlocks}
+use Rattle.command_blocks.specs.Scripts.{Script, Over, Off, Say, after_call, rest_of, IsSaid}
 use Rattle.schedule_laws.specs.Rows.{IsGood, AreTimely}
 
 -- ---- calls by a script, and then calls by what is left of it

@@ -1,14 +1,14 @@
 -- Scripts that can always be said to their end.
 use Rattle.std.proofs.Common.{◌≡◌, ◌⊎◌, inl, inr, ℕ, List, [], ◌∷◌, Option, None, Some, Bool, true, false, refl, ap, sym, subst, ◌∙◌, ℤ, codes, if◌then◌else◌}
 use Rattle.std.specs.Prelude.{option_and_then, pos}
-use Rattle.resp_wire.specs.Layer.{layer}
-use Rattle.resp_wire.specs.declared.value.Value.TheVariants.{Status, Integer, NullBulk, NullArray}
-use Rattle.resp_wire.specs.declared.value.Value.{Value}
-use Rattle.mini_store.specs.Words.{Words}
-use Rattle.mini_store.specs.Replies.{done, queued, bulks}
-use Rattle.place_model.specs.Names.{Bytes}
-use Rattle.place_model.specs.Answers.{integers, number_of, items_of, bulk_of}
-use Rattle.place_model.specs.Scripts.{Script, Off, Say, plainly, if_told, status_in, on_status, on_done, on_queued, on_number, told_by, texts_of, on_texts, on_two, on_two_numbers, null_array_in, null_bulk_in, on_null_array, on_ran, on_entry}
+use Rattle.wire_values.specs.Layer.{layer}
+use Rattle.wire_values.specs.declared.value.Value.TheVariants.{Status, Integer, NullBulk, NullArray}
+use Rattle.wire_values.specs.declared.value.Value.{Value}
+use Rattle.store_model.specs.Words.{Words}
+use Rattle.store_model.specs.Replies.{done, queued, bulks}
+use Rattle.queue_keys.specs.Names.{Bytes}
+use Rattle.command_blocks.specs.Answers.{integers, number_of, items_of, bulk_of}
+use Rattle.command_blocks.specs.Scripts.{Script, Off, Say, plainly, if_told, status_in, on_status, on_done, on_queued, on_number, told_by, texts_of, on_texts, on_two, on_two_numbers, null_array_in, null_bulk_in, on_null_array, on_ran, on_entry}
 use Rattle.schedule_laws.specs.Rows.{IsGood}
 use Rattle.schedule_laws.proofs.Values.{eq_itself, layer-Status, layer-NullBulk, layer-NullArray, number_of-Integer, items_of-Array}
 

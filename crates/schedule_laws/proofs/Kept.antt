@@ -1,12 +1,12 @@
 -- A client's calls, as its book has them: whole blocks, and then those of its block in progress.
 use Rattle.std.proofs.Common.{◌≡◌, ◌⊎◌, inl, inr, ℕ, ◌<◌, ◌^◌, refl, ap, sym, ◌∙◌, subst, List, [], ◌∷◌, ◌++◌, append_assoc, true, false}
 use Rattle.std.proofs.lemmas.List.{append-nil}
-use Rattle.resp_wire.specs.declared.value.Value.{Value}
-use Rattle.mini_store.specs.Words.{Words}
-use Rattle.place_model.specs.Setting.{Setting}
-use Rattle.place_model.specs.Calls.{Call, call, concat}
-use Rattle.place_model.specs.Blocks.{drawn, passed, IsFrontOfBlocks, IsMannered}
-use Rattle.place_model.specs.Scripts.{Script, Over, Off, Say, Plan, script_of, kind_of, after_call, rest_of, IsSaid}
+use Rattle.wire_values.specs.declared.value.Value.{Value}
+use Rattle.store_model.specs.Words.{Words}
+use Rattle.command_blocks.specs.Setting.{Setting}
+use Rattle.command_blocks.specs.Calls.{Call, call, concat}
+use Rattle.command_blocks.specs.Blocks.{drawn, passed, IsFrontOfBlocks, IsMannered}
+use Rattle.command_blocks.specs.Scripts.{Script, Over, Off, Say, Plan, script_of, kind_of, after_call, rest_of, IsSaid}
 use Rattle.schedule_model.specs.Desk.{Book, begun}
 use Rattle.schedule_laws.specs.Rows.{IsGood, AreTimely, IsRow}
 use Rattle.schedule_laws.proofs.Talks.{says_not}

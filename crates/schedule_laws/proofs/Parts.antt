@@ -1,11 +1,11 @@
 -- What was said so far of a lawful plan begins a block, or would with another last answer.
 use Rattle.std.proofs.Common.{◌≡◌, ◌⊎◌, inl, inr, ℕ, ◌∙◌, List, [], ◌∷◌, ◌++◌}
-use Rattle.resp_wire.specs.declared.value.Value.{Value}
-use Rattle.mini_store.specs.Words.{Words}
-use Rattle.place_model.specs.Setting.{Setting}
-use Rattle.place_model.specs.Calls.{Call, call}
-use Rattle.place_model.specs.Blocks.{IsBlock}
-use Rattle.place_model.specs.Scripts.{Script, Off, Plan, script_of, kind_of, rest_of, IsSaid}
+use Rattle.wire_values.specs.declared.value.Value.{Value}
+use Rattle.store_model.specs.Words.{Words}
+use Rattle.command_blocks.specs.Setting.{Setting}
+use Rattle.command_blocks.specs.Calls.{Call, call}
+use Rattle.command_blocks.specs.Blocks.{IsBlock}
+use Rattle.command_blocks.specs.Scripts.{Script, Off, Plan, script_of, kind_of, rest_of, IsSaid}
 use Rattle.schedule_laws.specs.Rows.{IsGood, AreTimely, IsLawfulPlan, IsRow}
 use Rattle.schedule_laws.proofs.PlanRows.{plan_row}
 use Rattle.schedule_laws.proofs.Fronts.{said-append, rest-append, timely-append, end_of, IsPutOff, rest_good, good_on}

@@ -1,16 +1,16 @@
 -- Rows of declarations, publications, pops and acknowledgements.
 use Rattle.std.proofs.Common.{◌≡◌, inr, ℕ, suc, List, [], ◌∷◌, Option, None, Some, true, refl, ap, sym, subst, ◌∙◌, ℤ, codes, decimal}
-use Rattle.resp_wire.specs.declared.value.Value.TheVariants.{Integer, NullArray}
-use Rattle.mini_store.specs.Replies.{done, queued, bulks, pair}
-use Rattle.mini_store.specs.Words.{Words}
-use Rattle.place_model.specs.Names.{Bytes}
-use Rattle.place_model.specs.Answers.{integers, pair_of}
-use Rattle.place_model.specs.Bindings.{member}
-use Rattle.place_model.specs.Setting.{Setting}
-use Rattle.place_model.specs.Calls.{Call, call}
-use Rattle.place_model.specs.RouteBlocks.{IsDeclareBlock, Told, direct_calls, direct_keys, IsPublishBlock, Plain, Named}
-use Rattle.place_model.specs.TakeBlocks.{IsPop, brpop_words, IsPopBlock, Empty, Unreadable, Popped, IsEndBlock, Acknowledged}
-use Rattle.place_model.specs.Scripts.{Script, Over, Say, plainly, if_told, on_queued, on_number, on_texts, on_two_numbers, declare_script, pushes, asking_script, publish_script, keep_script, kept_by, on_popped, popping, pop_script, end_script}
+use Rattle.wire_values.specs.declared.value.Value.TheVariants.{Integer, NullArray}
+use Rattle.store_model.specs.Replies.{done, queued, bulks, pair}
+use Rattle.store_model.specs.Words.{Words}
+use Rattle.queue_keys.specs.Names.{Bytes}
+use Rattle.command_blocks.specs.Answers.{integers, pair_of}
+use Rattle.queue_keys.specs.Bindings.{member}
+use Rattle.command_blocks.specs.Setting.{Setting}
+use Rattle.command_blocks.specs.Calls.{Call, call}
+use Rattle.command_blocks.specs.RouteBlocks.{IsDeclareBlock, Told, direct_calls, direct_keys, IsPublishBlock, Plain, Named}
+use Rattle.command_blocks.specs.TakeBlocks.{IsPop, brpop_words, IsPopBlock, Empty, Unreadable, Popped, IsEndBlock, Acknowledged}
+use Rattle.command_blocks.specs.Scripts.{Script, Over, Say, plainly, if_told, on_queued, on_number, on_texts, on_two_numbers, declare_script, pushes, asking_script, publish_script, keep_script, kept_by, on_popped, popping, pop_script, end_script}
 use Rattle.schedule_laws.specs.Rows.{IsGood, IsDeclaration, IsPublication}
 use Rattle.schedule_laws.proofs.Talks.{Talks, over_talks, say_talks, number_talks, texts_talks, two_talks, popped_talks, done_talks, queued_talks}
 use Rattle.schedule_laws.proofs.Good.{told_on, done_good, queued_good, number_good, texts_good, two_good, null_array_good}

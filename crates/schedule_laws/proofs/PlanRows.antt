@@ -1,11 +1,11 @@
 -- Each lawful plan is a row.
 use Rattle.std.proofs.Common.{ℕ, suc, List, arith, codes}
-use Rattle.place_model.specs.Setting.{Setting}
-use Rattle.place_model.specs.Texts.{token}
-use Rattle.place_model.specs.Calls.{Call}
-use Rattle.place_model.specs.Blocks.{IsBlock}
-use Rattle.place_model.specs.Blocks as blocks
-use Rattle.place_model.specs.Scripts.{Plan, Declare, Undeclare, Publish, Pop, End, Return, Pass, script_of, kind_of}
+use Rattle.command_blocks.specs.Setting.{Setting}
+use Rattle.queue_keys.specs.Texts.{token}
+use Rattle.command_blocks.specs.Calls.{Call}
+use Rattle.command_blocks.specs.Blocks.{IsBlock}
+use Rattle.command_blocks.specs.Blocks as blocks
+use Rattle.command_blocks.specs.Scripts.{Plan, Declare, Undeclare, Publish, Pop, End, Return, Pass, script_of, kind_of}
 use Rattle.schedule_laws.specs.Rows.{IsGood, IsLawfulPlan, IsPlanBlock, IsRow}
 use Rattle.schedule_laws.proofs.Talks.{Talks, talks}
 use Rattle.schedule_laws.proofs.PlainRows.{declare_good, declare_talk, publish_good, publish_talk, pop_good, pop_talk, end_good, end_talk}

@@ -1,18 +1,18 @@
 -- Returns and passes: their scripts are good, and what was said by them is the block.
 use Rattle.std.proofs.Common.{◌≡◌, ◌⊎◌, inl, inr, ℕ, ◌+◌, ◌<◌, zero, suc, List, [], ◌∷◌, ◌++◌, append_assoc, Bool, true, false, refl, ap, sym, subst, ◌∙◌, codes, arith, rules, if◌then◌else◌}
-use Rattle.resp_wire.specs.declared.value.Value.{Value}
-use Rattle.resp_wire.specs.declared.value.Value.TheVariants.{Bulk, NullBulk, NullArray}
-use Rattle.mini_store.specs.Replies.{done, queued, bulks}
-use Rattle.mini_store.specs.Words.{Words}
-use Rattle.place_model.specs.Names.{Bytes, same}
-use Rattle.place_model.specs.Answers.{integers, items_of, bulk_of}
-use Rattle.place_model.specs.Setting.{Setting}
-use Rattle.place_model.specs.Calls.{Call, call}
-use Rattle.place_model.specs.ReturnBlocks.{ReturnEnd, Moved, Gone, Stayed, Contended, goes_on, reading, asking, leaving, Try, whole_try, IsTry, IsTries, Missing, Useless, Nowhere, Whole, Eighth, Again, IsReturnBlock}
-use Rattle.place_model.specs.PassBlocks.{PassEnd, Held, Stuck, Done, IsReturns, All_returned, Returned, Returned_until, Ended_early, IsRelease, Own, Foreign, tags_among, lock_words, due_words, IsPassBlock, Is_held, Ran}
-use Rattle.place_model.specs.Scripts.{Script, Over, Say, plainly, if_told, on_done, on_queued, on_texts, leave_script, try_script, tries_script, return_script, on_released, on_token, release_script, returns_script, on_locked, pass_script}
-use Rattle.place_model.specs.declared.block.Side.{Side}
-use Rattle.place_model.specs.declared.block.Side.TheVariants.{Right}
+use Rattle.wire_values.specs.declared.value.Value.{Value}
+use Rattle.wire_values.specs.declared.value.Value.TheVariants.{Bulk, NullBulk, NullArray}
+use Rattle.store_model.specs.Replies.{done, queued, bulks}
+use Rattle.store_model.specs.Words.{Words}
+use Rattle.queue_keys.specs.Names.{Bytes, same}
+use Rattle.command_blocks.specs.Answers.{integers, items_of, bulk_of}
+use Rattle.command_blocks.specs.Setting.{Setting}
+use Rattle.command_blocks.specs.Calls.{Call, call}
+use Rattle.command_blocks.specs.ReturnBlocks.{ReturnEnd, Moved, Gone, Stayed, Contended, goes_on, reading, asking, leaving, Try, whole_try, IsTry, IsTries, Missing, Useless, Nowhere, Whole, Eighth, Again, IsReturnBlock}
+use Rattle.command_blocks.specs.PassBlocks.{PassEnd, Held, Stuck, Done, IsReturns, All_returned, Returned, Returned_until, Ended_early, IsRelease, Own, Foreign, tags_among, lock_words, due_words, IsPassBlock, Is_held, Ran}
+use Rattle.command_blocks.specs.Scripts.{Script, Over, Say, plainly, if_told, on_done, on_queued, on_texts, leave_script, try_script, tries_script, return_script, on_released, on_token, release_script, returns_script, on_locked, pass_script}
+use Rattle.command_blocks.specs.declared.block.Side.{Side}
+use Rattle.command_blocks.specs.declared.block.Side.TheVariants.{Right}
 use Rattle.schedule_laws.specs.Rows.{IsGood}
 use Rattle.schedule_laws.proofs.Values.{eq_true, eq_itself, bulk_is, items_are}
 use Rattle.schedule_laws.proofs.Talks.{Talks, over_talks, say_talks, texts_talks, null_array_talks, null_bulk_talks, told_talks, status_talks, done_talks, queued_talks}

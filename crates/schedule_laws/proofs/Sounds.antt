@@ -1,13 +1,13 @@
 -- A desk that holds has a sound history.
 use Rattle.std.proofs.Common.{◌≡◌, ℕ, refl, ap, sym, ◌∙◌, subst, arith, List, [], ◌∷◌, Bool, true, false, None, Some, if◌then◌else◌, length}
 use Rattle.std.specs.FinMap.{empty, get-empty, entries, len-entries, len-empty}
-use Rattle.resp_wire.specs.Order.{bytes_cmp}
-use Rattle.mini_store.specs.Keys.{Keys, value_of, value_at, expiry_of}
-use Rattle.mini_store.specs.declared.held.Held.{Held}
-use Rattle.place_model.specs.Names.{Bytes}
-use Rattle.place_model.specs.Setting.{Setting}
-use Rattle.place_model.specs.QueueKeys.{Among}
-use Rattle.place_model.specs.Blocks.{IsMannered}
+use Rattle.wire_values.specs.Order.{bytes_cmp}
+use Rattle.store_model.specs.Keys.{Keys, value_of, value_at, expiry_of}
+use Rattle.store_model.specs.declared.held.Held.{Held}
+use Rattle.queue_keys.specs.Names.{Bytes}
+use Rattle.command_blocks.specs.Setting.{Setting}
+use Rattle.queue_keys.specs.QueueKeys.{Among}
+use Rattle.command_blocks.specs.Blocks.{IsMannered}
 use Rattle.place_model.specs.Histories.{calls_of}
 use Rattle.place_model.specs.Counts.{entry_at, field_of, has_field, has_member, is_field, is_member, in_held, total, start_count}
 use Rattle.place_model.specs.Starts.{IsListOrNone, IsHashOrNone, IsScoresOrNone, elements_of, IsSoundStart}

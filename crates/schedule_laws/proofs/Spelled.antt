@@ -6,7 +6,7 @@ use Rattle.std.specs.Str.Parse.{digits_value}
 use Rattle.std.proofs.lemmas.Grind.{common_steps}
 use Rattle.line_text.specs.Numbers.{moment_in, is_number, number_in, part_in, both, tag_in}
 use Rattle.line_text.specs.Words.{is_word}
-use Rattle.place_model.specs.Names.{Bytes}
+use Rattle.queue_keys.specs.Names.{Bytes}
 use Rattle.schedule_model.specs.Lines.{client_in, seed_in, name_in, dashed_in, queues_in, with_one, with_two, with_four, publish_in, declare_in, tagged_in, pass_in, asked_in, client_line, at_line, begin_line, of_client, line_in}
 use Rattle.schedule_model.specs.declared.line.Asked.{Asked}
 use Rattle.schedule_model.specs.declared.line.Asked.TheVariants as asked

@@ -1,16 +1,16 @@
 -- Whole talks of scripts: what was said, and which answers were given.
 use Rattle.std.proofs.Common.{◌≡◌, ◌⊎◌, inl, inr, ℕ, ◌<◌, ◌^◌, List, [], ◌∷◌, Option, None, Some, Bool, true, false, refl, sym, subst, ℤ, codes, if◌then◌else◌}
 use Rattle.std.specs.Prelude.{option_and_then}
-use Rattle.resp_wire.specs.Layer.{layer}
-use Rattle.resp_wire.specs.declared.value.Value.TheVariants.{Status, Integer, Bulk, NullBulk, NullArray}
-use Rattle.resp_wire.specs.declared.value.Value.{Value}
-use Rattle.mini_store.specs.Words.{Words}
-use Rattle.mini_store.specs.Replies.{done, queued, bulks, pair}
-use Rattle.place_model.specs.Names.{Bytes}
-use Rattle.place_model.specs.Answers.{integers, number_of, items_of, bulk_of, pair_of}
-use Rattle.place_model.specs.Setting.{Setting}
-use Rattle.place_model.specs.Calls.{Call, call}
-use Rattle.place_model.specs.Scripts.{Script, Over, Off, Say, plainly, if_told, status_in, on_status, on_done, on_queued, on_number, told_by, texts_of, on_texts, on_two, on_two_numbers, null_array_in, null_bulk_in, on_null_array, kept_by, on_popped, on_ran, on_entry, after_call, rest_of, next_words, IsSaid}
+use Rattle.wire_values.specs.Layer.{layer}
+use Rattle.wire_values.specs.declared.value.Value.TheVariants.{Status, Integer, Bulk, NullBulk, NullArray}
+use Rattle.wire_values.specs.declared.value.Value.{Value}
+use Rattle.store_model.specs.Words.{Words}
+use Rattle.store_model.specs.Replies.{done, queued, bulks, pair}
+use Rattle.queue_keys.specs.Names.{Bytes}
+use Rattle.command_blocks.specs.Answers.{integers, number_of, items_of, bulk_of, pair_of}
+use Rattle.command_blocks.specs.Setting.{Setting}
+use Rattle.command_blocks.specs.Calls.{Call, call}
+use Rattle.command_blocks.specs.Scripts.{Script, Over, Off, Say, plainly, if_told, status_in, on_status, on_done, on_queued, on_number, told_by, texts_of, on_texts, on_two, on_two_numbers, null_array_in, null_bulk_in, on_null_array, kept_by, on_popped, on_ran, on_entry, after_call, rest_of, next_words, IsSaid}
 use Rattle.schedule_laws.specs.Rows.{AreTimely}
 use Rattle.schedule_laws.proofs.Values.{some_is, status_is, null_array_is, null_bulk_is, number_is, bulk_is, texts_are, numbers_are, pair_is}
 

@@ -1,10 +1,10 @@
 -- A trace goes on with a call, and begins its block.
 use Rattle.std.proofs.Common.{◌≡◌, ◌⊎◌, inl, inr, ℕ, ◌<◌, ◌^◌, refl, ap, sym, ◌∙◌, subst, List, [], ◌∷◌, ◌++◌, Some}
-use Rattle.resp_wire.specs.declared.value.Value.{Value}
-use Rattle.mini_store.specs.Words.{Words}
-use Rattle.place_model.specs.Setting.{Setting}
-use Rattle.place_model.specs.Calls.{Call, call}
-use Rattle.place_model.specs.Scripts.{Script, Over, Off, Plan, script_of, after_call, next_words, rest_of, IsSaid}
+use Rattle.wire_values.specs.declared.value.Value.{Value}
+use Rattle.store_model.specs.Words.{Words}
+use Rattle.command_blocks.specs.Setting.{Setting}
+use Rattle.command_blocks.specs.Calls.{Call, call}
+use Rattle.command_blocks.specs.Scripts.{Script, Over, Off, Plan, script_of, after_call, next_words, rest_of, IsSaid}
 use Rattle.schedule_laws.specs.Rows.{IsGood, AreTimely, IsLawfulPlan, IsPlanBlock, IsRow}
 use Rattle.schedule_laws.specs.Traces.{IsTrace, IsFrontOf}
 use Rattle.schedule_laws.proofs.PlanRows.{plan_row}

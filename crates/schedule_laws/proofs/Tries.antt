@@ -1,17 +1,17 @@
 -- A try to return a message: its script is good, and what was said by it is a try.
 use Rattle.std.proofs.Common.{◌≡◌, ◌⊎◌, ℕ, zero, suc, List, [], ◌∷◌, ◌++◌, Option, None, Some, Bool, true, false, refl, ap, sym, subst, ◌∙◌, ℤ, codes, if◌then◌else◌}
 use Rattle.std.specs.Prelude.{option_and_then}
-use Rattle.resp_wire.specs.declared.value.Value.{Value}
-use Rattle.resp_wire.specs.declared.value.Value.TheVariants.{Bulk, NullBulk, NullArray}
-use Rattle.mini_store.specs.Replies.{done, queued}
-use Rattle.mini_store.specs.Words.{Words}
-use Rattle.place_model.specs.Names.{Bytes, same}
-use Rattle.place_model.specs.Answers.{integers}
-use Rattle.place_model.specs.Setting.{Setting}
-use Rattle.place_model.specs.Calls.{Call, call, push_word}
-use Rattle.place_model.specs.ReturnBlocks.{ReturnEnd, Contended, goes_on, queued_calls, queued_keys, reading, asking, leaving, taking, Carries, Try, whole_try, IsTry, IsTries}
-use Rattle.place_model.specs.Scripts.{Script, plainly, on_queued, on_texts, asking_script, queued_script, on_ran, leave_script, take_script, if_of, carried_for, route_script, on_entry, try_script, tries_script}
-use Rattle.place_model.specs.declared.block.Side.{Side}
+use Rattle.wire_values.specs.declared.value.Value.{Value}
+use Rattle.wire_values.specs.declared.value.Value.TheVariants.{Bulk, NullBulk, NullArray}
+use Rattle.store_model.specs.Replies.{done, queued}
+use Rattle.store_model.specs.Words.{Words}
+use Rattle.queue_keys.specs.Names.{Bytes, same}
+use Rattle.command_blocks.specs.Answers.{integers}
+use Rattle.command_blocks.specs.Setting.{Setting}
+use Rattle.command_blocks.specs.Calls.{Call, call, push_word}
+use Rattle.command_blocks.specs.ReturnBlocks.{ReturnEnd, Contended, goes_on, queued_calls, queued_keys, reading, asking, leaving, taking, Carries, Try, whole_try, IsTry, IsTries}
+use Rattle.command_blocks.specs.Scripts.{Script, plainly, on_queued, on_texts, asking_script, queued_script, on_ran, leave_script, take_script, if_of, carried_for, route_script, on_entry, try_script, tries_script}
+use Rattle.command_blocks.specs.declared.block.Side.{Side}
 use Rattle.schedule_laws.specs.Rows.{IsGood}
 use Rattle.schedule_laws.proofs.Values.{some_is, eq_true, eq_itself, and_then_is}
 use Rattle.schedule_laws.proofs.Talks.{Talks, say_talks, texts_talks, ran_talks, entry_talks, done_talks, queued_talks}

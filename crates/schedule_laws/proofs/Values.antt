@@ -2,15 +2,15 @@
 use Rattle.std.proofs.Common.{◌≡◌, List, [], ◌∷◌, Option, None, Some, true, refl, ap, sym, ◌∙◌, ℤ, unwrap_or}
 use Rattle.std.specs.Prelude.{map, option_and_then, bytes_eq}
 use Rattle.std.proofs.lemmas.Slice.Eq.{bytes_eq-Decides}
-use Rattle.resp_wire.proofs.Layers.{layer-array, layers_tell}
-use Rattle.resp_wire.specs.Layer.{layer}
-use Rattle.resp_wire.specs.declared.value.Value.TheOpen.{Value-F}
-use Rattle.resp_wire.specs.declared.value.Value.TheVariants.{Status, Integer, Bulk, NullBulk, Array, NullArray}
-use Rattle.resp_wire.specs.declared.value.Value.{Value}
-use Rattle.mini_store.specs.Replies.{bulks, pair}
-use Rattle.place_model.specs.Names.{Bytes}
-use Rattle.place_model.specs.Answers.{integers, bulk_in, bulk_of, number_in, number_of, items_in, items_of, both, pair_among, pair_of}
-use Rattle.place_model.specs.Scripts.{status_in, null_array_in, null_bulk_in, onto_told, told_by, texts_of}
+use Rattle.wire_values.proofs.Layers.{layer-array, layers_tell}
+use Rattle.wire_values.specs.Layer.{layer}
+use Rattle.wire_values.specs.declared.value.Value.TheOpen.{Value-F}
+use Rattle.wire_values.specs.declared.value.Value.TheVariants.{Status, Integer, Bulk, NullBulk, Array, NullArray}
+use Rattle.wire_values.specs.declared.value.Value.{Value}
+use Rattle.store_model.specs.Replies.{bulks, pair}
+use Rattle.queue_keys.specs.Names.{Bytes}
+use Rattle.command_blocks.specs.Answers.{integers, bulk_in, bulk_of, number_in, number_of, items_in, items_of, both, pair_among, pair_of}
+use Rattle.command_blocks.specs.Scripts.{status_in, null_array_in, null_bulk_in, onto_told, told_by, texts_of}
 
 pub some_is : {A : Type 0} (x y : A) → Some x ≡ Some y → x ≡ y
 some_is x y e = ap (λ o. unwrap_or o x) e

@@ -4,11 +4,11 @@ use Rattle.std.specs.Prelude.{◌==◌, ◌||◌, nat_eq}
 use Rattle.std.specs.Ordering.{nat_cmp}
 use Rattle.std.specs.FinMap.{get, insert, get-empty}
 use Rattle.std.proofs.lemmas.Grind.{common_steps}
-use Rattle.mini_store.specs.Words.{Words}
-use Rattle.mini_store.specs.Store.{apply_of, gone_of}
-use Rattle.mini_store.specs.declared.reply.Reply.{Reply}
-use Rattle.place_model.specs.Calls.{Call, call}
-use Rattle.place_model.specs.QueueKeys.{IsAway, Differ, Among}
+use Rattle.store_model.specs.Words.{Words}
+use Rattle.store_model.specs.Store.{apply_of, gone_of}
+use Rattle.store_model.specs.declared.reply.Reply.{Reply}
+use Rattle.command_blocks.specs.Calls.{Call, call}
+use Rattle.queue_keys.specs.QueueKeys.{IsAway, Differ, Among}
 use Rattle.place_model.specs.Histories.{conn_of, own_entries, onto_calls, calls_among, calls_of, Client, World, with_client, next_of, next, after_entries, new_client, table, AnswersRight, MayCome, AllMayCome, connections, seeds, AreUnused, IsTable}
 use Rattle.place_model.specs.declared.heard.Heard.{Heard as Note}
 use Rattle.place_model.specs.declared.history.Entry.{Entry}

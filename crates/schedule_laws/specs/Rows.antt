@@ -1,18 +1,18 @@
 -- Rows: a block's script can always be said to its end, and what was said to its end is the block.
 use Rattle.std.specs.Prelude.{◌≡◌, ◌⊎◌, ℕ, ◌^◌, suc, true, ◌<◌, List, [], ◌∷◌, ◌++◌, codes, None, Some}
-use Rattle.resp_wire.specs.declared.value.Value.{Value}
-use Rattle.mini_store.specs.Words.{Words}
-use Rattle.place_model.specs.Names.{Bytes, is_name}
-use Rattle.place_model.specs.Texts.{token}
-use Rattle.place_model.specs.Bindings.{is_part}
-use Rattle.place_model.specs.Setting.{Setting}
-use Rattle.place_model.specs.Calls.{Call, call}
-use Rattle.place_model.specs.RouteBlocks.{IsDeclareBlock, IsPublishBlock}
-use Rattle.place_model.specs.TakeBlocks.{IsPop, IsPopBlock, IsEndBlock}
-use Rattle.place_model.specs.ReturnBlocks.{ReturnEnd, IsReturnBlock}
-use Rattle.place_model.specs.PassBlocks.{PassEnd, IsPassBlock}
-use Rattle.place_model.specs.Blocks.{IsBlock}
-use Rattle.place_model.specs.Scripts.{Script, Over, Off, Say, Plan, Declare, Undeclare, Publish, Pop, End, Return, Pass, script_of, kind_of, rest_of, IsSaid}
+use Rattle.wire_values.specs.declared.value.Value.{Value}
+use Rattle.store_model.specs.Words.{Words}
+use Rattle.queue_keys.specs.Names.{Bytes, is_name}
+use Rattle.queue_keys.specs.Texts.{token}
+use Rattle.queue_keys.specs.Bindings.{is_part}
+use Rattle.command_blocks.specs.Setting.{Setting}
+use Rattle.command_blocks.specs.Calls.{Call, call}
+use Rattle.command_blocks.specs.RouteBlocks.{IsDeclareBlock, IsPublishBlock}
+use Rattle.command_blocks.specs.TakeBlocks.{IsPop, IsPopBlock, IsEndBlock}
+use Rattle.command_blocks.specs.ReturnBlocks.{ReturnEnd, IsReturnBlock}
+use Rattle.command_blocks.specs.PassBlocks.{PassEnd, IsPassBlock}
+use Rattle.command_blocks.specs.Blocks.{IsBlock}
+use Rattle.command_blocks.specs.Scripts.{Script, Over, Off, Say, Plan, Declare, Undeclare, Publish, Pop, End, Return, Pass, script_of, kind_of, rest_of, IsSaid}
 
 -- some answer is listed at each of its commands, and what goes on after any listed one is good
 abbrev pub IsGood : Script → Type 0

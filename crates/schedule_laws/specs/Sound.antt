@@ -1,8 +1,8 @@
 -- Soundness of what a schedule determines.
 use Rattle.std.specs.Prelude.{◌≡◌, ℕ, ◌^◌, ◌<◌, ◌≤◌, true, List, [], ◌∷◌, length, Option, Some}
-use Rattle.place_model.specs.Names.{Bytes, is_name}
-use Rattle.place_model.specs.Layouts.{Layout, is_layout}
-use Rattle.place_model.specs.Setting.{Setting, Texts, IsTexts, IsLawful, if_named, setting_of}
+use Rattle.queue_keys.specs.Names.{Bytes, is_name}
+use Rattle.queue_keys.specs.Layouts.{Layout, is_layout}
+use Rattle.command_blocks.specs.Setting.{Setting, Texts, IsTexts, IsLawful, if_named, setting_of}
 use Rattle.place_model.specs.Starts.{IsSound}
 use Rattle.place_model.specs.declared.history.Entry.{Entry}
 use Rattle.place_model.specs.declared.history.Entry.TheVariants.{Call as Called, Heard, Stop}

@@ -1,9 +1,9 @@
 -- What was said so far of a block: calls by its script.
 use Rattle.std.specs.Prelude.{◌≡◌, ℕ, List, [], ◌∷◌, ◌++◌}
-use Rattle.resp_wire.specs.declared.value.Value.{Value}
-use Rattle.mini_store.specs.Words.{Words}
-use Rattle.place_model.specs.Calls.{Call, call}
-use Rattle.place_model.specs.Scripts.{Script, Over, Off, rest_of, IsSaid}
+use Rattle.wire_values.specs.declared.value.Value.{Value}
+use Rattle.store_model.specs.Words.{Words}
+use Rattle.command_blocks.specs.Calls.{Call, call}
+use Rattle.command_blocks.specs.Scripts.{Script, Over, Off, rest_of, IsSaid}
 use Rattle.schedule_laws.specs.Rows.{AreTimely}
 
 -- the calls were said by the script, each before the moment 2^40, and this is left of it

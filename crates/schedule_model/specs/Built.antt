@@ -1,7 +1,7 @@
 -- Which lines of a schedule are built; every other one is put off until later.
 use Rattle.std.specs.Prelude.{Bool, false, not, ◌&&◌, ◌||◌, bytes_eq, List, [], ◌∷◌, codes}
 use Rattle.std.specs.List.{list_any}
-use Rattle.place_model.specs.Names.{Bytes}
+use Rattle.queue_keys.specs.Names.{Bytes}
 
 -- the switch: first words of lines, what may be begun, and whether a publication may name an exchange
 pub record Built : Type 0 where

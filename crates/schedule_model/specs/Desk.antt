@@ -2,11 +2,11 @@
 use Rattle.std.specs.Prelude.{ℕ, Bool, true, false, List, [], ◌∷◌, ◌++◌, if◌then◌else◌}
 use Rattle.std.specs.Ordering.{nat_cmp}
 use Rattle.std.specs.FinMap.{FinMap, empty, insert}
-use Rattle.mini_store.specs.Store.{State, empty_state, apply_of, gone_of}
-use Rattle.mini_store.specs.declared.reply.Reply.{Reply}
-use Rattle.place_model.specs.Blocks.{drawn, passed}
-use Rattle.place_model.specs.Scripts.{Script, Over, Off, Say, Plan, script_of, kind_of}
-use Rattle.place_model.specs.Setting.{Setting}
+use Rattle.store_model.specs.Store.{State, empty_state, apply_of, gone_of}
+use Rattle.store_model.specs.declared.reply.Reply.{Reply}
+use Rattle.command_blocks.specs.Blocks.{drawn, passed}
+use Rattle.command_blocks.specs.Scripts.{Script, Over, Off, Say, Plan, script_of, kind_of}
+use Rattle.command_blocks.specs.Setting.{Setting}
 use Rattle.place_model.specs.declared.heard.Heard.{Heard}
 use Rattle.place_model.specs.declared.history.Entry.{Entry}
 use Rattle.place_model.specs.declared.history.Entry.TheVariants.{Call, Stop}

@@ -10,7 +10,7 @@ use Rattle.envelope.specs.Envelopes.{json_at, are_short, max_bytes, max_text}
 use Rattle.envelope.specs.Marks.{marked}
 use Rattle.envelope.specs.Sealed.{sealed_tree, sealed_properties, sealed_info}
 use Rattle.envelope.specs.Tags.{is_tag, tag}
-use Rattle.place_model.specs.Names.{Bytes}
+use Rattle.queue_keys.specs.Names.{Bytes}
 
 -- ---- arguments
 

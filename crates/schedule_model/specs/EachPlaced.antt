@@ -1,8 +1,8 @@
 -- Where the messages of a history are, after each of its prefixes.
 use Rattle.place_model.specs.Counts.{IsAccepted, IsPlaced, IsSingle}
-use Rattle.place_model.specs.EnvelopeTexts.{plain_setting}
+use Rattle.command_blocks.specs.EnvelopeTexts.{plain_setting}
 use Rattle.place_model.specs.Histories.{History, IsHistoryPrefix}
-use Rattle.place_model.specs.Names.{Bytes}
+use Rattle.queue_keys.specs.Names.{Bytes}
 use Rattle.place_model.specs.declared.heard.Heard.{Heard}
 
 -- after each prefix of the history each message that is accepted and single is in exactly one place

@@ -4,10 +4,10 @@ use Rattle.std.specs.List.{list_any}
 use Rattle.std.specs.FinMap.{get}
 use Rattle.line_text.specs.declared.reason.Reason.{Reason}
 use Rattle.line_text.specs.declared.reason.Reason.TheVariants.{UnknownClient, Stopped, Busy, Idle, Repeated, Moment, Name, Reserved, Json, Task}
-use Rattle.place_model.specs.Bindings.{is_part}
-use Rattle.place_model.specs.Names.{Bytes, all_free, has_length, is_reserved}
-use Rattle.place_model.specs.Scripts.{Script, Off, Say}
-use Rattle.place_model.specs.Setting.{Setting}
+use Rattle.queue_keys.specs.Bindings.{is_part}
+use Rattle.queue_keys.specs.Names.{Bytes, all_free, has_length, is_reserved}
+use Rattle.command_blocks.specs.Scripts.{Script, Off, Say}
+use Rattle.command_blocks.specs.Setting.{Setting}
 use Rattle.schedule_model.specs.Built.{Built}
 use Rattle.schedule_model.specs.Desk.{Desk, Book}
 use Rattle.schedule_model.specs.declared.line.Asked.{Asked}

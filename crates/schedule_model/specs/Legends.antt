@@ -2,8 +2,8 @@
 use Rattle.std.specs.Prelude.{ℕ, ◌/◌, ◌%◌, ◌^◌, Option, None, Some}
 use Rattle.envelope.specs.Tags.{tag_of_text}
 use Rattle.line_text.specs.declared.short.Shape.{Shape}
-use Rattle.place_model.specs.Names.{Bytes}
-use Rattle.place_model.specs.Setting.{Setting}
+use Rattle.queue_keys.specs.Names.{Bytes}
+use Rattle.command_blocks.specs.Setting.{Setting}
 use Rattle.schedule_model.specs.Reports.{Legend}
 
 -- the number of a tag, and 0 where there is none

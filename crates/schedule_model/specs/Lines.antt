@@ -3,7 +3,7 @@ use Rattle.std.specs.Prelude.{ℕ, ◌^◌, ◌-◌, ◌&&◌, nat_le, if◌then
 use Rattle.std.specs.List.{list_all, join_with_byte}
 use Rattle.line_text.specs.Numbers.{number_in, moment_in, tag_in}
 use Rattle.line_text.specs.Words.{is_word}
-use Rattle.place_model.specs.Names.{Bytes}
+use Rattle.queue_keys.specs.Names.{Bytes}
 use Rattle.schedule_model.specs.declared.line.Asked.{Asked}
 use Rattle.schedule_model.specs.declared.line.Asked.TheVariants.{Publish, Declare, Undeclare, Pop, Ack, Restore, Requeue, Pass}
 use Rattle.schedule_model.specs.declared.line.Line.{Line}

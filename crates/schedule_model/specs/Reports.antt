@@ -5,12 +5,12 @@ use Rattle.std.specs.List.{flat_map}
 use Rattle.line_text.specs.Forms.{quoted}
 use Rattle.line_text.specs.Short.{short_word, short_value, tag_short}
 use Rattle.line_text.specs.declared.short.Shape.{Shape}
-use Rattle.mini_store.specs.declared.reply.Reply.{Reply}
+use Rattle.store_model.specs.declared.reply.Reply.{Reply}
 use Rattle.envelope.specs.declared.tag.Tag.{Tag}
 use Rattle.place_model.specs.Accepted.{places}
 use Rattle.place_model.specs.Histories.{History}
-use Rattle.place_model.specs.Names.{Bytes}
-use Rattle.place_model.specs.Setting.{Setting}
+use Rattle.queue_keys.specs.Names.{Bytes}
+use Rattle.command_blocks.specs.Setting.{Setting}
 use Rattle.place_model.specs.declared.heard.Heard.{Heard}
 use Rattle.place_model.specs.declared.heard.Heard.TheVariants.{Took, Finished, Expired, Revoked, Rejected, Held, Unreadable}
 use Rattle.place_model.specs.declared.heard.Outcome.{Outcome}

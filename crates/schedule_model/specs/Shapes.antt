@@ -9,7 +9,7 @@ use Rattle.envelope.specs.Tags.{tag_of_text}
 use Rattle.envelope.specs.declared.fault.EnvelopeFault.{EnvelopeFault}
 use Rattle.line_text.specs.declared.short.Shape.{Shape}
 use Rattle.line_text.specs.declared.short.Shape.TheVariants.{Envelope, Entry, Tag, Other}
-use Rattle.place_model.specs.Names.{Bytes}
+use Rattle.queue_keys.specs.Names.{Bytes}
 
 -- an envelope's tree by its tag, a number whose halves are seed and counter, and whether it is marked
 abbrev pub envelope_shape : Data → Shape

@@ -1,5 +1,5 @@
 //! Lines of a schedule.
-use resp_wire::{Bytes, Words};
+use wire_values::{Bytes, Words};
 
 /// What a line begins: a block of a client's commands.
 #[derive(Debug, Drop)]

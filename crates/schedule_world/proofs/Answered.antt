@@ -2,14 +2,14 @@
 use Rattle.std.proofs.Common.{◌≡◌, ◌≤◌, ◌-◌, ℕ, zero, suc, true, false, [], refl, sym, ◌∙◌, subst, Result, Ok, Err, IsSome, arith}
 use Rattle.std.proofs.Math.Logic.{∥∥₁_elim}
 use Rattle.std.specs.Prelude.{⊤}
-use Rattle.resp_wire.specs.declared.value.Value.{Value}
-use Rattle.mini_store.specs.Words.{Words}
-use Rattle.mini_store.specs.declared.reply.Reply.{Reply}
-use Rattle.place_model.specs.Calls.{call}
-use Rattle.place_model.specs.Cores.{HasTaken, IsAnswered}
-use Rattle.place_model.specs.Scripts.{Script, Over, Off, Say, after_call, next_words}
-use Rattle.place_model.specs.declared.block.CoreFault.{CoreFault}
-use Rattle.place_model.specs.declared.block.CoreFault.TheVariants.{Refused}
+use Rattle.wire_values.specs.declared.value.Value.{Value}
+use Rattle.store_model.specs.Words.{Words}
+use Rattle.store_model.specs.declared.reply.Reply.{Reply}
+use Rattle.command_blocks.specs.Calls.{call}
+use Rattle.command_blocks.specs.Cores.{HasTaken, IsAnswered}
+use Rattle.command_blocks.specs.Scripts.{Script, Over, Off, Say, after_call, next_words}
+use Rattle.command_blocks.specs.declared.block.CoreFault.{CoreFault}
+use Rattle.command_blocks.specs.declared.block.CoreFault.TheVariants.{Refused}
 use Rattle.schedule_model.specs.Faults.{has_more}
 use Rattle.schedule_world.specs.Lefts.{IsAtMost, after_answer}
 

@@ -5,10 +5,10 @@ use Rattle.std.specs.FinMap.{get, insert}
 use Rattle.std.specs.Result.{IsErr, IsErrAnd}
 use Rattle.line_text.specs.declared.reason.Reason.{Reason}
 use Rattle.line_text.specs.declared.reason.Reason.TheVariants.{Busy, Stopped}
-use Rattle.place_model.specs.Blocks.{drawn, passed}
-use Rattle.place_model.specs.EnvelopeTexts.{plain_setting}
-use Rattle.place_model.specs.Names.{Bytes}
-use Rattle.place_model.specs.Scripts.{End, Plan, Pop, Publish, Script, kind_of, script_of}
+use Rattle.command_blocks.specs.Blocks.{drawn, passed}
+use Rattle.command_blocks.specs.EnvelopeTexts.{plain_setting}
+use Rattle.queue_keys.specs.Names.{Bytes}
+use Rattle.command_blocks.specs.Scripts.{End, Plan, Pop, Publish, Script, kind_of, script_of}
 use Rattle.schedule_model.specs.Desk as desk
 use Rattle.schedule_model.specs.Desk.{Desk, begun, with_book}
 use Rattle.schedule_model.specs.Faults.{asked_tests, counter_of, first_reason, has_more, is_busy, is_off, present_tests, seed_of}

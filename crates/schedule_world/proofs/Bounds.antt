@@ -1,16 +1,16 @@
 -- How many commands a block has at most.
 use Rattle.std.proofs.Common.{◌≡◌, ℕ, zero, suc, Bool, true, false, List, [], ◌∷◌, sym, subst, Option, Some, None, ℤ, codes, decimal}
 use Rattle.std.specs.Prelude.{if◌then◌else◌, option_and_then}
-use Rattle.resp_wire.specs.Layer.{layer}
-use Rattle.resp_wire.specs.declared.value.Value.{Value}
+use Rattle.wire_values.specs.Layer.{layer}
+use Rattle.wire_values.specs.declared.value.Value.{Value}
 use Rattle.serde_json.specs.Data.{Data}
 use Rattle.serde_json.specs.Written.{compact_text}
-use Rattle.mini_store.specs.Words.{Words}
-use Rattle.place_model.specs.Answers.{items_of, number_of, pair_of}
-use Rattle.place_model.specs.EnvelopeTexts.{plain_setting}
-use Rattle.place_model.specs.Names.{Bytes}
-use Rattle.place_model.specs.Scripts.{Script, Over, Off, end_script, if_told, kept_by, null_array_in, on_done, on_queued, on_two, pop_script, popping, publish_script, status_in, told_by}
-use Rattle.place_model.specs.Setting.{Setting}
+use Rattle.store_model.specs.Words.{Words}
+use Rattle.command_blocks.specs.Answers.{items_of, number_of, pair_of}
+use Rattle.command_blocks.specs.EnvelopeTexts.{plain_setting}
+use Rattle.queue_keys.specs.Names.{Bytes}
+use Rattle.command_blocks.specs.Scripts.{Script, Over, Off, end_script, if_told, kept_by, null_array_in, on_done, on_queued, on_two, pop_script, popping, publish_script, status_in, told_by}
+use Rattle.command_blocks.specs.Setting.{Setting}
 use Rattle.routes.specs.Publishes.{GoesDirectly}
 use Rattle.unacked.specs.Steps.{begin_left, index_left, run_left, table_left}
 use Rattle.schedule_world.specs.Lefts.{IsAtMost}

@@ -6,7 +6,7 @@ use Rattle.std.proofs.lemmas.Bool.Decides.{nat_tests}
 use Rattle.std.proofs.lemmas.Slice.Eq.{bytes_eq-Decides}
 use Rattle.line_text.specs.Numbers.{moment_in, number_in, tag_in}
 use Rattle.line_text.specs.Words.{is_word}
-use Rattle.place_model.specs.Names.{Bytes}
+use Rattle.queue_keys.specs.Names.{Bytes}
 use Rattle.schedule_model.specs.Built.{block_waits, publication_waits, waits, workers}
 use Rattle.schedule_model.specs.Lines.{asked_in, at_line, begin_line, client_in, client_line, dashed_in, line_in, name_in, of_client, publish_in, queues_in, seed_in, tagged_in, with_four, with_two}
 use Rattle.schedule_model.specs.declared.line.Asked.{Asked}

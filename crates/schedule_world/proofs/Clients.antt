@@ -5,7 +5,7 @@ use Rattle.std.specs.FinMap.{FinMap, insert}
 use Rattle.std.specs.Ordering.{nat_cmp}
 use Rattle.line_text.specs.declared.reason.Reason.{Reason}
 use Rattle.line_text.specs.declared.reason.Reason.TheVariants.{Repeated, Stopped}
-use Rattle.place_model.specs.Scripts.{Over}
+use Rattle.command_blocks.specs.Scripts.{Over}
 use Rattle.place_model.specs.Shown.{history_of}
 use Rattle.schedule_model.specs.Desk as desk
 use Rattle.schedule_model.specs.Desk.{Desk, with_client}

@@ -5,12 +5,12 @@ use Rattle.std.specs.Result.{result_ok}
 use Rattle.serde_json.specs.Data.{Data}
 use Rattle.serde_json.specs.Written.{compact_text}
 use Rattle.envelope.specs.Envelopes.{parts_in, priority_of}
-use Rattle.place_model.specs.EnvelopeTexts.{plain_setting, way_of, way_said}
-use Rattle.place_model.specs.Layouts.{plain, step_of}
-use Rattle.place_model.specs.Lookup.{route_keys}
-use Rattle.place_model.specs.QueueKeys.{keys_at}
-use Rattle.place_model.specs.Scripts.{asking_script, publish_script, pushes}
-use Rattle.place_model.specs.Setting.{if_named, named_exchange, way_keys}
+use Rattle.command_blocks.specs.EnvelopeTexts.{plain_setting, way_of, way_said}
+use Rattle.queue_keys.specs.Layouts.{plain, step_of}
+use Rattle.queue_keys.specs.Lookup.{route_keys}
+use Rattle.queue_keys.specs.QueueKeys.{keys_at}
+use Rattle.command_blocks.specs.Scripts.{asking_script, publish_script, pushes}
+use Rattle.command_blocks.specs.Setting.{if_named, named_exchange, way_keys}
 use Rattle.routes.specs.Publishes.{GoesDirectly, direct_key}
 
 -- it pushes the envelope once

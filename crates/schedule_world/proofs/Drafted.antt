@@ -27,7 +27,7 @@ use Rattle.envelope.specs.declared.fault.EnvelopeFault.TheVariants.{TooLong, Too
 use Rattle.envelope.specs.declared.sealing.Draft.{Draft}
 use Rattle.envelope.proofs.EnvelopeTags.{tag_is}
 use Rattle.envelope.proofs.Texts.{json_some, json_none}
-use Rattle.place_model.specs.Names.{Bytes}
+use Rattle.queue_keys.specs.Names.{Bytes}
 use Rattle.schedule_model.specs.Drafts.{are_told, are_texts, are_within, arguments_of, content_tree, headers_tree, if_arguments, if_sealed, sealed_task, task_tree}
 use Rattle.schedule_model.proofs.ArgumentTrees.{arguments_known}
 use Rattle.schedule_world.specs.Tasks.{IsDraftOf, content_around, envelope_text}

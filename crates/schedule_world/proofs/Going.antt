@@ -1,7 +1,7 @@
 -- Clients that are not gone.
 use Rattle.std.proofs.Common.{◌≡◌, ℕ, List, [], ◌∷◌, ◌++◌, refl, ap, ◌∙◌}
 use Rattle.std.specs.Prelude.{◌==◌, ◌||◌}
-use Rattle.mini_store.specs.declared.reply.Reply.{Reply}
+use Rattle.store_model.specs.declared.reply.Reply.{Reply}
 use Rattle.place_model.specs.Shown.{has_stopped}
 use Rattle.place_model.specs.declared.heard.Heard.{Heard}
 use Rattle.place_model.specs.declared.history.Entry.{Entry}

@@ -10,7 +10,7 @@ use Rattle.std.proofs.lemmas.List.Folds.{list_any-append}
 use Rattle.std.proofs.Math.Bool.{or-true}
 use Rattle.store_tables.proofs.Lookups.{decided, get-insert_other, get-remove_other, get-remove_same}
 use Rattle.place_model.specs.Histories.{connections, seeds}
-use Rattle.place_model.specs.QueueKeys.{Among, IsAway}
+use Rattle.queue_keys.specs.QueueKeys.{Among, IsAway}
 use Rattle.schedule_model.specs.Faults.{has_number, has_seed}
 use Rattle.schedule_world.specs.Running.{AreKnown}
 use Rattle.schedule_world.specs.Shelves.{Shelf}

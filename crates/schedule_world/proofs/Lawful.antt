@@ -1,7 +1,7 @@
 -- The history that a schedule determines is sound, and its messages are in their places.
 use Rattle.std.proofs.Common.{IfOk, Result, Ok, Err, subst}
-use Rattle.place_model.specs.EnvelopeTexts.{plain_setting}
-use Rattle.place_model.specs.Names.{Bytes}
+use Rattle.command_blocks.specs.EnvelopeTexts.{plain_setting}
+use Rattle.queue_keys.specs.Names.{Bytes}
 use Rattle.place_model.specs.Shown.{history_of}
 use Rattle.place_model.specs.Starts.{IsSound}
 use Rattle.place_model.specs.declared.history.History as code

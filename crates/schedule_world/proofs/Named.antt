@@ -17,7 +17,7 @@ use Rattle.envelope.specs.Reading.{needed, wanted}
 use Rattle.envelope.specs.declared.sealing.Draft.{Draft}
 use Rattle.envelope.proofs.Said.{bind_ok, said_is}
 use Rattle.envelope.proofs.Told.{told_by}
-use Rattle.place_model.specs.Names.{Bytes}
+use Rattle.queue_keys.specs.Names.{Bytes}
 use Rattle.schedule_world.specs.Tasks.{Names}
 
 same_some : {A : Type 0} (x y : A) → ◌≡◌ {A = Option A} (Some x) (Some y) → x ≡ y

@@ -2,7 +2,7 @@
 use Rattle.std.proofs.Common.{◌≡◌, ℕ, ◌+◌, ◌∙◌, Bool, true, false, List, [], ◌∷◌, Result, Option, Some, None, zero, suc, length, take, ◌≤◌, arith, MatchOption, is_some, not, refl, ap, sym, subst}
 use Rattle.std.specs.Borrow.{Bor}
 use Rattle.line_text.specs.Lines.{numbered, text_fault}
-use Rattle.place_model.specs.Names.{Bytes}
+use Rattle.queue_keys.specs.Names.{Bytes}
 use Rattle.place_model.specs.declared.history.History as code
 use Rattle.schedule_model.specs.Desk.{Desk, first_desk}
 use Rattle.schedule_model.specs.Faults.{Craft}

@@ -5,9 +5,9 @@ use Rattle.std.specs.List.{list_all, list_any}
 use Rattle.serde_json.specs.Data.{Data}
 use Rattle.line_text.specs.declared.reason.Reason.TheVariants.{Name, Reserved, Json, Task}
 use Rattle.envelope.specs.Tags.{tag, tag_number, tag_text}
-use Rattle.place_model.specs.EnvelopeTexts.{plain_setting}
-use Rattle.place_model.specs.Names.{Bytes, all_free, has_length, is_name, is_reserved}
-use Rattle.place_model.specs.Scripts.{End, Publish, Pop, end_script, pop_script, publish_script}
+use Rattle.command_blocks.specs.EnvelopeTexts.{plain_setting}
+use Rattle.queue_keys.specs.Names.{Bytes, all_free, has_length, is_name, is_reserved}
+use Rattle.command_blocks.specs.Scripts.{End, Publish, Pop, end_script, pop_script, publish_script}
 use Rattle.schedule_model.specs.Drafts.{arguments_of, sealed_task}
 use Rattle.schedule_model.specs.Faults.{Test, asked_tests, first_reason, is_empty, is_no_name}
 use Rattle.schedule_model.specs.Programs.{are_arguments, program_craft}

@@ -1,9 +1,9 @@
 -- What a client says of its block, one command after the other.
 use Rattle.std.proofs.Common.{◌≡◌, ℕ, Bool, true, false, cond, refl, sym, ap, ◌∙◌, None, Some}
 use Rattle.std.specs.Prelude.{unwrap_or}
-use Rattle.mini_store.specs.Store.{apply_of}
-use Rattle.mini_store.specs.Words.{Words}
-use Rattle.place_model.specs.Scripts.{Script, Over, Off, Say, next_words}
+use Rattle.store_model.specs.Store.{apply_of}
+use Rattle.store_model.specs.Words.{Words}
+use Rattle.command_blocks.specs.Scripts.{Script, Over, Off, Say, next_words}
 use Rattle.schedule_model.specs.Costs.{is_full}
 use Rattle.schedule_model.specs.Desk.{Desk, Said, said_all, said_one, with_call}
 use Rattle.schedule_model.specs.Faults.{has_more}

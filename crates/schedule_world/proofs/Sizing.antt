@@ -2,10 +2,10 @@
 use Rattle.std.proofs.Common.{◌≡◌, ◌+◌, ◌≤◌, ℕ, List, [], ◌∷◌, ◌++◌, length, take, sym, ap, ◌∙◌, sum_by, zero-add, arith}
 use Rattle.std.proofs.lemmas.Grind.{common_steps}
 use Rattle.std.proofs.lemmas.List.Sums.{sum-map, sum_by-append}
-use Rattle.resp_wire.specs.declared.value.Value.{Value}
-use Rattle.resp_wire.specs.declared.value.Value.TheFolds.{fold-roll-Value}
-use Rattle.resp_wire.specs.declared.value.Value.TheOpen.{Value-F}
-use Rattle.resp_wire.specs.declared.value.Value.TheVariants.{Array, rolls-Array}
+use Rattle.wire_values.specs.declared.value.Value.{Value}
+use Rattle.wire_values.specs.declared.value.Value.TheFolds.{fold-roll-Value}
+use Rattle.wire_values.specs.declared.value.Value.TheOpen.{Value-F}
+use Rattle.wire_values.specs.declared.value.Value.TheVariants.{Array, rolls-Array}
 use Rattle.place_model.specs.declared.heard.Heard.{Heard}
 use Rattle.place_model.specs.declared.history.Entry.{Entry}
 use Rattle.schedule_model.specs.Costs.{bulk_size, bulk_step, cost, total_cost}

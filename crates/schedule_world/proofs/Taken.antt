@@ -6,9 +6,9 @@ use Rattle.std.specs.List.{list_any}
 use Rattle.std.specs.Ordering.{nat_cmp}
 use Rattle.std.proofs.lemmas.Bool.Decides.{nat_tests}
 use Rattle.line_text.specs.declared.reason.Reason.TheVariants.{Moment}
-use Rattle.place_model.specs.EnvelopeTexts.{plain_setting}
-use Rattle.place_model.specs.Names.{Bytes, is_reserved}
-use Rattle.place_model.specs.Scripts.{Pop, Publish, pop_script, publish_script}
+use Rattle.command_blocks.specs.EnvelopeTexts.{plain_setting}
+use Rattle.queue_keys.specs.Names.{Bytes, is_reserved}
+use Rattle.command_blocks.specs.Scripts.{Pop, Publish, pop_script, publish_script}
 use Rattle.schedule_model.specs.Desk.{Desk}
 use Rattle.schedule_model.specs.Drafts.{arguments_of, sealed_task}
 use Rattle.schedule_model.specs.Faults.{has_number, is_empty, is_gone, is_no_name}

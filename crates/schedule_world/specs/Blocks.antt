@@ -1,6 +1,6 @@
 -- What is left of a client's block.
 use Rattle.std.specs.Prelude.{ℕ}
-use Rattle.place_model.specs.Scripts.{Script}
+use Rattle.command_blocks.specs.Scripts.{Script}
 use Rattle.schedule_world.specs.Lefts.{core_left}
 use Rattle.schedule_world.specs.declared.left.Left.{Left}
 

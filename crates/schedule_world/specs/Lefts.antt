@@ -1,9 +1,9 @@
 -- What is left of a client's block, as a script.
 use Rattle.std.specs.Prelude.{◌≡◌, ℕ, zero, suc, [], Result, Ok, Err, ⊤}
 use Rattle.std.specs.declared.alloc.AllocError.{AllocError}
-use Rattle.resp_wire.specs.declared.value.Value.{Value}
-use Rattle.place_model.specs.Calls.{call}
-use Rattle.place_model.specs.Scripts.{Script, Over, Off, Say, after_call}
+use Rattle.wire_values.specs.declared.value.Value.{Value}
+use Rattle.command_blocks.specs.Calls.{call}
+use Rattle.command_blocks.specs.Scripts.{Script, Over, Off, Say, after_call}
 use Rattle.routes.specs.Publishes.{publish_left}
 use Rattle.unacked.specs.Ends.{end_left}
 use Rattle.unacked.specs.Pops.{pop_left}

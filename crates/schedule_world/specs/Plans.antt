@@ -1,8 +1,8 @@
 -- What preparing a plan answers, and which lines are built.
 use Rattle.std.specs.Prelude.{◌≡◌, ◌≤◌, ℕ, suc, length, [], Result, Ok, Err, None, Some}
-use Rattle.place_model.specs.Blocks.{drawn}
-use Rattle.place_model.specs.EnvelopeTexts.{plain_setting}
-use Rattle.place_model.specs.Scripts.{Plan, kind_of, script_of}
+use Rattle.command_blocks.specs.Blocks.{drawn}
+use Rattle.command_blocks.specs.EnvelopeTexts.{plain_setting}
+use Rattle.command_blocks.specs.Scripts.{Plan, kind_of, script_of}
 use Rattle.schedule_model.specs.Faults.{asked_tests, first_reason}
 use Rattle.schedule_model.specs.Programs.{program_craft}
 use Rattle.schedule_model.specs.Schedules.{plan_of}

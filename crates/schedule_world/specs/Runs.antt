@@ -1,7 +1,7 @@
 -- What running a schedule answers.
 use Rattle.std.specs.Prelude.{◌≡◌, ℕ, Bool, List, [], ◌∷◌, Option, Some, None, Result, Ok, Err}
 use Rattle.std.specs.Borrow.{Bor}
-use Rattle.place_model.specs.Names.{Bytes}
+use Rattle.queue_keys.specs.Names.{Bytes}
 use Rattle.place_model.specs.Shown.{history_of}
 use Rattle.place_model.specs.declared.history.History as code
 use Rattle.line_text.specs.declared.reason.Reason.{Reason}

@@ -2,8 +2,8 @@
 ghost use Rattle.std.specs.Prelude.{◌≡◌, ◌+◌, IfSome, sum_by};
 ghost use Rattle.schedule_model.specs.Costs.{bulk_size, reply_size, words_size};
 
-use mini_store::Reply;
-use resp_wire::{Bytes, Value};
+use store_model::Reply;
+use wire_values::{Bytes, Value};
 
 /// What a call costs: 64, and the bytes of its words and of its reply's bulk strings. None where that passes 64 bits.
 pub(crate) fn call_cost(words: &[Bytes], reply: &Reply) -> Option<u64>

@@ -1,14 +1,15 @@
 //! What is left of a client's block.
 ghost use Rattle.std.specs.Prelude.{ℕ, Err};
-ghost use Rattle.mini_store.specs.declared.reply.Reply.{Reply as Answer};
-ghost use Rattle.place_model.specs.Cores.{HasTaken};
-ghost use Rattle.place_model.specs.Scripts.{Script};
+ghost use Rattle.store_model.specs.declared.reply.Reply.{Reply as Answer};
+ghost use Rattle.command_blocks.specs.Cores.{HasTaken};
+ghost use Rattle.command_blocks.specs.Scripts.{Script};
 ghost use Rattle.schedule_world.specs.Lefts.{HasGone, IsAtMost, core_left};
 
 use envelope::{Envelope, Tag};
-use mini_store::Reply;
-use place_model::{CoreFault, QueueName};
-use resp_wire::{List, Words};
+use store_model::Reply;
+use command_blocks::CoreFault;
+use queue_keys::QueueName;
+use wire_values::{List, Words};
 use routes::PublishCore;
 use std::alloc::{AllocError, Global};
 use unacked::{EndCore, PopCore};
@@ -34,9 +35,9 @@ pub(crate) struct Left {
 impl Left {
     ghost use Rattle.std.specs.Prelude.{◌≡◌, ◌<◌, ◌≤◌, ◌^◌, IfOk, IfSome, OnOk, length, true};
     ghost use Rattle.envelope.specs.Tags.{tag_text};
-    ghost use Rattle.mini_store.specs.Words.{IsWithinLimits};
-    ghost use Rattle.place_model.specs.EnvelopeTexts.{plain_setting};
-    ghost use Rattle.place_model.specs.Scripts.{Over, end_script, next_words, pop_script, publish_script};
+    ghost use Rattle.store_model.specs.Words.{IsWithinLimits};
+    ghost use Rattle.command_blocks.specs.EnvelopeTexts.{plain_setting};
+    ghost use Rattle.command_blocks.specs.Scripts.{Over, end_script, next_words, pop_script, publish_script};
     ghost use Rattle.routes.specs.Publishes.{GoesDirectly};
     ghost use Rattle.schedule_model.specs.Faults.{has_more, is_off};
     ghost use Rattle.schedule_world.specs.Blocks.{commands_left, script_left};

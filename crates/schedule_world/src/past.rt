@@ -9,7 +9,7 @@ use crate::cost::call_cost;
 use crate::left::Left;
 use mini_store::Store;
 use place_model::{Entry, History};
-use resp_wire::Words;
+use wire_values::Words;
 use std::alloc::{AllocError, Global};
 
 /// The greatest number of entries of a history.
@@ -34,9 +34,9 @@ impl Past {
     ghost use Rattle.std.specs.FinMap.{FinMap, empty};
     ghost use Rattle.std.specs.Ordering.{nat_cmp};
     ghost use Rattle.std.specs.Prelude.{IfOk, OnErr, OnOk, ◌||◌, ◌∷◌, [], ◌++◌, length, true, false};
-    ghost use Rattle.mini_store.specs.Store.{apply_of};
-    ghost use Rattle.mini_store.specs.Words.{IsWithinLimits};
-    ghost use Rattle.place_model.specs.Scripts.{next_words};
+    ghost use Rattle.store_model.specs.Store.{apply_of};
+    ghost use Rattle.store_model.specs.Words.{IsWithinLimits};
+    ghost use Rattle.command_blocks.specs.Scripts.{next_words};
     ghost use Rattle.schedule_model.specs.Costs.{is_full};
     ghost use Rattle.schedule_model.specs.Desk.{Book, first_desk, said_all, said_one, with_call};
     ghost use Rattle.schedule_model.specs.Faults.{has_more};

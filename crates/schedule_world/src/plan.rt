@@ -3,9 +3,9 @@ ghost use Rattle.std.specs.Prelude.{◌≡◌, ◌≤◌, [], IfOk, length, true
 ghost use Rattle.std.specs.List.{list_all, list_any};
 ghost use Rattle.serde_json.specs.View.{view as data_of};
 ghost use Rattle.envelope.specs.Envelopes.{parts_in};
-ghost use Rattle.place_model.specs.EnvelopeTexts.{plain_setting};
-ghost use Rattle.place_model.specs.Names.{has_length, is_free, is_name, is_reserved};
-ghost use Rattle.place_model.specs.Scripts.{publish_script};
+ghost use Rattle.command_blocks.specs.EnvelopeTexts.{plain_setting};
+ghost use Rattle.queue_keys.specs.Names.{has_length, is_free, is_name, is_reserved};
+ghost use Rattle.command_blocks.specs.Scripts.{publish_script};
 ghost use Rattle.schedule_model.specs.Faults.{is_no_name};
 ghost use Rattle.schedule_world.specs.Blocks.{script_left};
 ghost use Rattle.schedule_world.specs.Tasks.{envelope_text};
@@ -17,8 +17,8 @@ use crate::left::Left;
 use crate::task::{Publication, arguments, sealed};
 use envelope::{Envelope, Tag, write};
 use line_text::Reason;
-use place_model::{NameFault, QueueName, is_reserved};
-use resp_wire::{Bytes, List, Words};
+use queue_keys::{NameFault, QueueName, is_reserved};
+use wire_values::{Bytes, List, Words};
 use schedule_model::Asked;
 use std::alloc::{AllocError, Global};
 

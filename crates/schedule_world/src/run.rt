@@ -2,7 +2,7 @@
 ghost use Rattle.std.specs.Prelude.{◌≡◌, IfOk};
 ghost use Rattle.line_text.specs.Lines.{lines_of, text_fault};
 ghost use Rattle.line_text.specs.LinesLeft.{lines_left};
-ghost use Rattle.place_model.specs.EnvelopeTexts.{plain_setting};
+ghost use Rattle.command_blocks.specs.EnvelopeTexts.{plain_setting};
 ghost use Rattle.place_model.specs.Shown.{history_of};
 ghost use Rattle.place_model.specs.Starts.{IsSound};
 ghost use Rattle.schedule_model.specs.Desk.{first_desk};

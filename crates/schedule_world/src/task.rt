@@ -7,13 +7,13 @@ ghost use Rattle.serde_json.specs.View.{view as data_of};
 ghost use Rattle.serde_json.specs.Written.{compact_text};
 ghost use Rattle.envelope.specs.Sealed.{seal_of};
 ghost use Rattle.envelope.specs.Tags.{tag_text};
-ghost use Rattle.place_model.specs.Names.{Bytes};
+ghost use Rattle.queue_keys.specs.Names.{Bytes};
 ghost use Rattle.schedule_model.specs.Drafts.{are_texts, arguments_of, headers_tree, if_arguments, sealed_task};
 ghost use Rattle.schedule_world.specs.Tasks.{IsDraftOf, Names, content_around, envelope_text};
 
 use envelope::walk::{holds_float, nests_within};
 use envelope::{Draft, Envelope, EnvelopeFault, Tag, Tree, seal};
-use resp_wire::Bytes;
+use wire_values::Bytes;
 use serde_json::{Value, json};
 use std::alloc::{AllocError, Global};
 

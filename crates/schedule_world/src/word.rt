@@ -6,7 +6,7 @@ ghost use Rattle.line_text.specs.Words.{is_word};
 ghost use Rattle.schedule_model.specs.Lines.{client_in, dashed_in, name_in, queues_in, seed_in};
 
 use line_text::{is_word, number_in};
-use resp_wire::{Bytes, List, Words};
+use wire_values::{Bytes, List, Words};
 use std::alloc::{AllocError, Global};
 
 /// The number of a client, from 1 to 4,096.

@@ -1,13 +1,13 @@
 -- Arrays tell what they hold.
 use Rattle.std.proofs.Common.{◌≡◌, List, [], ◌∷◌, refl, sym, ap, ◌∙◌, None, Some, Option, unwrap_or}
 use Rattle.std.specs.Prelude.{map}
-use Rattle.resp_wire.specs.Layer.{layer}
-use Rattle.resp_wire.proofs.Layers.{layer-array}
-use Rattle.resp_wire.specs.declared.value.Value.{Value}
-use Rattle.resp_wire.specs.declared.value.Value.TheOpen.{Value-F}
-use Rattle.resp_wire.specs.declared.value.Value.TheVariants.{Array, Bulk}
-use Rattle.mini_store.specs.Words.{Bytes}
-use Rattle.mini_store.specs.Replies.{bulks, pair}
+use Rattle.wire_values.specs.Layer.{layer}
+use Rattle.wire_values.proofs.Layers.{layer-array}
+use Rattle.wire_values.specs.declared.value.Value.{Value}
+use Rattle.wire_values.specs.declared.value.Value.TheOpen.{Value-F}
+use Rattle.wire_values.specs.declared.value.Value.TheVariants.{Array, Bulk}
+use Rattle.store_model.specs.Words.{Bytes}
+use Rattle.store_model.specs.Replies.{bulks, pair}
 
 -- the values of a layer that is an array
 abbrev values_in : Value-F Value → Option (List Value)

@@ -2,21 +2,21 @@
 use Rattle.std.proofs.Common.{◌≡◌, ◌≢◌, ◌⊎◌, inl, inr, ℕ, zero, suc, ◌+◌, List, [], ◌∷◌, ◌++◌, Bool, true, false, refl, sym, ap, subst, ◌∙◌, arith, None, Some, Option, length}
 use Rattle.std.specs.Prelude.{is_some, bytes_eq, ℤ, int_le, ◌&&◌, if◌then◌else◌}
 use Rattle.std.specs.FinMap.{FinMap, get, insert, remove, empty, entries, len, get-empty, empty_of_len}
-use Rattle.resp_wire.specs.Order.{bytes_cmp}
-use Rattle.resp_wire.specs.declared.value.Value.{Value}
-use Rattle.resp_wire.specs.declared.value.Value.TheVariants.{NullArray}
+use Rattle.wire_values.specs.Order.{bytes_cmp}
+use Rattle.wire_values.specs.declared.value.Value.{Value}
+use Rattle.wire_values.specs.declared.value.Value.TheVariants.{NullArray}
 use Rattle.store_tables.proofs.Maps.{bytes_total, bytes_anti}
-use Rattle.mini_store.specs.Words.{Bytes, front, final}
-use Rattle.mini_store.specs.Replies.{number, pair, full}
-use Rattle.mini_store.specs.Keys.{Keys, value_of, value_at, expiry_of, put, Outcome, out, is_long, after_taking, kept}
-use Rattle.mini_store.specs.Lists.{put_list, lpush, rpush, brpop, brpop_at, shortened}
-use Rattle.mini_store.specs.Hashes.{hset, hdel}
-use Rattle.mini_store.specs.SortedSets.{zadd, zadd_over, zrem}
-use Rattle.mini_store.specs.Commands.{Around, run}
-use Rattle.mini_store.specs.declared.command.Command.TheVariants.{Lpush, Rpush, Brpop, Zadd, Hset, Zrem, Hdel}
-use Rattle.mini_store.specs.declared.held.Held.{Held}
-use Rattle.mini_store.specs.declared.held.Stored.{Stored}
-use Rattle.mini_store.specs.declared.held.Stored.TheVariants.{Items, Hash, Scores}
+use Rattle.store_model.specs.Words.{Bytes, front, final}
+use Rattle.store_model.specs.Replies.{number, pair, full}
+use Rattle.store_model.specs.Keys.{Keys, value_of, value_at, expiry_of, put, Outcome, out, is_long, after_taking, kept}
+use Rattle.store_model.specs.Lists.{put_list, lpush, rpush, brpop, brpop_at, shortened}
+use Rattle.store_model.specs.Hashes.{hset, hdel}
+use Rattle.store_model.specs.SortedSets.{zadd, zadd_over, zrem}
+use Rattle.store_model.specs.Commands.{Around, run}
+use Rattle.store_model.specs.declared.command.Command.TheVariants.{Lpush, Rpush, Brpop, Zadd, Hset, Zrem, Hdel}
+use Rattle.store_model.specs.declared.held.Held.{Held}
+use Rattle.store_model.specs.declared.held.Stored.{Stored}
+use Rattle.store_model.specs.declared.held.Stored.TheVariants.{Items, Hash, Scores}
 use Rattle.store_laws.proofs.Maps.{total, weight, get-insert_same, get-insert_other, get-remove_same, get-remove_other, total-insert, total-remove, same_or, same-refl}
 use Rattle.store_laws.proofs.Names.{Names}
 

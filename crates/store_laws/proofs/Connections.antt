@@ -5,16 +5,16 @@ use Rattle.std.specs.Ordering.{nat_cmp, eq_by_cmp}
 use Rattle.std.proofs.lemmas.Cmp.{nat_cmp_total}
 use Rattle.std.specs.FinMap.{insert, remove, entries, from_entries, get-entries, get-from_entries, nat_cmp-IsAntisymmetric}
 use Rattle.std.specs.FinMap.Entries.{find}
-use Rattle.mini_store.specs.Words.{Bytes}
-use Rattle.mini_store.specs.Replies.{message}
-use Rattle.mini_store.specs.Keys.{Keys}
-use Rattle.mini_store.specs.Commands.{run}
-use Rattle.mini_store.specs.Connections.{Conns, no_conn, or_no_conn, conn, hit, touch, touched, hears, around, told, delivered, posted}
-use Rattle.mini_store.specs.Store.{State, run_all, run_one, run_queue, gone_of}
-use Rattle.mini_store.specs.declared.command.Command.{Command}
-use Rattle.mini_store.specs.declared.command.Command.TheVariants.{Publish}
-use Rattle.mini_store.specs.declared.connection.Queue.{Queue}
-use Rattle.mini_store.specs.declared.connection.Conn.{Conn}
+use Rattle.store_model.specs.Words.{Bytes}
+use Rattle.store_model.specs.Replies.{message}
+use Rattle.store_model.specs.Keys.{Keys}
+use Rattle.store_model.specs.Commands.{run}
+use Rattle.store_model.specs.Connections.{Conns, no_conn, or_no_conn, conn, hit, touch, touched, hears, around, told, delivered, posted}
+use Rattle.store_model.specs.Store.{State, run_all, run_one, run_queue, gone_of}
+use Rattle.store_model.specs.declared.command.Command.{Command}
+use Rattle.store_model.specs.declared.command.Command.TheVariants.{Publish}
+use Rattle.store_model.specs.declared.connection.Queue.{Queue}
+use Rattle.store_model.specs.declared.connection.Conn.{Conn}
 use Rattle.store_laws.specs.Laws.{IsTouched, IsGone}
 use Rattle.store_laws.proofs.Maps.{get-insert_same, get-insert_other, get-remove_same, get-remove_other}
 use Rattle.store_laws.proofs.Law.{hit-append}

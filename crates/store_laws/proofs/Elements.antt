@@ -1,14 +1,14 @@
 -- The elements of a list before and after a push or a pop.
 use Rattle.std.proofs.Common.{◌≡◌, ◌≢◌, ◌⊎◌, inl, inr, List, [], ◌∷◌, ◌++◌, refl, sym, ap, subst, ◌∙◌, None, Some, Option}
 use Rattle.std.specs.FinMap.{get}
-use Rattle.mini_store.specs.Words.{Bytes, front, final}
-use Rattle.mini_store.specs.Replies.{pair}
-use Rattle.mini_store.specs.Keys.{Keys, value_at}
-use Rattle.mini_store.specs.Lists.{put_list, lpush, rpush, brpop, brpop_at, shortened}
-use Rattle.mini_store.specs.Commands.{Around, run}
-use Rattle.mini_store.specs.declared.command.Command.TheVariants.{Lpush, Rpush}
-use Rattle.mini_store.specs.declared.held.Stored.{Stored}
-use Rattle.mini_store.specs.declared.held.Stored.TheVariants.{Items}
+use Rattle.store_model.specs.Words.{Bytes, front, final}
+use Rattle.store_model.specs.Replies.{pair}
+use Rattle.store_model.specs.Keys.{Keys, value_at}
+use Rattle.store_model.specs.Lists.{put_list, lpush, rpush, brpop, brpop_at, shortened}
+use Rattle.store_model.specs.Commands.{Around, run}
+use Rattle.store_model.specs.declared.command.Command.TheVariants.{Lpush, Rpush}
+use Rattle.store_model.specs.declared.held.Stored.{Stored}
+use Rattle.store_model.specs.declared.held.Stored.TheVariants.{Items}
 use Rattle.store_laws.proofs.Answers.{pair_parts}
 use Rattle.store_laws.proofs.Changes.{IsListOrNone, changed-put, changed-remove}
 

@@ -2,16 +2,16 @@
 use Rattle.std.proofs.Common.{◌≡◌, ◌≢◌, ℕ, List, [], ◌∷◌, ◌++◌, Bool, true, false, refl, sym, subst, ◌∙◌, None, Some, Option, inr}
 use Rattle.std.specs.Prelude.{length, nat_lt}
 use Rattle.std.specs.FinMap.{insert, entries}
-use Rattle.resp_wire.specs.declared.value.Value.{Value}
-use Rattle.mini_store.specs.Words.{Bytes, Words, command_of}
-use Rattle.mini_store.specs.Keys.{due_keys}
-use Rattle.mini_store.specs.Commands.{run, is_queued}
-use Rattle.mini_store.specs.Connections.{conn, around, cleared, with_queue}
-use Rattle.mini_store.specs.Store.{State, set_conn, run_all, run_one, run_queue, execute, executed, to_queue, inside, plain, is_heard, heard_plain, spoken, serve_by, serve, settled, quiet, answered, answer_to, apply_of, gone_of}
-use Rattle.mini_store.specs.declared.command.Command.{Command}
-use Rattle.mini_store.specs.declared.command.Command.TheVariants.{Ping, Watch, Unwatch, Multi, Exec, Discard, Subscribe, Unsubscribe, Faulty}
-use Rattle.mini_store.specs.declared.connection.Queue.{Queue}
-use Rattle.mini_store.specs.declared.connection.Conn.{Conn}
+use Rattle.wire_values.specs.declared.value.Value.{Value}
+use Rattle.store_model.specs.Words.{Bytes, Words, command_of}
+use Rattle.store_model.specs.Keys.{due_keys}
+use Rattle.store_model.specs.Commands.{run, is_queued}
+use Rattle.store_model.specs.Connections.{conn, around, cleared, with_queue}
+use Rattle.store_model.specs.Store.{State, set_conn, run_all, run_one, run_queue, execute, executed, to_queue, inside, plain, is_heard, heard_plain, spoken, serve_by, serve, settled, quiet, answered, answer_to, apply_of, gone_of}
+use Rattle.store_model.specs.declared.command.Command.{Command}
+use Rattle.store_model.specs.declared.command.Command.TheVariants.{Ping, Watch, Unwatch, Multi, Exec, Discard, Subscribe, Unsubscribe, Faulty}
+use Rattle.store_model.specs.declared.connection.Queue.{Queue}
+use Rattle.store_model.specs.declared.connection.Conn.{Conn}
 use Rattle.store_laws.specs.Laws.{IsTouched, IsElsewhere}
 use Rattle.store_laws.proofs.Law.{ToldBy, told_then, told_from, untold, run_one_told, run_queue_told}
 use Rattle.store_laws.proofs.Connections.{untouched, touched_then, set_same, set_kept, gone_other, run_one_conns, run_queue_conns, conn_is, hit_none}

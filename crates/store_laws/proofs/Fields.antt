@@ -2,17 +2,17 @@
 use Rattle.std.proofs.Common.{◌≡◌, ◌≢◌, ◌⊎◌, inl, inr, ℕ, zero, suc, [], ◌∷◌, Bool, true, false, refl, sym, ap, subst, ◌∙◌, None, Some, Option}
 use Rattle.std.specs.Prelude.{if◌then◌else◌}
 use Rattle.std.specs.FinMap.{FinMap, get, insert, remove, empty, len, get-empty}
-use Rattle.resp_wire.specs.Order.{bytes_cmp}
-use Rattle.resp_wire.specs.declared.value.Value.{Value}
+use Rattle.wire_values.specs.Order.{bytes_cmp}
+use Rattle.wire_values.specs.declared.value.Value.{Value}
 use Rattle.store_tables.proofs.Maps.{bytes_total, bytes_anti}
-use Rattle.mini_store.specs.Words.{Bytes}
-use Rattle.mini_store.specs.Replies.{full}
-use Rattle.mini_store.specs.Keys.{Keys, value_at, put, out, is_long, kept, after_taking}
-use Rattle.mini_store.specs.Hashes.{hset, hdel}
-use Rattle.mini_store.specs.Commands.{Around, run}
-use Rattle.mini_store.specs.declared.command.Command.TheVariants.{Hset, Hdel}
-use Rattle.mini_store.specs.declared.held.Stored.{Stored}
-use Rattle.mini_store.specs.declared.held.Stored.TheVariants.{Hash}
+use Rattle.store_model.specs.Words.{Bytes}
+use Rattle.store_model.specs.Replies.{full}
+use Rattle.store_model.specs.Keys.{Keys, value_at, put, out, is_long, kept, after_taking}
+use Rattle.store_model.specs.Hashes.{hset, hdel}
+use Rattle.store_model.specs.Commands.{Around, run}
+use Rattle.store_model.specs.declared.command.Command.TheVariants.{Hset, Hdel}
+use Rattle.store_model.specs.declared.held.Stored.{Stored}
+use Rattle.store_model.specs.declared.held.Stored.TheVariants.{Hash}
 use Rattle.store_laws.proofs.Maps.{get-insert_same, get-insert_other, get-remove_same, get-remove_other, same_or}
 use Rattle.store_laws.proofs.Changes.{IsHashOrNone, field_of, changed-put, changed-remove}
 

@@ -4,24 +4,24 @@ use Rattle.std.specs.Prelude.{◌||◌, is_some, bytes_eq, ℤ, if◌then◌else
 use Rattle.std.specs.List.{list_any}
 use Rattle.std.proofs.lemmas.List.Folds.{list_any-append}
 use Rattle.std.specs.FinMap.{FinMap, get, insert, remove, empty}
-use Rattle.resp_wire.specs.Order.{bytes_cmp}
-use Rattle.resp_wire.specs.declared.value.Value.{Value}
+use Rattle.wire_values.specs.Order.{bytes_cmp}
+use Rattle.wire_values.specs.declared.value.Value.{Value}
 use Rattle.store_tables.proofs.Maps.{bytes_total, bytes_anti}
-use Rattle.mini_store.specs.Words.{Bytes, front}
-use Rattle.mini_store.specs.Keys.{Keys, value_at, Outcome, out, is_long, after_taking, dropped, expire}
-use Rattle.mini_store.specs.Texts.{until, set_text}
-use Rattle.mini_store.specs.Lists.{lpush, rpush, rpop, brpop, brpop_at, shortened}
-use Rattle.mini_store.specs.Sets.{sadd, srem, after_adding}
-use Rattle.mini_store.specs.Hashes.{hset, hset_to, hdel}
-use Rattle.mini_store.specs.SortedSets.{zadd, zadd_to, zadd_over, zrem}
-use Rattle.mini_store.specs.Commands.{Around, run, both}
-use Rattle.mini_store.specs.Connections.{Conns, hit, watches, around, posted}
-use Rattle.mini_store.specs.Store.{State, run_all, run_one, run_queue}
-use Rattle.mini_store.specs.declared.command.Command.{Command}
-use Rattle.mini_store.specs.declared.command.Command.TheVariants.{Lpush, Rpush, Rpop, Brpop, Zadd, Hset, Zrem, Hdel, Sadd, Srem, Set, Del, Expire}
-use Rattle.mini_store.specs.declared.held.Held.{Held}
-use Rattle.mini_store.specs.declared.held.Stored.{Stored}
-use Rattle.mini_store.specs.declared.held.Stored.TheVariants.{Items, Members, Hash, Scores}
+use Rattle.store_model.specs.Words.{Bytes, front}
+use Rattle.store_model.specs.Keys.{Keys, value_at, Outcome, out, is_long, after_taking, dropped, expire}
+use Rattle.store_model.specs.Texts.{until, set_text}
+use Rattle.store_model.specs.Lists.{lpush, rpush, rpop, brpop, brpop_at, shortened}
+use Rattle.store_model.specs.Sets.{sadd, srem, after_adding}
+use Rattle.store_model.specs.Hashes.{hset, hset_to, hdel}
+use Rattle.store_model.specs.SortedSets.{zadd, zadd_to, zadd_over, zrem}
+use Rattle.store_model.specs.Commands.{Around, run, both}
+use Rattle.store_model.specs.Connections.{Conns, hit, watches, around, posted}
+use Rattle.store_model.specs.Store.{State, run_all, run_one, run_queue}
+use Rattle.store_model.specs.declared.command.Command.{Command}
+use Rattle.store_model.specs.declared.command.Command.TheVariants.{Lpush, Rpush, Rpop, Brpop, Zadd, Hset, Zrem, Hdel, Sadd, Srem, Set, Del, Expire}
+use Rattle.store_model.specs.declared.held.Held.{Held}
+use Rattle.store_model.specs.declared.held.Stored.{Stored}
+use Rattle.store_model.specs.declared.held.Stored.TheVariants.{Items, Members, Hash, Scores}
 use Rattle.store_laws.proofs.Maps.{get-insert_other, get-remove_other, get-remove_same, same_or, same-refl, same_false}
 
 pub or_true : (a b : Bool) → b ≡ true → (a || b) ≡ true

@@ -9,9 +9,9 @@ use Rattle.std.proofs.lemmas.Cmp.{nat_cmp_total}
 use Rattle.std.specs.FinMap.{FinMap, get, insert, remove, empty, same_map, entries, entries_sorted, entries-insert, get-entries, get-insert, get-remove, IsAntisymmetric, nat_cmp-IsAntisymmetric, slice_cmp-IsAntisymmetric}
 use Rattle.std.specs.FinMap.Entries.{find, put, is_sorted, below_all, by_order}
 use Rattle.std.proofs.lemmas.Slice.Eq.{bytes_eq-Decides}
-use Rattle.resp_wire.specs.Order.{bytes_cmp}
+use Rattle.wire_values.specs.Order.{bytes_cmp}
 use Rattle.store_tables.proofs.Maps.{bytes_total, bytes_anti}
-use Rattle.mini_store.specs.Words.{Bytes}
+use Rattle.store_model.specs.Words.{Bytes}
 
 -- the sum of f over entries
 abbrev pub total : {K X : Type 0} → (K → X → ℕ) → List (K × X) → ℕ

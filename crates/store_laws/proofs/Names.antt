@@ -1,7 +1,7 @@
 -- The keys that the places of messages are read from.
 use Rattle.std.proofs.Common.{◌≡◌, ℕ, Bool, false}
 use Rattle.std.specs.Prelude.{bytes_eq}
-use Rattle.mini_store.specs.Words.{Bytes}
+use Rattle.store_model.specs.Words.{Bytes}
 
 -- the keys of queues, the table and its index, all apart, and how much an element of a list counts for a tag
 pub record Names : Type 0 where

@@ -4,13 +4,13 @@ use Rattle.std.specs.Prelude.{◌&&◌, is_some, ℤ, int_le, int_lt, map, if◌
 use Rattle.std.specs.Ordering.{eq_by_cmp}
 use Rattle.std.specs.FinMap.{entries, get-entries}
 use Rattle.std.specs.FinMap.Entries.{find}
-use Rattle.resp_wire.specs.Order.{bytes_cmp}
+use Rattle.wire_values.specs.Order.{bytes_cmp}
 use Rattle.store_tables.proofs.Maps.{bytes_total, bytes_anti}
-use Rattle.mini_store.specs.Words.{Bytes}
-use Rattle.mini_store.specs.Replies.{bulks}
-use Rattle.mini_store.specs.SortedSets.{ranked, between, ranks, ranks_answer}
-use Rattle.mini_store.specs.declared.held.Stored.{Stored}
-use Rattle.mini_store.specs.declared.held.Stored.TheVariants.{Scores}
+use Rattle.store_model.specs.Words.{Bytes}
+use Rattle.store_model.specs.Replies.{bulks}
+use Rattle.store_model.specs.SortedSets.{ranked, between, ranks, ranks_answer}
+use Rattle.store_model.specs.declared.held.Stored.{Stored}
+use Rattle.store_model.specs.declared.held.Stored.TheVariants.{Scores}
 use Rattle.store_laws.proofs.Maps.{tied_itself}
 use Rattle.store_laws.proofs.Changes.{has_member}
 use Rattle.store_laws.proofs.Answers.{bulks_parts}

@@ -6,13 +6,13 @@ use Rattle.std.specs.Ordering.{eq_by_cmp}
 use Rattle.std.specs.FinMap.{get, entries, entries_sorted, get-entries}
 use Rattle.std.specs.FinMap.Entries.{find, is_sorted, below_all}
 use Rattle.std.proofs.lemmas.Map.Text.{is_eq-slice_cmp}
-use Rattle.resp_wire.specs.Order.{bytes_cmp}
+use Rattle.wire_values.specs.Order.{bytes_cmp}
 use Rattle.store_tables.proofs.Maps.{bytes_total, bytes_anti}
-use Rattle.mini_store.specs.Words.{Bytes}
-use Rattle.mini_store.specs.Keys.{Keys, expiry_of, is_over, is_due, due_keys, live_at}
-use Rattle.mini_store.specs.Connections.{conn, touch}
-use Rattle.mini_store.specs.Store.{State, settled}
-use Rattle.mini_store.specs.declared.held.Held.{Held}
+use Rattle.store_model.specs.Words.{Bytes}
+use Rattle.store_model.specs.Keys.{Keys, expiry_of, is_over, is_due, due_keys, live_at}
+use Rattle.store_model.specs.Connections.{conn, touch}
+use Rattle.store_model.specs.Store.{State, settled}
+use Rattle.store_model.specs.declared.held.Held.{Held}
 use Rattle.store_laws.specs.Laws.{IsTouched, DropsDue, MarksDue}
 use Rattle.store_laws.proofs.Maps.{first, second, below_none, same_true}
 use Rattle.store_laws.proofs.Live.{get-live}

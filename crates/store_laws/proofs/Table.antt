@@ -1,8 +1,8 @@
 -- A transaction on the table and its index keeps them alike.
 use Rattle.std.proofs.Common.{◌≡◌, ◌≢◌, ◌⊎◌, inl, inr, Bool, true, sym, ap, subst, ◌∙◌}
 use Rattle.std.specs.FinMap.{get, entries}
-use Rattle.mini_store.specs.Words.{Bytes}
-use Rattle.mini_store.specs.Keys.{Keys, value_of, value_at, expiry_of}
+use Rattle.store_model.specs.Words.{Bytes}
+use Rattle.store_model.specs.Keys.{Keys, value_of, value_at, expiry_of}
 use Rattle.store_laws.proofs.Maps.{total, same_or}
 use Rattle.store_laws.proofs.Names.{Names}
 use Rattle.store_laws.proofs.Changes.{in_held, has_field, has_member, Kinds, Marked, IsScoresOrNone, IsHashOrNone, IsListOrNone, unacked_not_index, queue_not_unacked, queue_not_index, other_sums}

@@ -2,14 +2,14 @@
 use Rattle.std.specs.Prelude.{◌≡◌, ℕ, ◌||◌, ◌++◌, false, List, bytes_eq, None, if◌then◌else◌}
 use Rattle.std.specs.List.{list_any}
 use Rattle.std.specs.FinMap.{get, entries}
-use Rattle.resp_wire.specs.declared.value.Value.{Value}
-use Rattle.mini_store.specs.Words.{Bytes}
-use Rattle.mini_store.specs.Keys.{Keys, is_due, due_keys}
-use Rattle.mini_store.specs.Commands.{Around, run}
-use Rattle.mini_store.specs.Connections.{Conns, no_conn, conn, hit, touch}
-use Rattle.mini_store.specs.Store.{State, run_all, settled}
-use Rattle.mini_store.specs.declared.command.Command.{Command}
-use Rattle.mini_store.specs.declared.connection.Conn.{Conn}
+use Rattle.wire_values.specs.declared.value.Value.{Value}
+use Rattle.store_model.specs.Words.{Bytes}
+use Rattle.store_model.specs.Keys.{Keys, is_due, due_keys}
+use Rattle.store_model.specs.Commands.{Around, run}
+use Rattle.store_model.specs.Connections.{Conns, no_conn, conn, hit, touch}
+use Rattle.store_model.specs.Store.{State, run_all, settled}
+use Rattle.store_model.specs.declared.command.Command.{Command}
+use Rattle.store_model.specs.declared.connection.Conn.{Conn}
 
 -- the key holds what it held, unless it is one of those that were altered
 abbrev pub IsKept : Keys → List Bytes → Keys → Bytes → Type 0

@@ -5,12 +5,12 @@
 #![tactic(auto)]
 
 ghost use Rattle.std.specs.Prelude.{List, ℕ};
-ghost use Rattle.mini_store.specs.Commands.{Around};
-ghost use Rattle.mini_store.specs.Connections.{Conns};
-ghost use Rattle.mini_store.specs.Keys.{Keys};
-ghost use Rattle.mini_store.specs.Store.{State, apply_of, gone_of};
-ghost use Rattle.mini_store.specs.Words.{Bytes, Words};
-ghost use Rattle.mini_store.specs.declared.command.Command.{Command};
+ghost use Rattle.store_model.specs.Commands.{Around};
+ghost use Rattle.store_model.specs.Connections.{Conns};
+ghost use Rattle.store_model.specs.Keys.{Keys};
+ghost use Rattle.store_model.specs.Store.{State, apply_of, gone_of};
+ghost use Rattle.store_model.specs.Words.{Bytes, Words};
+ghost use Rattle.store_model.specs.declared.command.Command.{Command};
 ghost use Rattle.store_laws.specs.Laws.{DropsDue, IsElsewhere, IsGone, KeepsOthers, MarksDue, QueueKeepsOthers};
 
 /// One law for every command: a key that isn't among those that it altered holds what it held.

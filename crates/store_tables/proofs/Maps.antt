@@ -12,7 +12,7 @@ use Rattle.std.specs.Map.{lookup, keys_of}
 use Rattle.std.specs.BTreeMap.{is_at}
 use Rattle.std.specs.FinMap.{get, insert, remove, empty, from_entries, same_map, get-insert, get-remove, get-from_entries, entries, entries-insert, entries-from_sorted, from_sorted, len, len-entries, empty_of_len, IsAntisymmetric, nat_cmp-IsAntisymmetric, slice_cmp-IsAntisymmetric}
 use Rattle.std.specs.FinMap.Entries.{find, put, below_all, by_order}
-use Rattle.resp_wire.specs.Order.{bytes_cmp}
+use Rattle.wire_values.specs.Order.{bytes_cmp}
 
 pub bytes_total : IsTotalOrder bytes_cmp
 bytes_total = nat_list_cmp_total

@@ -3,10 +3,10 @@ ghost use Rattle.std.specs.Prelude.{◌≡◌, ◌<◌, ◌^◌, IfOk, OnOk, OnE
 ghost use Rattle.std.specs.Option.{option_copied};
 ghost use Rattle.std.specs.BTreeMap.{IsOrdered};
 ghost use Rattle.std.specs.FinMap as map;
-ghost use Rattle.resp_wire.specs.Order.{bytes_cmp};
+ghost use Rattle.wire_values.specs.Order.{bytes_cmp};
 
 use crate::Deque;
-use resp_wire::Bytes;
+use wire_values::Bytes;
 use std::alloc::{AllocError, Global};
 use std::collections::BTreeMap;
 use std::marker::Model;
@@ -20,7 +20,7 @@ pub struct Table<V> {
 impl<V> Model for Table<V> {
     ghost use Rattle.std.specs.Coded.{coded_list, coded_ℕ};
     ghost use Rattle.std.specs.FinMap as map;
-    ghost use Rattle.resp_wire.specs.Order.{bytes_cmp};
+    ghost use Rattle.wire_values.specs.Order.{bytes_cmp};
 
     ghost Value = { map.FinMap bytes_cmp V };
 

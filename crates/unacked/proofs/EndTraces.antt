@@ -1,17 +1,17 @@
 -- An acknowledgement's trace goes on with each reply, and begins its block.
 use Rattle.std.proofs.Common.{◌≡◌, ℕ, ◌<◌, ◌^◌, List, [], ◌∷◌, ◌++◌, Bool, true, Option, None, Some, refl, sym, subst, ap, ◌∙◌}
 use Rattle.std.specs.Prelude.{is_some}
-use Rattle.resp_wire.specs.declared.value.Value.{Value}
-use Rattle.mini_store.specs.Words.{Words}
+use Rattle.wire_values.specs.declared.value.Value.{Value}
+use Rattle.store_model.specs.Words.{Words}
 use Rattle.envelope.specs.Tags.{tag_text}
 use Rattle.envelope.proofs.TagTexts.{tag_of_text-tag_text}
-use Rattle.place_model.specs.Calls.{Call, call}
-use Rattle.place_model.specs.Cores.{IsAnswered}
-use Rattle.place_model.specs.EnvelopeTexts.{plain_setting}
-use Rattle.place_model.specs.Scripts.{Script, Over, End, after_call, end_script, next_words}
-use Rattle.place_model.specs.TakeBlocks.{IsEndBlock}
-use Rattle.place_model.specs.declared.block.BlockEnd.{BlockEnd}
-use Rattle.place_model.specs.declared.block.BlockEnd.TheVariants.{Acked}
+use Rattle.command_blocks.specs.Calls.{Call, call}
+use Rattle.command_blocks.specs.Cores.{IsAnswered}
+use Rattle.command_blocks.specs.EnvelopeTexts.{plain_setting}
+use Rattle.command_blocks.specs.Scripts.{Script, Over, End, after_call, end_script, next_words}
+use Rattle.command_blocks.specs.TakeBlocks.{IsEndBlock}
+use Rattle.command_blocks.specs.declared.block.BlockEnd.{BlockEnd}
+use Rattle.command_blocks.specs.declared.block.BlockEnd.TheVariants.{Acked}
 use Rattle.schedule_laws.specs.Traces.{IsTrace, IsFrontOf}
 use Rattle.schedule_laws.proofs.Traces.{first_trace, next_trace, trace_front}
 use Rattle.unacked.specs.EndTraces.{HasAcknowledged, IsAcknowledgedWhole, StageTells}

@@ -7,8 +7,8 @@ use Rattle.std.proofs.lemmas.Bool.Decides.{nat_tests}
 use Rattle.serde_json.specs.Data.{Data, depth}
 use Rattle.serde_json.specs.Read.{read}
 use Rattle.serde_json.specs.Written.{compact_text}
-use Rattle.resp_wire.specs.Layer.{layer}
-use Rattle.resp_wire.specs.declared.value.Value.{Value}
+use Rattle.wire_values.specs.Layer.{layer}
+use Rattle.wire_values.specs.declared.value.Value.{Value}
 use Rattle.envelope.specs.Bodies.{entry_of, entry_text, exchange_or, if_plain, parts_at, routing_key_or, tag_of_bytes}
 use Rattle.envelope.specs.Entries.{entry_data, entry_for}
 use Rattle.envelope.specs.Envelopes.{envelope_at, max_levels, parts_in}
@@ -18,15 +18,15 @@ use Rattle.envelope.specs.declared.fault.EnvelopeFault.{EnvelopeFault}
 use Rattle.envelope.specs.declared.fault.EnvelopeFault.TheVariants.{TooLong, NotJson, TooDeep, Float, Missing, Compressed, BadBody, Memory}
 use Rattle.envelope.proofs.BodyTexts.{envelope_from_read}
 use Rattle.envelope.proofs.Said.{IsPlain, said_is}
-use Rattle.place_model.specs.Answers.{pair_of}
-use Rattle.place_model.specs.EnvelopeTexts.{plain_setting}
-use Rattle.place_model.specs.Layouts.{plain}
-use Rattle.place_model.specs.Names.{Bytes}
-use Rattle.place_model.specs.QueueKeys.{pop_keys}
-use Rattle.place_model.specs.Scripts.{Over, if_told, kept_by, next_words, null_array_in, on_popped, pop_script}
+use Rattle.command_blocks.specs.Answers.{pair_of}
+use Rattle.command_blocks.specs.EnvelopeTexts.{plain_setting}
+use Rattle.queue_keys.specs.Layouts.{plain}
+use Rattle.queue_keys.specs.Names.{Bytes}
+use Rattle.queue_keys.specs.QueueKeys.{pop_keys}
+use Rattle.command_blocks.specs.Scripts.{Over, if_told, kept_by, next_words, null_array_in, on_popped, pop_script}
 use Rattle.unacked.specs.Pops.{index_words, table_words, tag_in}
 use Rattle.unacked.specs.Steps.{begin_left, steps_left}
-use Rattle.mini_store.specs.Words.{Words}
+use Rattle.store_model.specs.Words.{Words}
 use Rattle.unacked.specs.declared.step.Step.{Step}
 use Rattle.unacked.specs.declared.step.Step.TheVariants.{Begin, Index, Table}
 

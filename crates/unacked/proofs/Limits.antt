@@ -11,12 +11,12 @@ use Rattle.envelope.specs.Tags.{tag_text}
 use Rattle.envelope.specs.declared.fault.EnvelopeFault.TheVariants.{TooLong}
 use Rattle.envelope.specs.Reading.{wanted}
 use Rattle.envelope.proofs.Said.{bind_ok, wanted_is}
-use Rattle.mini_store.specs.Words.{IsWithinLimits, Words}
-use Rattle.place_model.specs.Layouts.{plain}
-use Rattle.place_model.specs.Names.{Bytes, is_name}
-use Rattle.place_model.specs.QueueKeys.{keys_at, keys_by, pop_keys, queue_key}
+use Rattle.store_model.specs.Words.{IsWithinLimits, Words}
+use Rattle.queue_keys.specs.Layouts.{plain}
+use Rattle.queue_keys.specs.Names.{Bytes, is_name}
+use Rattle.queue_keys.specs.QueueKeys.{keys_at, keys_by, pop_keys, queue_key}
 use Rattle.place_model.proofs.CommandLimits.{IsShort, four_within, key_short}
-use Rattle.place_model.proofs.Lists.{length-pop_keys}
+use Rattle.key_laws.proofs.Lists.{length-pop_keys}
 use Rattle.unacked.specs.Queues.{are_names}
 use Rattle.unacked.proofs.Names.{and_is}
 

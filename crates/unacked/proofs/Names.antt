@@ -1,7 +1,7 @@
 -- Lawful names, one more.
 use Rattle.std.proofs.Common.{◌≡◌, ℕ, ◌+◌, ◌<◌, List, [], ◌∷◌, ◌++◌, length, get_or, take, Bool, true, false, refl, ap, ◌∙◌, arith, ◌&&◌}
 use Rattle.std.proofs.lemmas.Grind.{common_steps}
-use Rattle.place_model.specs.Names.{Bytes, is_name}
+use Rattle.queue_keys.specs.Names.{Bytes, is_name}
 use Rattle.unacked.specs.Queues.{are_names}
 
 -- both tests hold

@@ -1,23 +1,23 @@
 -- A pop's trace goes on with each reply, and begins its block.
 use Rattle.std.proofs.Common.{◌≡◌, ◌⊎◌, inl, inr, ℕ, ◌*◌, ◌<◌, ◌≤◌, ◌^◌, List, [], ◌∷◌, ◌++◌, length, true, false, Option, None, Some, refl, sym, subst, ap, ◌∙◌, arith, Result, Ok, Err}
 use Rattle.serde_json.specs.View.{view as data_of}
-use Rattle.resp_wire.specs.declared.value.Value.{Value}
+use Rattle.wire_values.specs.declared.value.Value.{Value}
 use Rattle.std.specs.Prelude.{⊤}
-use Rattle.mini_store.specs.Words.{Words}
-use Rattle.mini_store.specs.declared.reply.Reply.{Reply}
-use Rattle.place_model.specs.declared.block.CoreFault.{CoreFault}
-use Rattle.place_model.specs.declared.block.CoreFault.TheVariants.{Draft, Name, NoTag, BadNeutral, Refused, Memory}
-use Rattle.place_model.specs.Calls.{Call, call}
-use Rattle.place_model.specs.Cores.{IsAnswered, is_off, is_saying}
-use Rattle.place_model.specs.EnvelopeTexts.{plain_setting}
-use Rattle.place_model.specs.Layouts.{plain}
-use Rattle.place_model.specs.Names.{Bytes, is_name}
-use Rattle.place_model.specs.QueueKeys.{Each, pop_keys}
-use Rattle.place_model.specs.Scripts.{Script, Over, Off, Pop, after_call, next_words, on_popped, pop_script}
-use Rattle.place_model.specs.TakeBlocks.{IsPop, IsPopBlock}
-use Rattle.place_model.specs.declared.block.BlockEnd.{BlockEnd}
-use Rattle.place_model.specs.declared.block.BlockEnd.TheVariants.{Popped}
-use Rattle.place_model.proofs.Lists.{length-pop_keys}
+use Rattle.store_model.specs.Words.{Words}
+use Rattle.store_model.specs.declared.reply.Reply.{Reply}
+use Rattle.command_blocks.specs.declared.block.CoreFault.{CoreFault}
+use Rattle.command_blocks.specs.declared.block.CoreFault.TheVariants.{Draft, Name, NoTag, BadNeutral, Refused, Memory}
+use Rattle.command_blocks.specs.Calls.{Call, call}
+use Rattle.command_blocks.specs.Cores.{IsAnswered, is_off, is_saying}
+use Rattle.command_blocks.specs.EnvelopeTexts.{plain_setting}
+use Rattle.queue_keys.specs.Layouts.{plain}
+use Rattle.queue_keys.specs.Names.{Bytes, is_name}
+use Rattle.queue_keys.specs.QueueKeys.{Each, pop_keys}
+use Rattle.command_blocks.specs.Scripts.{Script, Over, Off, Pop, after_call, next_words, on_popped, pop_script}
+use Rattle.command_blocks.specs.TakeBlocks.{IsPop, IsPopBlock}
+use Rattle.command_blocks.specs.declared.block.BlockEnd.{BlockEnd}
+use Rattle.command_blocks.specs.declared.block.BlockEnd.TheVariants.{Popped}
+use Rattle.key_laws.proofs.Lists.{length-pop_keys}
 use Rattle.schedule_laws.specs.Traces.{IsTrace, IsFrontOf}
 use Rattle.schedule_laws.proofs.Traces.{first_trace, next_trace, trace_front}
 use Rattle.unacked.specs.Pops.{IsRefused, found_left, index_words, pop_left, stage_left, table_words}

@@ -1,11 +1,11 @@
 -- The transaction from step to step.
 use Rattle.std.proofs.Common.{◌≡◌, ℕ, Bool, true, false, Option, None, Some, refl, sym, subst, ap, ◌∙◌, ℤ, codes, if◌then◌else◌}
-use Rattle.resp_wire.specs.Layer.{layer}
-use Rattle.resp_wire.specs.declared.value.Value.{Value}
-use Rattle.mini_store.specs.Words.{Words}
-use Rattle.place_model.specs.Answers.{numbers_of}
-use Rattle.place_model.specs.Cores.{is_off, is_saying}
-use Rattle.place_model.specs.Scripts.{Over, Off, on_two_numbers, status_in}
+use Rattle.wire_values.specs.Layer.{layer}
+use Rattle.wire_values.specs.declared.value.Value.{Value}
+use Rattle.store_model.specs.Words.{Words}
+use Rattle.command_blocks.specs.Answers.{numbers_of}
+use Rattle.command_blocks.specs.Cores.{is_off, is_saying}
+use Rattle.command_blocks.specs.Scripts.{Over, Off, on_two_numbers, status_in}
 use Rattle.unacked.specs.Steps.{HasRun, answered_left, progress_left, ran_by, steps_left}
 use Rattle.unacked.specs.declared.step.Progress.{Progress}
 use Rattle.unacked.specs.declared.step.Progress.TheVariants.{Next, Refused}

@@ -1,17 +1,16 @@
 -- Traces of acknowledgements: the calls that a core has had so far, and what its end tells of them.
 use Rattle.std.specs.Prelude.{◌≡◌, ℕ, ℤ, ⊤, true, List, [], ◌∷◌, ◌++◌, Option, None, Some, Result, Ok, Err}
-use Rattle.resp_wire.specs.declared.value.Value.{Value}
+use Rattle.wire_values.specs.declared.value.Value.{Value}
 use Rattle.envelope.specs.Tags.{tag_text}
-use Rattle.place_model.specs.Answers.{integers}
-use Rattle.place_model.specs.Calls.{Call}
-use Rattle.place_model.specs.EnvelopeTexts.{plain_setting}
-use Rattle.place_model.specs.Scripts.{end_script}
-use Rattle.place_model.specs.Seen.{is_one}
-use Rattle.place_model.specs.TakeBlocks.{IsEndBlock}
-use Rattle.place_model.specs.declared.block.BlockEnd.{BlockEnd}
-use Rattle.place_model.specs.declared.block.BlockEnd.TheVariants.{Declared, Sent, NoQueue, Empty, Popped, Unreadable, Acked, Moved, Gone, Stayed, Contended, Done, Held, Told}
-use Rattle.place_model.specs.declared.block.CoreFault.{CoreFault}
-use Rattle.place_model.specs.declared.block.CoreFault.TheVariants.{Draft, Name, NoTag, BadNeutral, Refused, Memory}
+use Rattle.command_blocks.specs.Answers.{is_one, integers}
+use Rattle.command_blocks.specs.Calls.{Call}
+use Rattle.command_blocks.specs.EnvelopeTexts.{plain_setting}
+use Rattle.command_blocks.specs.Scripts.{end_script}
+use Rattle.command_blocks.specs.TakeBlocks.{IsEndBlock}
+use Rattle.command_blocks.specs.declared.block.BlockEnd.{BlockEnd}
+use Rattle.command_blocks.specs.declared.block.BlockEnd.TheVariants.{Declared, Sent, NoQueue, Empty, Popped, Unreadable, Acked, Moved, Gone, Stayed, Contended, Done, Held, Told}
+use Rattle.command_blocks.specs.declared.block.CoreFault.{CoreFault}
+use Rattle.command_blocks.specs.declared.block.CoreFault.TheVariants.{Draft, Name, NoTag, BadNeutral, Refused, Memory}
 use Rattle.schedule_laws.specs.Traces.{IsTrace, IsFrontOf}
 use Rattle.unacked.specs.Ends.{end_left}
 use Rattle.unacked.specs.declared.end.EndCore.{EndCore}

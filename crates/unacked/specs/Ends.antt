@@ -1,10 +1,10 @@
 -- What is left of an acknowledgement, and how it ended.
 use Rattle.std.specs.Prelude.{ℕ, [], ◌∷◌, codes, Option, None}
-use Rattle.mini_store.specs.Words.{Words}
+use Rattle.store_model.specs.Words.{Words}
 use Rattle.envelope.specs.Tags.{tag_text}
-use Rattle.place_model.specs.EnvelopeTexts.{plain_setting}
-use Rattle.place_model.specs.Scripts.{Script, Over, Off}
-use Rattle.place_model.specs.declared.block.BlockEnd.{BlockEnd}
+use Rattle.command_blocks.specs.EnvelopeTexts.{plain_setting}
+use Rattle.command_blocks.specs.Scripts.{Script, Over, Off}
+use Rattle.command_blocks.specs.declared.block.BlockEnd.{BlockEnd}
 use Rattle.unacked.specs.Steps.{steps_left}
 use Rattle.unacked.specs.declared.end.EndCore.{EndCore}
 use Rattle.unacked.specs.declared.end.EndStage.{EndStage}

@@ -1,20 +1,20 @@
 -- Traces of pops: the calls that a core has had so far, and what its end tells of them.
 use Rattle.std.specs.Prelude.{◌≡◌, ⊤, List, [], ◌∷◌, ◌++◌, Option, None, Some, Result, Ok, Err}
 use Rattle.serde_json.specs.View.{view as data_of}
-use Rattle.resp_wire.specs.declared.value.Value.{Value}
-use Rattle.resp_wire.specs.declared.value.Value.TheVariants.{NullArray}
-use Rattle.mini_store.specs.Replies.{pair}
+use Rattle.wire_values.specs.declared.value.Value.{Value}
+use Rattle.wire_values.specs.declared.value.Value.TheVariants.{NullArray}
+use Rattle.store_model.specs.Replies.{pair}
 use Rattle.envelope.specs.Bodies.{tag_of_bytes}
 use Rattle.envelope.specs.Envelopes.{envelope_at}
-use Rattle.place_model.specs.Calls.{Call}
-use Rattle.place_model.specs.EnvelopeTexts.{plain_setting}
-use Rattle.place_model.specs.Names.{Bytes}
-use Rattle.place_model.specs.Scripts.{pop_script}
-use Rattle.place_model.specs.TakeBlocks.{IsPop, IsPopBlock}
-use Rattle.place_model.specs.declared.block.BlockEnd.{BlockEnd}
-use Rattle.place_model.specs.declared.block.BlockEnd.TheVariants.{Declared, Sent, NoQueue, Empty, Popped, Unreadable, Acked, Moved, Gone, Stayed, Contended, Done, Held, Told}
-use Rattle.place_model.specs.declared.block.CoreFault.{CoreFault}
-use Rattle.place_model.specs.declared.block.CoreFault.TheVariants.{Draft, Name, NoTag, BadNeutral, Refused, Memory}
+use Rattle.command_blocks.specs.Calls.{Call}
+use Rattle.command_blocks.specs.EnvelopeTexts.{plain_setting}
+use Rattle.queue_keys.specs.Names.{Bytes}
+use Rattle.command_blocks.specs.Scripts.{pop_script}
+use Rattle.command_blocks.specs.TakeBlocks.{IsPop, IsPopBlock}
+use Rattle.command_blocks.specs.declared.block.BlockEnd.{BlockEnd}
+use Rattle.command_blocks.specs.declared.block.BlockEnd.TheVariants.{Declared, Sent, NoQueue, Empty, Popped, Unreadable, Acked, Moved, Gone, Stayed, Contended, Done, Held, Told}
+use Rattle.command_blocks.specs.declared.block.CoreFault.{CoreFault}
+use Rattle.command_blocks.specs.declared.block.CoreFault.TheVariants.{Draft, Name, NoTag, BadNeutral, Refused, Memory}
 use Rattle.schedule_laws.specs.Traces.{IsTrace, IsFrontOf}
 use Rattle.unacked.specs.Pops.{pop_left}
 use Rattle.unacked.specs.declared.pop.PopCore.{PopCore}

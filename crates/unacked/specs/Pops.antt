@@ -3,18 +3,18 @@ use Rattle.std.specs.Prelude.{◌≡◌, ℕ, ⊤, [], ◌∷◌, codes, decimal
 use Rattle.serde_json.specs.Data.{Data}
 use Rattle.serde_json.specs.View.{view as data_of}
 use Rattle.serde_json.specs.Written.{compact_text}
-use Rattle.mini_store.specs.Words.{Words}
-use Rattle.mini_store.specs.declared.reply.Reply.{Reply}
+use Rattle.store_model.specs.Words.{Words}
+use Rattle.store_model.specs.declared.reply.Reply.{Reply}
 use Rattle.envelope.specs.Entries.{entry_data, entry_for}
 use Rattle.envelope.specs.Envelopes.{parts_in}
 use Rattle.envelope.specs.Tags.{tag_text}
-use Rattle.place_model.specs.EnvelopeTexts.{plain_setting}
-use Rattle.place_model.specs.Names.{Bytes}
-use Rattle.place_model.specs.Scripts.{Script, Over, Off, pop_script}
-use Rattle.place_model.specs.declared.block.BlockEnd.{BlockEnd}
-use Rattle.place_model.specs.declared.block.BlockEnd.TheVariants.{Popped}
-use Rattle.place_model.specs.declared.block.CoreFault.{CoreFault}
-use Rattle.place_model.specs.declared.block.CoreFault.TheVariants.{Draft, Name, NoTag, BadNeutral, Refused, Memory}
+use Rattle.command_blocks.specs.EnvelopeTexts.{plain_setting}
+use Rattle.queue_keys.specs.Names.{Bytes}
+use Rattle.command_blocks.specs.Scripts.{Script, Over, Off, pop_script}
+use Rattle.command_blocks.specs.declared.block.BlockEnd.{BlockEnd}
+use Rattle.command_blocks.specs.declared.block.BlockEnd.TheVariants.{Popped}
+use Rattle.command_blocks.specs.declared.block.CoreFault.{CoreFault}
+use Rattle.command_blocks.specs.declared.block.CoreFault.TheVariants.{Draft, Name, NoTag, BadNeutral, Refused, Memory}
 use Rattle.unacked.specs.Steps.{steps_left}
 use Rattle.unacked.specs.declared.pop.PopCore.{PopCore}
 use Rattle.unacked.specs.declared.pop.PopStage.{PopStage}

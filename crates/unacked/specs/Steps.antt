@@ -1,11 +1,10 @@
 -- The transaction that changes the table of messages together with its index: what is left of it at each of its steps.
 use Rattle.std.specs.Prelude.{◌≡◌, ℕ, ℤ, [], ◌∷◌, codes, Option, None, Some}
-use Rattle.resp_wire.specs.declared.value.Value.{Value}
-use Rattle.mini_store.specs.Words.{Words}
-use Rattle.place_model.specs.Answers.{integers}
-use Rattle.place_model.specs.Calls.{call}
-use Rattle.place_model.specs.Seen.{is_one}
-use Rattle.place_model.specs.Scripts.{Script, Over, Off, Say, plainly, on_done, on_queued, on_two_numbers, after_call}
+use Rattle.wire_values.specs.declared.value.Value.{Value}
+use Rattle.store_model.specs.Words.{Words}
+use Rattle.command_blocks.specs.Answers.{is_one, integers}
+use Rattle.command_blocks.specs.Calls.{call}
+use Rattle.command_blocks.specs.Scripts.{Script, Over, Off, Say, plainly, on_done, on_queued, on_two_numbers, after_call}
 use Rattle.unacked.specs.declared.step.Progress.{Progress}
 use Rattle.unacked.specs.declared.step.Progress.TheVariants.{Next, Ran, Refused}
 use Rattle.unacked.specs.declared.step.Step.{Step}

@@ -1,11 +1,11 @@
 //! An acknowledgement: a message is taken out of the table of messages that are not acknowledged, for good.
 ghost use Rattle.std.specs.Prelude.{List as Listed, ◌≡◌, [], ◌<◌, ◌^◌, ℕ, IfOk, IfSome, IsSome, Some, None};
 ghost use Rattle.envelope.specs.Tags.{tag_text};
-ghost use Rattle.mini_store.specs.Words.{IsWithinLimits, Words as Said};
-ghost use Rattle.place_model.specs.Calls.{Call, call};
-ghost use Rattle.place_model.specs.Cores.{HasTaken, is_off, is_saying};
-ghost use Rattle.place_model.specs.EnvelopeTexts.{plain_setting};
-ghost use Rattle.place_model.specs.Scripts.{end_script, next_words};
+ghost use Rattle.store_model.specs.Words.{IsWithinLimits, Words as Said};
+ghost use Rattle.command_blocks.specs.Calls.{Call, call};
+ghost use Rattle.command_blocks.specs.Cores.{HasTaken, is_off, is_saying};
+ghost use Rattle.command_blocks.specs.EnvelopeTexts.{plain_setting};
+ghost use Rattle.command_blocks.specs.Scripts.{end_script, next_words};
 ghost use Rattle.unacked.specs.Ends.{acknowledged_end, end_left, index_words, table_words};
 ghost use Rattle.unacked.specs.EndTraces.{HasAcknowledged, HasAcknowledgedOn, IsAcknowledgedWhole};
 ghost use Rattle.unacked.specs.Steps.{steps_left};
@@ -15,9 +15,9 @@ ghost use Rattle.unacked.specs.declared.step.Step.TheVariants.{Begin};
 use crate::step::{Progress, Step};
 use crate::words::{one_word, three_words};
 use envelope::Tag;
-use mini_store::Reply;
-use place_model::{BlockEnd, CoreFault};
-use resp_wire::Words;
+use store_model::Reply;
+use command_blocks::{BlockEnd, CoreFault};
+use wire_values::Words;
 use std::alloc::{AllocError, Global};
 
 /// The acknowledgement of a message by its tag, one transaction on the table and its index.

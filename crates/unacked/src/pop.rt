@@ -1,11 +1,11 @@
 //! A pop: a message goes from the list of its queue into the table of messages that are not acknowledged.
 ghost use Rattle.std.specs.Prelude.{List as Listed, ◌≡◌, [], ◌<◌, ◌≤◌, ◌^◌, ℕ, IfOk, IfSome, IsSome, Some, None, length};
-ghost use Rattle.mini_store.specs.Replies.{pair};
-ghost use Rattle.mini_store.specs.Words.{IsWithinLimits, Words as Said};
-ghost use Rattle.place_model.specs.Calls.{Call, call};
-ghost use Rattle.place_model.specs.Cores.{HasTaken, is_off, is_saying};
-ghost use Rattle.place_model.specs.EnvelopeTexts.{plain_setting};
-ghost use Rattle.place_model.specs.Scripts.{next_words, on_popped, kept_by, pop_script};
+ghost use Rattle.store_model.specs.Replies.{pair};
+ghost use Rattle.store_model.specs.Words.{IsWithinLimits, Words as Said};
+ghost use Rattle.command_blocks.specs.Calls.{Call, call};
+ghost use Rattle.command_blocks.specs.Cores.{HasTaken, is_off, is_saying};
+ghost use Rattle.command_blocks.specs.EnvelopeTexts.{plain_setting};
+ghost use Rattle.command_blocks.specs.Scripts.{next_words, on_popped, kept_by, pop_script};
 ghost use Rattle.envelope.specs.Bodies.{tag_of_bytes};
 ghost use Rattle.serde_json.specs.View.{view as data_of};
 ghost use Rattle.unacked.specs.Pops.{IsRefused, closed, found_left, index_words, pop_end, pop_left, stage_left, table_words};
@@ -16,10 +16,11 @@ use crate::queues::Queues;
 use crate::step::{Progress, Step};
 use crate::words::{decimal_text, four_words, one_word};
 use envelope::{Envelope, EnvelopeFault, read, write_entry};
-use mini_store::Reply;
-use place_model::answer::{is_null_array, pair};
-use place_model::{BlockEnd, CoreFault, QueueName, pop_keys};
-use resp_wire::{Bytes, List, Value, Words};
+use store_model::Reply;
+use command_blocks::answer::{is_null_array, pair};
+use command_blocks::{BlockEnd, CoreFault};
+use queue_keys::{QueueName, pop_keys};
+use wire_values::{Bytes, List, Value, Words};
 use std::alloc::{AllocError, Global};
 use std::mem;
 

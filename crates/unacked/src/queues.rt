@@ -2,8 +2,8 @@
 ghost use Rattle.std.specs.Prelude.{◌≡◌, ◌≤◌, length, true};
 ghost use Rattle.unacked.specs.Queues.{are_names};
 
-use place_model::QueueName;
-use resp_wire::List;
+use queue_keys::QueueName;
+use wire_values::List;
 
 /// The queues of a pop, 1 to 1,023, so that a command names all their keys.
 #[derive(Debug, Drop)]

@@ -1,11 +1,11 @@
 //! The transaction by which the table of messages that are not acknowledged changes together with its index.
 ghost use Rattle.std.specs.Prelude.{◌≡◌, ℕ, if◌then◌else◌};
-ghost use Rattle.mini_store.specs.Words.{Words as Said};
-ghost use Rattle.place_model.specs.Answers.{numbers_of};
+ghost use Rattle.store_model.specs.Words.{Words as Said};
+ghost use Rattle.command_blocks.specs.Answers.{numbers_of};
 ghost use Rattle.unacked.specs.Steps.{HasRun, answered_left, progress_left, ran_by};
 
-use place_model::answer::{is_status, is_unit, two_integers};
-use resp_wire::Value;
+use command_blocks::answer::{is_status, is_unit, two_integers};
+use wire_values::Value;
 
 /// Which command of the transaction comes next.
 #[derive(Clone, Copy, Debug)]

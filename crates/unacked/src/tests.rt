@@ -4,10 +4,13 @@
 use crate::words::three_words;
 use crate::{EndCore, PopCore};
 use envelope::Tag;
-use mini_store::{Reply, Store, is_within_limits};
-use place_model::answer::is_status;
-use place_model::{BlockEnd, CoreFault, QueueName};
-use resp_wire::{Bytes, List, Value, Values, Words};
+use mini_store::Store;
+use store_model::Reply;
+use store_words::is_within_limits;
+use command_blocks::answer::is_status;
+use command_blocks::{BlockEnd, CoreFault};
+use queue_keys::QueueName;
+use wire_values::{Bytes, List, Value, Values, Words};
 use std::alloc::{AllocError, Global};
 use std::process::Abort;
 use std::test::Fail;

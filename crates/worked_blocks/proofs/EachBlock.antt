@@ -3,22 +3,22 @@ use Rattle.std.proofs.Common.{◌≡◌, ℕ, [], ◌∷◌, ◌++◌, Option, S
 use Rattle.std.proofs.lemmas.List.{append-nil}
 use Rattle.std.proofs.lemmas.Str.{is_utf8-from_IsUtf8}
 use Rattle.std.specs.Str.{is_utf8}
-use Rattle.resp_wire.specs.Layer.{layer}
-use Rattle.resp_wire.specs.declared.value.Value.TheVariants.{Integer}
-use Rattle.mini_store.specs.Replies.{pong}
-use Rattle.place_model.specs.Answers.{is_error}
-use Rattle.place_model.specs.Bindings.{binding_of}
-use Rattle.place_model.specs.Blocks.{AreBlocks, Drawing, IsBlock, IsMannered, Other, Passing, Pings}
-use Rattle.place_model.specs.Blocks as block
-use Rattle.place_model.specs.Calls.{concat}
-use Rattle.place_model.specs.Names.{Bytes, same}
-use Rattle.place_model.specs.PassBlocks.{All_returned, Done, Held, IsReturns, Is_held, Own, Ran, Returned}
-use Rattle.place_model.specs.Patterns.{matches}
-use Rattle.place_model.specs.ReturnBlocks.{Again, Gone, IsTries, IsTry, Missing, Moved, Nowhere, Stayed, Try, Useless, Whole}
-use Rattle.place_model.specs.RouteBlocks.{Asked, Named, Plain, Told}
-use Rattle.place_model.specs.TakeBlocks.{Acknowledged, Empty, IsPop, Popped, Unreadable}
-use Rattle.place_model.specs.declared.block.Side.{Side}
-use Rattle.place_model.specs.declared.block.Side.TheVariants.{Left, Right}
+use Rattle.wire_values.specs.Layer.{layer}
+use Rattle.wire_values.specs.declared.value.Value.TheVariants.{Integer}
+use Rattle.store_model.specs.Replies.{pong}
+use Rattle.command_blocks.specs.Answers.{is_error}
+use Rattle.queue_keys.specs.Bindings.{binding_of}
+use Rattle.command_blocks.specs.Blocks.{AreBlocks, Drawing, IsBlock, IsMannered, Other, Passing, Pings}
+use Rattle.command_blocks.specs.Blocks as block
+use Rattle.command_blocks.specs.Calls.{concat}
+use Rattle.queue_keys.specs.Names.{Bytes, same}
+use Rattle.command_blocks.specs.PassBlocks.{All_returned, Done, Held, IsReturns, Is_held, Own, Ran, Returned}
+use Rattle.queue_keys.specs.Patterns.{matches}
+use Rattle.command_blocks.specs.ReturnBlocks.{Again, Gone, IsTries, IsTry, Missing, Moved, Nowhere, Stayed, Try, Useless, Whole}
+use Rattle.command_blocks.specs.RouteBlocks.{Asked, Named, Plain, Told}
+use Rattle.command_blocks.specs.TakeBlocks.{Acknowledged, Empty, IsPop, Popped, Unreadable}
+use Rattle.command_blocks.specs.declared.block.Side.{Side}
+use Rattle.command_blocks.specs.declared.block.Side.TheVariants.{Left, Right}
 use Rattle.worked_blocks.specs.Lists.{all_blocks, bindings, declared, ended, later_keys, marked_envelope, named_envelope, passed, passed_held, pinged, plain_envelope, popped, popped_junk, popped_nothing, published, published_to_none, published_to_two, q, released, returned, returned_gone, returned_junk, returned_late, returned_nowhere, second_tag, tag}
 use Rattle.worked_blocks.specs.Toy.{toy_setting}
 

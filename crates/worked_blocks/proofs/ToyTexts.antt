@@ -1,10 +1,10 @@
 -- The small texts keep the facts that the laws of places need of texts.
 use Rattle.std.proofs.Common.{◌≡◌, [], ◌∷◌, length, true, Some, refl, sym, ap}
 use Rattle.std.specs.Prelude.{nat_le}
-use Rattle.place_model.specs.Layouts.{plain}
-use Rattle.place_model.specs.Names.{Bytes, same}
-use Rattle.place_model.specs.Setting.{IsLawful, IsTexts}
-use Rattle.place_model.proofs.Settings.{lawful_setting}
+use Rattle.queue_keys.specs.Layouts.{plain}
+use Rattle.queue_keys.specs.Names.{Bytes, same}
+use Rattle.command_blocks.specs.Setting.{IsLawful, IsTexts}
+use Rattle.key_laws.proofs.Settings.{lawful_setting}
 use Rattle.worked_blocks.specs.Toy.{is_pair, toy, toy_body, toy_carried, toy_setting, toy_tag}
 
 tag_is_short : (t : Bytes) → is_pair t ≡ true → nat_le (length t) 1024 ≡ true

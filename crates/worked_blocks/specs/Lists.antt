@@ -1,13 +1,13 @@
 -- Whole blocks, written out: a client of seed 7 says one of each kind and each end.
 use Rattle.std.specs.Prelude.{List, [], ◌∷◌, ◌++◌, codes, decimal, pos}
-use Rattle.resp_wire.specs.declared.value.Value.TheVariants.{Integer, Bulk, NullBulk, Array, NullArray}
-use Rattle.mini_store.specs.Replies.{done, queued, pong, bulks, pair}
-use Rattle.place_model.specs.Answers.{integers}
-use Rattle.place_model.specs.Bindings.{member}
-use Rattle.place_model.specs.Calls.{Call, call}
-use Rattle.place_model.specs.Names.{Bytes}
-use Rattle.place_model.specs.TakeBlocks.{brpop_words}
-use Rattle.place_model.specs.Texts.{token}
+use Rattle.wire_values.specs.declared.value.Value.TheVariants.{Integer, Bulk, NullBulk, Array, NullArray}
+use Rattle.store_model.specs.Replies.{done, queued, pong, bulks, pair}
+use Rattle.command_blocks.specs.Answers.{integers}
+use Rattle.queue_keys.specs.Bindings.{member}
+use Rattle.command_blocks.specs.Calls.{Call, call}
+use Rattle.queue_keys.specs.Names.{Bytes}
+use Rattle.command_blocks.specs.TakeBlocks.{brpop_words}
+use Rattle.queue_keys.specs.Texts.{token}
 
 -- the queue q, and its keys at the later steps
 abbrev pub q : Bytes

@@ -1,8 +1,8 @@
 -- Texts so small that they can be computed: a tag is its seed and its counter, and an envelope a mark, its tag, its priority, whether its exchange has a name, and its routing key, which it spells in one way. An entry is its envelope.
 use Rattle.std.specs.Prelude.{ℕ, zero, suc, Bool, true, false, [], ◌∷◌, codes, Option, None, Some}
-use Rattle.place_model.specs.Names.{Bytes}
-use Rattle.place_model.specs.Layouts.{plain}
-use Rattle.place_model.specs.Setting.{Setting, Texts, Way, setting_of}
+use Rattle.queue_keys.specs.Names.{Bytes}
+use Rattle.queue_keys.specs.Layouts.{plain}
+use Rattle.command_blocks.specs.Setting.{Setting, Texts, Way, setting_of}
 
 -- two numbers
 abbrev pub is_pair : Bytes → Bool

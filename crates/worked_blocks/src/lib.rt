@@ -2,9 +2,9 @@
 //! nothing.
 #![tactic(auto)]
 
-ghost use Rattle.place_model.specs.Blocks.{AreBlocks, IsMannered};
-ghost use Rattle.place_model.specs.Calls.{concat};
-ghost use Rattle.place_model.specs.Setting.{IsLawful};
+ghost use Rattle.command_blocks.specs.Blocks.{AreBlocks, IsMannered};
+ghost use Rattle.command_blocks.specs.Calls.{concat};
+ghost use Rattle.command_blocks.specs.Setting.{IsLawful};
 ghost use Rattle.worked_blocks.specs.Lists.{all_blocks};
 ghost use Rattle.worked_blocks.specs.Toy.{toy_setting};
 

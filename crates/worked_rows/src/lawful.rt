@@ -1,7 +1,7 @@
 //! Tests of what a history requires of a row.
 ghost use Rattle.std.specs.Prelude.{◌≡◌};
 ghost use Rattle.place_model.specs.Histories.{connections, seeds};
-ghost use Rattle.place_model.specs.QueueKeys.{Among, IsAway};
+ghost use Rattle.queue_keys.specs.QueueKeys.{Among, IsAway};
 ghost use Rattle.place_model.specs.Shown.{IsRunning, has_stopped, history_of};
 ghost use Rattle.std.specs.Bool.{OnTrue};
 

@@ -5,8 +5,8 @@
 #![tactic(auto)]
 
 ghost use Rattle.std.specs.Prelude.{◌≡◌, [], ◌∷◌, codes};
-ghost use Rattle.place_model.specs.Bindings.{member};
-ghost use Rattle.place_model.specs.Lookup.{queues_for};
+ghost use Rattle.queue_keys.specs.Bindings.{member};
+ghost use Rattle.queue_keys.specs.Lookup.{queues_for};
 
 #[cfg(test)]
 mod glossary;

@@ -5,9 +5,12 @@ use crate::glossary::Glossary;
 use crate::lawful::{is_new, is_running};
 use envelope::Tag;
 use line_text::{number_in, tag_in, words};
-use mini_store::{Reply, Store, is_within_limits};
-use place_model::{Entry, History, Place, place_of, places};
-use resp_wire::Words;
+use mini_store::Store;
+use store_model::Reply;
+use store_words::is_within_limits;
+use place_index::{place_of, places};
+use place_model::{Entry, History, Place};
+use wire_values::Words;
 use std::alloc::{AllocError, Global};
 use std::process::Abort;
 

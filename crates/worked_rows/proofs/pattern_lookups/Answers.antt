@@ -1,8 +1,8 @@
 -- Each clause computes.
 use Rattle.std.proofs.Common.{refl}
-use Rattle.place_model.specs.Bindings.{binding_of}
-use Rattle.place_model.specs.Names.{same}
-use Rattle.place_model.specs.Patterns.{matches}
+use Rattle.queue_keys.specs.Bindings.{binding_of}
+use Rattle.queue_keys.specs.Names.{same}
+use Rattle.queue_keys.specs.Patterns.{matches}
 use Rattle.worked_rows.proofs.pattern_lookups.Goals as goal
 
 pub returns : goal.returns

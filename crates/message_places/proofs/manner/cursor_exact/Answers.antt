@@ -1,6 +1,6 @@
 -- What `cursor_exact` ensures.
-use Rattle.place_model.specs.EnvelopeTexts.{texts}
-use Rattle.place_model.specs.Setting.{setting_of}
+use Rattle.command_blocks.specs.EnvelopeTexts.{texts}
+use Rattle.command_blocks.specs.Setting.{setting_of}
 use Rattle.manner_laws.specs.LayoutKeys.{exchange_of_key}
 use Rattle.manner_laws.proofs.Judged.{at_front, cursor_mannered, cursor_unlisted, front_at, mannered_cursor, unlisted_cursor}
 use Rattle.message_places.proofs.Serving.{lawful, readable}

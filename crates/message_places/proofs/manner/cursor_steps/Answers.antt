@@ -1,6 +1,6 @@
 -- What `cursor_steps` ensures.
-use Rattle.place_model.specs.EnvelopeTexts.{texts}
-use Rattle.place_model.specs.Setting.{setting_of}
+use Rattle.command_blocks.specs.EnvelopeTexts.{texts}
+use Rattle.command_blocks.specs.Setting.{setting_of}
 use Rattle.manner_laws.specs.LayoutKeys.{exchange_of_key}
 use Rattle.manner_laws.proofs.Allowed.{ask-allowed}
 use Rattle.manner_laws.proofs.Asked.{ask_is}

@@ -1,6 +1,6 @@
 -- What `prefixes` ensures.
-use Rattle.place_model.specs.EnvelopeTexts.{texts}
-use Rattle.place_model.specs.Setting.{setting_of}
+use Rattle.command_blocks.specs.EnvelopeTexts.{texts}
+use Rattle.command_blocks.specs.Setting.{setting_of}
 use Rattle.place_theorem.proofs.Prefixes.{prefix_sound}
 use Rattle.message_places.proofs.places.prefixes.Goals as goal
 

@@ -1,7 +1,7 @@
 -- What `layouts_serve` ensures.
 use Rattle.std.proofs.Common.{refl}
-use Rattle.place_model.specs.Layouts.{plain}
-use Rattle.place_model.specs.Names.{same}
+use Rattle.queue_keys.specs.Layouts.{plain}
+use Rattle.queue_keys.specs.Names.{same}
 use Rattle.message_places.proofs.Serving.{lawful}
 use Rattle.message_places.proofs.texts.layouts_serve.Goals as goal
 

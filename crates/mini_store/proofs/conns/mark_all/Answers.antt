@@ -1,6 +1,6 @@
 use Rattle.std.proofs.Common.{rules}
 use Rattle.std.proofs.lemmas.Map.Made.{map_same_pairs}
-use Rattle.mini_store.specs.Connections.{touch}
+use Rattle.store_model.specs.Connections.{touch}
 use Rattle.mini_store.proofs.conns.mark_all.Goals as goal
 
 pub returns-clause-each : goal.returns-clause-each

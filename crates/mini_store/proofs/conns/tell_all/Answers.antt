@@ -2,7 +2,7 @@ use Rattle.std.proofs.Common.{ap, sym, ◌∙◌, map}
 use Rattle.std.specs.Cmp.{nat_cmp_total}
 use Rattle.std.specs.FinMap.{from_entries, nat_cmp-IsAntisymmetric}
 use Rattle.store_tables.proofs.Maps.{entries_made, put_made}
-use Rattle.mini_store.specs.Connections.{told, delivered}
+use Rattle.store_model.specs.Connections.{told, delivered}
 use Rattle.mini_store.proofs.Refills.{refilled-step, refilled-done, nothing_left}
 use Rattle.mini_store.proofs.conns.tell_all.Goals as goal
 

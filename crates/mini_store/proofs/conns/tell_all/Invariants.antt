@@ -1,7 +1,7 @@
 use Rattle.std.proofs.Common.{◌≡◌, length}
 use Rattle.std.specs.Cmp.{nat_cmp_total}
 use Rattle.std.specs.FinMap.{empty, from_entries, nat_cmp-IsAntisymmetric}
-use Rattle.mini_store.specs.Connections.{told}
+use Rattle.store_model.specs.Connections.{told}
 use Rattle.mini_store.proofs.Refills.{refilled}
 use Rattle.mini_store.proofs.conns.tell_all.Given as goal
 

@@ -1,5 +1,5 @@
 use Rattle.std.proofs.Common.{◌≡◌, ◌++◌, length}
-use Rattle.mini_store.specs.Store.{run_all}
+use Rattle.store_model.specs.Store.{run_all}
 use Rattle.mini_store.proofs.database.run_all.Given as goal
 
 abbrev pub invariant-loop-command : goal.invariant-loop-command

@@ -1,10 +1,10 @@
 -- What `envelopes_are_lawful` ensures.
 use Rattle.std.proofs.Common.{refl}
-use Rattle.place_model.proofs.EnvelopeFacts.{envelopes_serve}
-use Rattle.place_model.proofs.Settings.{lawful_setting}
-use Rattle.place_model.specs.EnvelopeTexts.{texts}
-use Rattle.place_model.specs.Layouts.{plain}
-use Rattle.place_model.specs.Names.{same}
+use Rattle.key_laws.proofs.EnvelopeFacts.{envelopes_serve}
+use Rattle.key_laws.proofs.Settings.{lawful_setting}
+use Rattle.command_blocks.specs.EnvelopeTexts.{texts}
+use Rattle.queue_keys.specs.Layouts.{plain}
+use Rattle.queue_keys.specs.Names.{same}
 use Rattle.place_theorem.proofs.settings.envelopes_are_lawful.Goals as goal
 
 pub returns-clause-layouts : goal.returns-clause-layouts

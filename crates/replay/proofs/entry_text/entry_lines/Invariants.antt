@@ -1,5 +1,5 @@
 use Rattle.std.proofs.Common.{◌≡◌, ◌++◌, ◌+◌, drop}
-use Rattle.place_model.specs.Setting.{Setting}
+use Rattle.command_blocks.specs.Setting.{Setting}
 use Rattle.schedule_model.specs.Legends.{legend_of}
 use Rattle.schedule_model.specs.Reports.{entry_lines}
 use Rattle.replay.proofs.entry_text.entry_lines.Given as goal

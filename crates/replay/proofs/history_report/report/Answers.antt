@@ -1,6 +1,6 @@
 use Rattle.std.proofs.Common.{ap, sym, ◌≡◌, ◌∙◌}
 use Rattle.std.proofs.lemmas.Result.{IfOk-weaker}
-use Rattle.place_model.specs.EnvelopeTexts.{plain_setting}
+use Rattle.command_blocks.specs.EnvelopeTexts.{plain_setting}
 use Rattle.place_model.specs.Placed.{all_placed}
 use Rattle.place_model.specs.Shown.{history_of}
 use Rattle.schedule_model.specs.Programs.{program_legend}

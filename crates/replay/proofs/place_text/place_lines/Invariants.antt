@@ -1,6 +1,6 @@
 use Rattle.std.proofs.Common.{◌≡◌, ◌++◌, take}
 use Rattle.std.specs.List.{flat_map}
-use Rattle.place_model.specs.Setting.{Setting}
+use Rattle.command_blocks.specs.Setting.{Setting}
 use Rattle.place_model.specs.Placed.{placed}
 use Rattle.schedule_model.specs.Legends.{legend_of}
 use Rattle.schedule_model.specs.Reports.{place_line}

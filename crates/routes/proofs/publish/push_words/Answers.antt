@@ -2,7 +2,7 @@
 use Rattle.std.proofs.Common.{◌∙◌, ◌∷◌, ◌++◌, [], ap}
 use Rattle.std.specs.Prelude.{is_none}
 use Rattle.serde_json.specs.View.{view as data_of}
-use Rattle.place_model.specs.Names.{is_name}
+use Rattle.queue_keys.specs.Names.{is_name}
 use Rattle.routes.proofs.Direct.{push_within, text_short}
 use Rattle.routes.proofs.publish.push_words.Goals as goal
 

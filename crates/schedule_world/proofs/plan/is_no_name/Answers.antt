@@ -1,6 +1,6 @@
 use Rattle.std.proofs.Common.{arith, ◌≡◌, [], ◌∷◌, ◌&&◌, refl, ap}
 use Rattle.std.specs.List.{list_all}
-use Rattle.place_model.specs.Names.{Bytes, all_free, is_free}
+use Rattle.queue_keys.specs.Names.{Bytes, all_free, is_free}
 use Rattle.schedule_world.proofs.plan.is_no_name.Goals as goal
 
 free_bytes : (q : Bytes) → list_all is_free q ≡ all_free q

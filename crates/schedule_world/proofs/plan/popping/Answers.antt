@@ -1,8 +1,8 @@
 use Rattle.std.proofs.Common.{◌≡◌, false, refl, sym, ap, ◌∙◌}
 use Rattle.std.specs.List.{list_all, list_any}
-use Rattle.place_model.specs.EnvelopeTexts.{plain_setting}
-use Rattle.place_model.specs.Names.{is_name, is_reserved}
-use Rattle.place_model.specs.Scripts.{pop_script}
+use Rattle.command_blocks.specs.EnvelopeTexts.{plain_setting}
+use Rattle.queue_keys.specs.Names.{is_name, is_reserved}
+use Rattle.command_blocks.specs.Scripts.{pop_script}
 use Rattle.schedule_model.specs.Faults.{is_no_name}
 use Rattle.schedule_world.proofs.Prepared.{all_lawful, popped}
 use Rattle.schedule_world.proofs.plan.popping.Goals as goal

@@ -1,6 +1,6 @@
 use Rattle.std.proofs.Common.{rules, ◌≡◌, suc, false, Some, option_map, sym, ap, ◌∙◌}
 use Rattle.serde_json.specs.View.{view as data_of}
-use Rattle.place_model.specs.Names.{is_reserved}
+use Rattle.queue_keys.specs.Names.{is_reserved}
 use Rattle.schedule_model.specs.Drafts.{arguments_of, sealed_task}
 use Rattle.schedule_model.specs.Faults.{is_no_name}
 use Rattle.schedule_world.specs.Tasks.{envelope_text}

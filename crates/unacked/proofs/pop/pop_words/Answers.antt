@@ -1,8 +1,8 @@
 -- The words are BRPOP, the keys of all the queues, and how long to wait.
 use Rattle.std.proofs.Common.{◌≡◌, ◌∙◌, ◌∷◌, ◌++◌, [], sym, subst, ap, codes, Some}
-use Rattle.mini_store.specs.Words.{IsWithinLimits, Words}
-use Rattle.place_model.specs.Layouts.{plain}
-use Rattle.place_model.specs.QueueKeys.{pop_keys}
+use Rattle.store_model.specs.Words.{IsWithinLimits, Words}
+use Rattle.queue_keys.specs.Layouts.{plain}
+use Rattle.queue_keys.specs.QueueKeys.{pop_keys}
 use Rattle.unacked.proofs.Kept.{asked_words, asks}
 use Rattle.unacked.proofs.Limits.{pop_within}
 use Rattle.unacked.proofs.pop.pop_words.Goals as goal

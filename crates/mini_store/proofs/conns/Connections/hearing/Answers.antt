@@ -2,7 +2,7 @@ use Rattle.std.proofs.Common.{ap, sym, ◌∙◌}
 use Rattle.std.specs.FinMap.{entries, nat_cmp-IsAntisymmetric}
 use Rattle.std.specs.Cmp.{nat_cmp_total}
 use Rattle.store_tables.proofs.Maps.{entries_made}
-use Rattle.mini_store.specs.Connections.{hearing}
+use Rattle.store_model.specs.Connections.{hearing}
 use Rattle.mini_store.proofs.conns.Connections.hearing.Goals as goal
 
 pub returns : goal.returns

@@ -3,7 +3,7 @@ use Rattle.std.specs.FinMap as map
 use Rattle.std.specs.FinMap.{nat_cmp-IsAntisymmetric}
 use Rattle.std.specs.Cmp.{nat_cmp_total}
 use Rattle.store_tables.proofs.Maps.{get_made}
-use Rattle.mini_store.specs.Connections.{or_no_conn}
+use Rattle.store_model.specs.Connections.{or_no_conn}
 use Rattle.mini_store.proofs.conns.Connections.is_queueing.Goals as goal
 
 pub returns-in-Some : goal.returns-in-Some

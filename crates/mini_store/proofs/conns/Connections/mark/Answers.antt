@@ -2,8 +2,8 @@ use Rattle.std.proofs.Common.{sym, ap, ◌∙◌, map, refl}
 use Rattle.std.specs.FinMap.{from_entries, nat_cmp-IsAntisymmetric}
 use Rattle.std.specs.Cmp.{nat_cmp_total}
 use Rattle.store_tables.proofs.Maps.{entries_made}
-use Rattle.mini_store.specs.Connections.{touch, touched}
-use Rattle.mini_store.proofs.Calm.{touched_none}
+use Rattle.store_model.specs.Connections.{touch, touched}
+use Rattle.store_keys.proofs.Calm.{touched_none}
 use Rattle.mini_store.proofs.conns.Connections.mark.Goals as goal
 
 pub returns : goal.returns

@@ -2,10 +2,10 @@ use Rattle.std.proofs.Common.{sym, ap, ◌∙◌, map}
 use Rattle.std.specs.FinMap.{entries, from_entries, nat_cmp-IsAntisymmetric}
 use Rattle.std.specs.Cmp.{nat_cmp_total}
 use Rattle.store_tables.proofs.Maps.{entries_made}
-use Rattle.mini_store.specs.Keys.{due_keys}
-use Rattle.mini_store.specs.Connections.{touch, touched}
-use Rattle.mini_store.specs.declared.connection.Conn.{Conn}
-use Rattle.mini_store.proofs.Dues.{touch_due_is}
+use Rattle.store_model.specs.Keys.{due_keys}
+use Rattle.store_model.specs.Connections.{touch, touched}
+use Rattle.store_model.specs.declared.connection.Conn.{Conn}
+use Rattle.store_keys.proofs.Dues.{touch_due_is}
 use Rattle.mini_store.proofs.conns.Connections.mark_due.Goals as goal
 
 pub returns : goal.returns

@@ -1,10 +1,10 @@
 use Rattle.std.proofs.Common.{◌≡◌, true, false, sym, ap, ◌∙◌, length}
 use Rattle.std.specs.Cmp.{unsigned_Decides}
-use Rattle.mini_store.specs.Integers.{natural_of}
-use Rattle.mini_store.specs.Words.{brpop_until}
-use Rattle.mini_store.specs.Store.{State, finds}
-use Rattle.mini_store.specs.declared.command.Command.TheVariants.{Brpop}
-use Rattle.mini_store.proofs.Ends.{brpop_split}
+use Rattle.store_model.specs.Integers.{natural_of}
+use Rattle.store_model.specs.Words.{brpop_until}
+use Rattle.store_model.specs.Store.{State, finds}
+use Rattle.store_model.specs.declared.command.Command.TheVariants.{Brpop}
+use Rattle.store_model.proofs.Ends.{brpop_split}
 use Rattle.mini_store.proofs.database.Database.finds.Goals as goal
 
 pub returns-in_default-natural : goal.returns-in_default-natural

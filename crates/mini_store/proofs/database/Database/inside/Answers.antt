@@ -1,6 +1,6 @@
 use Rattle.std.proofs.Common.{◌∙◌}
 use Rattle.std.proofs.lemmas.Result.{IfOk-weaker}
-use Rattle.mini_store.specs.Connections.{conn}
+use Rattle.store_model.specs.Connections.{conn}
 use Rattle.mini_store.proofs.Steps.{inside_other}
 use Rattle.mini_store.proofs.database.Database.inside.Goals as goal
 

@@ -1,6 +1,6 @@
 use Rattle.std.proofs.Common.{◌≡◌, refl, sym, subst}
-use Rattle.mini_store.specs.Store.{State, settled}
-use Rattle.mini_store.proofs.Calm.{settled_calm}
+use Rattle.store_model.specs.Store.{State, settled}
+use Rattle.store_keys.proofs.Calm.{settled_calm}
 use Rattle.mini_store.proofs.database.Database.settle.Goals as goal
 
 pub returns-then-is_calm : goal.returns-then-is_calm

@@ -1,5 +1,5 @@
 use Rattle.std.proofs.Common.{ap, ◌∙◌}
-use Rattle.mini_store.specs.Replies.{channel_answer}
+use Rattle.store_model.specs.Replies.{channel_answer}
 use Rattle.mini_store.proofs.Steps.{subscribe_done}
 use Rattle.mini_store.proofs.database.Database.subscribe.Goals as goal
 

@@ -1,5 +1,5 @@
 use Rattle.std.proofs.Common.{ap, subst, sym}
-use Rattle.place_model.specs.Scripts.{Script}
+use Rattle.command_blocks.specs.Scripts.{Script}
 use Rattle.routes.specs.Publishes.{publish_left}
 use Rattle.unacked.specs.Ends.{end_left}
 use Rattle.unacked.specs.Pops.{pop_left}

@@ -1,6 +1,6 @@
 use Rattle.envelope.specs.Tags.{tag_text}
-use Rattle.place_model.specs.EnvelopeTexts.{plain_setting}
-use Rattle.place_model.specs.Scripts.{end_script}
+use Rattle.command_blocks.specs.EnvelopeTexts.{plain_setting}
+use Rattle.command_blocks.specs.Scripts.{end_script}
 use Rattle.unacked.specs.Ends.{end_left}
 use Rattle.schedule_world.proofs.Bounds.{at_most_of, end_few}
 use Rattle.schedule_world.proofs.left.Left.acknowledgement.Goals as goal

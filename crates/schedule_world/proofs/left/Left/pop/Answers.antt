@@ -1,5 +1,5 @@
-use Rattle.place_model.specs.EnvelopeTexts.{plain_setting}
-use Rattle.place_model.specs.Scripts.{pop_script}
+use Rattle.command_blocks.specs.EnvelopeTexts.{plain_setting}
+use Rattle.command_blocks.specs.Scripts.{pop_script}
 use Rattle.unacked.specs.Pops.{pop_left}
 use Rattle.schedule_world.proofs.Bounds.{at_most_of, pop_few}
 use Rattle.schedule_world.proofs.left.Left.pop.Goals as goal

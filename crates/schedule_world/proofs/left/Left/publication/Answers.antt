@@ -1,7 +1,7 @@
 use Rattle.serde_json.specs.View.{view as data_of}
 use Rattle.serde_json.specs.Written.{compact_text}
-use Rattle.place_model.specs.EnvelopeTexts.{plain_setting}
-use Rattle.place_model.specs.Scripts.{publish_script}
+use Rattle.command_blocks.specs.EnvelopeTexts.{plain_setting}
+use Rattle.command_blocks.specs.Scripts.{publish_script}
 use Rattle.routes.specs.Publishes.{publish_left}
 use Rattle.schedule_world.proofs.Bounds.{at_most_of, publish_few}
 use Rattle.schedule_world.proofs.left.Left.publication.Goals as goal

@@ -1,5 +1,5 @@
 use Rattle.std.proofs.Common.{◌∙◌, sym, ap}
-use Rattle.place_model.specs.Scripts.{next_words}
+use Rattle.command_blocks.specs.Scripts.{next_words}
 use Rattle.unacked.specs.Ends.{stage_left}
 use Rattle.unacked.proofs.end.EndCore.next.Goals as goal
 

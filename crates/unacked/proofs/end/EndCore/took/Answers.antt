@@ -1,9 +1,9 @@
 -- After each answer the core has had one more call, and what is left is what the script says after it.
 use Rattle.std.proofs.Common.{refl, sym, subst, Err, Some}
-use Rattle.place_model.specs.Calls.{call}
-use Rattle.place_model.specs.Cores.{HasTaken}
-use Rattle.place_model.specs.Scripts.{Off}
-use Rattle.place_model.specs.declared.block.BlockEnd.TheVariants.{Acked}
+use Rattle.command_blocks.specs.Calls.{call}
+use Rattle.command_blocks.specs.Cores.{HasTaken}
+use Rattle.command_blocks.specs.Scripts.{Off}
+use Rattle.command_blocks.specs.declared.block.BlockEnd.TheVariants.{Acked}
 use Rattle.unacked.specs.EndTraces.{HasAcknowledgedOn}
 use Rattle.unacked.specs.Ends.{end_left, index_words, stage_left, table_words}
 use Rattle.unacked.specs.declared.end.EndStage.TheVariants as stage

@@ -1,8 +1,8 @@
 -- After each answer the core has had one more call, and what is left is what the script says after it.
 use Rattle.std.proofs.Common.{◌≡◌, ◌∙◌, refl, ap, sym, subst, Some}
 use Rattle.serde_json.specs.View.{view as data_of}
-use Rattle.place_model.specs.EnvelopeTexts.{plain_setting}
-use Rattle.place_model.specs.Scripts.{Off, on_popped}
+use Rattle.command_blocks.specs.EnvelopeTexts.{plain_setting}
+use Rattle.command_blocks.specs.Scripts.{Off, on_popped}
 use Rattle.unacked.specs.PopTraces.{FoundTells}
 use Rattle.unacked.specs.Pops.{IsRefused, found_left, index_words, table_words}
 use Rattle.unacked.specs.declared.pop.PopStage.TheVariants as stage

@@ -1,0 +1,274 @@
+-- The place that is read off what was gathered is the defined one.
+use Rattle.std.proofs.Common.{◌≡◌, ℕ, zero, suc, ◌+◌, List, [], ◌∷◌, ◌++◌, Bool, true, false, cond, ◌&&◌, ◌||◌, ◌==◌, if◌then◌else◌, refl, sym, ap, subst, ◌∙◌, arith, map, Option, None, Some, option_map, is_some, T, append_assoc}
+use Rattle.std.proofs.lemmas.Cmp.{nat_cmp_total}
+use Rattle.std.specs.Ordering.{nat_cmp, eq_by_cmp, is_eq}
+use Rattle.std.specs.FinMap.{FinMap, empty, entries, entries-from_sorted, entries_sorted, from_sorted, get, get-empty, get-entries, get-from_sorted, get-insert, insert, nat_cmp-IsAntisymmetric, same_map}
+use Rattle.std.specs.FinMap.Entries.{below_all, find, is_sorted}
+use Rattle.store_tables.proofs.Maps.{bytes_total, bytes_anti}
+use Rattle.wire_values.specs.Order.{bytes_cmp}
+use Rattle.store_model.specs.Keys.{Keys, value_of}
+use Rattle.store_model.specs.declared.held.Held.{Held}
+use Rattle.store_model.specs.declared.held.Stored.{Stored}
+use Rattle.store_model.specs.declared.held.Stored.TheVariants.{Items}
+use Rattle.envelope.specs.Tags.{tag_of_text}
+use Rattle.place_model.specs.Counts.{copy_weight, direct_pushes, end_weight, has_field, hand_weight, in_held, in_value, is_field, is_member, loss_weight, over_clients, push_weight, start_count, tagged, total}
+use Rattle.place_index.specs.Gathered.{first_of, gathered, hands, has, listed, listed_place, new_seat, number, place_by, seat_of, seated, single_place, told_at, told_by, told_in, told_under, times, walk_start}
+use Rattle.place_model.specs.Histories.{Client, History, World, after, new_client, start_from, table}
+use Rattle.queue_keys.specs.Names.{Bytes, same}
+use Rattle.place_model.specs.PlaceOf.{by_counts, first_place, first_with, if_any, list_place, or_else, pick, place_of}
+use Rattle.place_model.specs.Seen.{seen, tag_weight}
+use Rattle.command_blocks.specs.Setting.{Setting}
+use Rattle.place_model.specs.declared.heard.Heard.{Heard}
+use Rattle.place_model.specs.declared.place.Place.{Place}
+use Rattle.place_model.specs.declared.place.Place.TheVariants.{Unacked, Hand, Ended, Lost, Never}
+use Rattle.place_index.specs.declared.seat.Seat.{Seat}
+use Rattle.place_index.specs.declared.walk.Walk.{Walk}
+use Rattle.place_index.proofs.Gathers.{is_number, positive, positive-plus, positive-times}
+use Rattle.place_index.proofs.Walks.{Follows, steps, still_none, total_none}
+use Rattle.place_index.proofs.Weighs.{weight_is}
+
+-- ---- choices
+
+pick_is : {K : Type 0} (n : ℕ) (k : K) (later : Option K) → pick n k later ≡ (if positive n then Some k else later)
+pick_is zero k later = refl
+pick_is (suc n) k later = refl
+
+any_is : (n : ℕ) (here later : Place) → if_any n here later ≡ (if positive n then here else later)
+any_is zero here later = refl
+any_is (suc n) here later = refl
+
+copies_are : (n c : ℕ) (p : Place) → by_counts n c p ≡ by_counts n (if positive c then 1 else 0) p
+copies_are zero c p = refl
+copies_are (suc zero) zero p = refl
+copies_are (suc zero) (suc c) p = refl
+copies_are (suc (suc n)) c p = refl
+
+positive_one : (b : Bool) → positive (if b then 1 else 0) ≡ b
+positive_one true = refl
+positive_one false = refl
+
+-- ---- the entries of the seats
+
+seat_entry : Setting → ℕ × Client → ℕ × Seat
+seat_entry σ e = (e.0, seat_of σ e.1)
+
+below-map : (σ : Setting) (k : ℕ) (es : List (ℕ × Client)) → below_all nat_cmp k (map (seat_entry σ) es) ≡ below_all nat_cmp k es
+unfolding seat_entry
+below-map σ k [] = refl
+below-map σ k (e ∷ es) = ap (λ b. Rattle.std.specs.Ordering.is_lt (nat_cmp k e.0) && b) (below-map σ k es)
+
+sorted-map : (σ : Setting) (es : List (ℕ × Client)) → is_sorted nat_cmp (map (seat_entry σ) es) ≡ is_sorted nat_cmp es
+unfolding seat_entry
+sorted-map σ [] = refl
+sorted-map σ (e ∷ es) = ap (λ b. b && is_sorted nat_cmp (map (seat_entry σ) es)) (below-map σ e.0 es) ∙ ap (λ b. below_all nat_cmp e.0 es && b) (sorted-map σ es)
+
+find-map : (σ : Setting) (q : ℕ) (es : List (ℕ × Client)) → find nat_cmp q (map (seat_entry σ) es) ≡ option_map (seat_of σ) (find nat_cmp q es)
+unfolding seat_entry
+find-map σ q [] = refl
+find-map σ q (e ∷ es) = go (eq_by_cmp nat_cmp q e.0) (find-map σ q es)
+  where
+    go : (b : Bool) → find nat_cmp q (map (seat_entry σ) es) ≡ option_map (seat_of σ) (find nat_cmp q es) → cond b (Some (seat_of σ e.1)) (find nat_cmp q (map (seat_entry σ) es)) ≡ option_map (seat_of σ) (cond b (Some e.1) (find nat_cmp q es))
+    go true i = refl
+    go false i = i
+
+seats_listed : (σ : Setting) (m : FinMap nat_cmp Seat) (w : FinMap nat_cmp Client) → ((c : ℕ) → get m c ≡ option_map (seat_of σ) (get w c)) → entries m ≡ map (seat_entry σ) (entries w)
+seats_listed σ m w h =
+    let es = map (seat_entry σ) (entries w) in
+    let s : T (is_sorted nat_cmp es) = subst (λ b. T b) (sym (sorted-map σ (entries w))) (entries_sorted w) in
+    let e : m ≡ from_sorted {R = nat_cmp} es = same_map nat_cmp_total nat_cmp-IsAntisymmetric m (from_sorted {R = nat_cmp} es) (λ q.
+    h q ∙ ap (option_map (seat_of σ)) (get-entries w q) ∙ sym (find-map σ q (entries w)) ∙ sym (get-from_sorted nat_cmp es q s)) in
+    ap entries e ∙ entries-from_sorted nat_cmp es s
+
+module _ (σ : Setting) (t : ℕ) (x : Bytes) (tells : (u : Bytes) → same u x ≡ is_number t (tag_of_text u)) where
+  -- a message that is told first, or not
+  if_listed : {A : Type 0} (o : Option ℕ) (p : A) (rest : List (ℕ × A)) → first_of t (map (λ n. (n, p)) (listed o) ++ rest) ≡ (if has t (listed o) then Some p else first_of t rest)
+  if_listed None p rest = refl
+  if_listed (Some n) p rest = go (n == t)
+    where
+      go : (b : Bool) → (if b then Some p else first_of t rest) ≡ (if (b || false) then Some p else first_of t rest)
+      go true = refl
+      go false = refl
+
+  weighs : (o : Option Bytes) → has t (listed (number o)) ≡ positive (tag_weight x o)
+  weighs o = sym (positive-times t (listed (number o))) ∙ ap positive (sym (weight_is σ t x tells o))
+
+  -- ---- lists
+
+  first_told : (p : Bytes × ℕ) (vs : List Bytes) (rest : List (ℕ × (Bytes × ℕ))) → first_of t (told_at σ p vs ++ rest) ≡ (if positive (tagged σ x vs) then Some p else first_of t rest)
+  first_told p [] rest = refl
+  first_told p (v ∷ vs) rest =
+      let o = number (σ.tag_of v) in
+      ap (first_of t) (append_assoc (map (λ n. (n, p)) (listed o)) (told_at σ p vs) rest)
+      ∙ if_listed o p (told_at σ p vs ++ rest)
+      ∙ ap (λ b. if b then Some p else first_of t (told_at σ p vs ++ rest)) (weighs (σ.tag_of v))
+      ∙ ap (λ q. if positive (tag_weight x (σ.tag_of v)) then Some p else q) (first_told p vs rest)
+      ∙ both (positive (tag_weight x (σ.tag_of v))) (positive (tagged σ x vs))
+      ∙ ap (λ b. if b then Some p else first_of t rest) (sym (positive-plus (tag_weight x (σ.tag_of v)) (tagged σ x vs)))
+    where
+      both : (a b : Bool) → (if a then Some p else if b then Some p else first_of t rest) ≡ (if (a || b) then Some p else first_of t rest)
+      both true b = refl
+      both false b = refl
+
+  list_told : (es : List (Bytes × Held)) (later : Place) → or_else (λ k. list_place (σ.split k)) (first_with (in_held σ x) es) later ≡ or_else listed_place (first_of t (told_by σ es)) later
+  list_told [] later = refl
+  list_told (e ∷ es) later = by (σ.split e.0) refl (list_told es later)
+    where
+      rest : Option Bytes
+      rest = first_with (in_held σ x) es
+
+      chosen : (p : Bytes × ℕ) (b : Bool) → σ.split e.0 ≡ Some p → or_else (λ k. list_place (σ.split k)) (first_with (in_held σ x) es) later ≡ or_else listed_place (first_of t (told_by σ es)) later
+          → or_else (λ k. list_place (σ.split k)) (if b then Some e.0 else first_with (in_held σ x) es) later ≡ or_else listed_place (if b then Some p else first_of t (told_by σ es)) later
+      chosen p true s i = ap list_place s
+      chosen p false s i = i
+
+      value : (p : Bytes × ℕ) (v : Stored) → σ.split e.0 ≡ Some p → or_else (λ k. list_place (σ.split k)) (first_with (in_held σ x) es) later ≡ or_else listed_place (first_of t (told_by σ es)) later
+          → or_else (λ k. list_place (σ.split k)) (pick (in_value σ x v) e.0 (first_with (in_held σ x) es)) later ≡ or_else listed_place (first_of t (told_in σ p v ++ told_by σ es)) later
+      value p (Items vs) s i =
+          ap (λ q. or_else (λ k. list_place (σ.split k)) q later) (pick_is (tagged σ x vs) e.0 (first_with (in_held σ x) es))
+          ∙ chosen p (positive (tagged σ x vs)) s i
+          ∙ ap (λ q. or_else listed_place q later) (sym (first_told p vs (told_by σ es)))
+      value p other s i = i
+
+      by : (o : Option (Bytes × ℕ)) → σ.split e.0 ≡ o → or_else (λ k. list_place (σ.split k)) (first_with (in_held σ x) es) later ≡ or_else listed_place (first_of t (told_by σ es)) later
+          → or_else (λ k. list_place (σ.split k)) (pick (if is_some (σ.split e.0) then in_value σ x e.1.value else 0) e.0 (first_with (in_held σ x) es)) later ≡ or_else listed_place (first_of t (told_under σ (σ.split e.0) e.1 ++ told_by σ es)) later
+      by None s i = rw s i
+      by (Some p) s i = subst (λ o. or_else (λ k. list_place (σ.split k)) (pick (if is_some o then in_value σ x e.1.value else 0) e.0 (first_with (in_held σ x) es)) later ≡ or_else listed_place (first_of t (told_under σ o e.1 ++ told_by σ es)) later) (sym s) (value p e.1.value s i)
+
+  -- ---- hands
+
+  hand_told : (es : List (ℕ × Client)) → first_with (hand_weight σ x) es ≡ first_of t (hands false (map (seat_entry σ) es))
+  unfolding seat_entry
+  hand_told [] = refl
+  hand_told (e ∷ es) = by e.1.stopped (hand_told es)
+    where
+      by : (b : Bool) → first_with (hand_weight σ x) es ≡ first_of t (hands false (map (seat_entry σ) es))
+          → pick (if b then 0 else tag_weight x (seen σ e.1.calls).hand) e.0 (first_with (hand_weight σ x) es)
+          ≡ first_of t (map (λ n. (n, e.0)) (listed (if b then (if false then number (seen σ e.1.calls).hand else None) else (if false then None else number (seen σ e.1.calls).hand))) ++ hands false (map (seat_entry σ) es))
+      by true i = i
+      by false i =
+          let o = (seen σ e.1.calls).hand in
+          pick_is (tag_weight x o) e.0 (first_with (hand_weight σ x) es)
+          ∙ ap (λ b. if b then Some e.0 else first_with (hand_weight σ x) es) (sym (weighs o))
+          ∙ ap (λ q. if has t (listed (number o)) then Some e.0 else q) i
+          ∙ sym (if_listed (number o) e.0 (hands false (map (seat_entry σ) es)))
+
+  loss_told : (es : List (ℕ × Client)) → first_with (loss_weight σ x) es ≡ first_of t (hands true (map (seat_entry σ) es))
+  unfolding seat_entry
+  loss_told [] = refl
+  loss_told (e ∷ es) = by e.1.stopped (loss_told es)
+    where
+      by : (b : Bool) → first_with (loss_weight σ x) es ≡ first_of t (hands true (map (seat_entry σ) es))
+          → pick (if b then tag_weight x (seen σ e.1.calls).hand else 0) e.0 (first_with (loss_weight σ x) es)
+          ≡ first_of t (map (λ n. (n, e.0)) (listed (if b then (if true then number (seen σ e.1.calls).hand else None) else (if true then None else number (seen σ e.1.calls).hand))) ++ hands true (map (seat_entry σ) es))
+      by false i = i
+      by true i =
+          let o = (seen σ e.1.calls).hand in
+          pick_is (tag_weight x o) e.0 (first_with (loss_weight σ x) es)
+          ∙ ap (λ b. if b then Some e.0 else first_with (loss_weight σ x) es) (sym (weighs o))
+          ∙ ap (λ q. if has t (listed (number o)) then Some e.0 else q) i
+          ∙ sym (if_listed (number o) e.0 (hands true (map (seat_entry σ) es)))
+
+  -- ---- the first place
+
+  first_is : (w : World) (k : Walk) → Follows σ t x w k → first_place σ w x ≡ single_place t k (told_by σ (entries w.store.keys)) (is_field σ w.store.keys x && is_member σ w.store.keys x)
+  first_is w k f =
+      let told = told_by σ (entries w.store.keys) in
+      let kept = is_field σ w.store.keys x && is_member σ w.store.keys x in
+      let es = seats_listed σ k.seats w.clients f.seats in
+      let h : first_with (hand_weight σ x) (entries w.clients) ≡ first_of t (hands false (entries k.seats)) = hand_told (entries w.clients) ∙ ap (λ l. first_of t (hands false l)) (sym es) in
+      let l : first_with (loss_weight σ x) (entries w.clients) ≡ first_of t (hands true (entries k.seats)) = loss_told (entries w.clients) ∙ ap (λ l. first_of t (hands true l)) (sym es) in
+      let ended = over_clients w (end_weight σ x) in
+      let lost = or_else Lost (first_of t (hands true (entries k.seats))) Never in
+      let end_or_lost : if_any ended Ended (or_else Lost (first_with (loss_weight σ x) (entries w.clients)) Never) ≡ (if has t k.ended then Ended else lost) =
+      ap (λ q. if_any ended Ended (or_else Lost q Never)) l ∙ any_is ended Ended lost ∙ ap (λ b. if b then Ended else lost) f.ended in
+      let later = or_else Hand (first_of t (hands false (entries k.seats))) (if has t k.ended then Ended else lost) in
+      list_told (entries w.store.keys) _
+      ∙ ap (or_else listed_place (first_of t told))
+      (any_is (if kept then 1 else 0) Unacked _
+      ∙ ap (λ b. if b then Unacked else or_else Hand (first_with (hand_weight σ x) (entries w.clients)) (if_any ended Ended (or_else Lost (first_with (loss_weight σ x) (entries w.clients)) Never))) (positive_one kept)
+      ∙ ap (λ q. if kept then Unacked else q)
+      (ap (λ q. or_else Hand q (if_any ended Ended (or_else Lost (first_with (loss_weight σ x) (entries w.clients)) Never))) h
+      ∙ ap (or_else Hand (first_of t (hands false (entries k.seats)))) end_or_lost))
+
+  -- ---- the start
+
+  among : ℕ → List (ℕ × ℕ) → Bool
+  among q [] = false
+  among q (c ∷ cs) = eq_by_cmp nat_cmp q c.0 || among q cs
+
+  seated_get : (cs : List (ℕ × ℕ)) (m : FinMap nat_cmp Seat) (q : ℕ) → get (seated m cs) q ≡ (if among q cs then Some new_seat else get m q)
+  unfolding among
+  seated_get [] m q = refl
+  seated_get (c ∷ cs) m q = seated_get cs (insert m c.0 new_seat) q ∙ ap (λ o. if among q cs then Some new_seat else o) (get-insert nat_cmp_total m c.0 new_seat q) ∙ both (among q cs) (eq_by_cmp nat_cmp q c.0)
+    where
+      both : (a b : Bool) → (if a then Some new_seat else cond b (Some new_seat) (get m q)) ≡ (if (b || a) then Some new_seat else get m q)
+      both true true = refl
+      both true false = refl
+      both false true = refl
+      both false false = refl
+
+  seat_new : (s : ℕ) → seat_of σ (new_client s) ≡ new_seat
+  unfolding seen
+  seat_new s = refl
+
+  table_seats : (cs : List (ℕ × ℕ)) (q : ℕ) → option_map (seat_of σ) (get (table cs) q) ≡ (if among q cs then Some new_seat else None)
+  unfolding among
+  table_seats [] q = ap (option_map (seat_of σ)) (get-empty nat_cmp q)
+  table_seats (c ∷ cs) q = ap (option_map (seat_of σ)) (get-insert nat_cmp_total (table cs) c.0 (new_client c.1) q) ∙ both (eq_by_cmp nat_cmp q c.0) (table_seats cs q)
+    where
+      both : (b : Bool) → option_map (seat_of σ) (get (table cs) q) ≡ (if among q cs then Some new_seat else None) → option_map (seat_of σ) (cond b (Some (new_client c.1)) (get (table cs) q)) ≡ (if (b || among q cs) then Some new_seat else None)
+      both true i = ap (λ (s : Seat). Some s) (seat_new c.1)
+      both false i = i
+
+  table_none : (f : ℕ → Client → ℕ) → ((c s : ℕ) → f c (new_client s) ≡ 0) → (cs : List (ℕ × ℕ)) → total f (entries (table cs)) ≡ 0
+  table_none f z [] = total_none f
+  table_none f z (c ∷ cs) = still_none f (table cs) c.0 (new_client c.1) (table_none f z cs) (z c.0 c.1)
+
+  pushes_none : (c s : ℕ) → push_weight σ x c (new_client s) ≡ 0
+  unfolding seen
+  pushes_none c s = refl
+
+  ends_none : (c s : ℕ) → end_weight σ x c (new_client s) ≡ 0
+  unfolding seen
+  ends_none c s = refl
+
+  copies_none : (c s : ℕ) → copy_weight σ x c (new_client s) ≡ 0
+  unfolding seen
+  copies_none c s = refl
+
+  start_follows : (m : Keys) (cs : List (ℕ × ℕ)) → Follows σ t x (start_from m cs) (walk_start cs)
+  start_follows m cs = record {
+    seats = λ q. seated_get cs empty q ∙ ap (λ o. if among q cs then Some new_seat else o) (get-empty nat_cmp q) ∙ sym (table_seats cs q);
+    pushes = table_none (push_weight σ x) pushes_none cs;
+    ended = ap positive (table_none (end_weight σ x) ends_none cs);
+    copied = ap positive (table_none (copy_weight σ x) copies_none cs);
+  }
+
+  -- ---- the place
+
+  nothing_listed : total (in_held σ x) (entries (empty {X = Held} {R = bytes_cmp})) ≡ 0
+  nothing_listed = ap (λ m. total (in_held σ x) (entries m)) (sym same) ∙ ap (total (in_held σ x)) (entries-from_sorted bytes_cmp [] tt)
+    where
+      same : from_sorted {R = bytes_cmp} [] ≡ empty {X = Held}
+      same = same_map bytes_total bytes_anti _ _ (λ q. get-from_sorted bytes_cmp [] q tt ∙ sym (get-empty bytes_cmp q))
+
+  no_start : start_count σ empty x ≡ 0
+  no_start = ap (λ n. n + (if is_field σ empty x then 1 else 0)) nothing_listed ∙ ap (λ o. 0 + (if has_field (value_of o) x then 1 else 0)) (get-empty bytes_cmp σ.unacked)
+
+  pub place_is : (h : History Heard) → h.start ≡ empty → place_of σ h x ≡ place_by t (gathered σ h) (told_by σ (entries (after h).store.keys)) (is_field σ (after h).store.keys x && is_member σ (after h).store.keys x)
+  place_is h e =
+      let f = steps σ t x tells h.entries (start_from h.start h.clients) (walk_start h.clients) (start_follows h.start h.clients) in
+      let w = after h in
+      let k = gathered σ h in
+      let told = told_by σ (entries w.store.keys) in
+      let kept = is_field σ w.store.keys x && is_member σ w.store.keys x in
+      let copied = over_clients w (copy_weight σ x) in
+      let n : start_count σ h.start x + direct_pushes σ w x ≡ times t k.pushes =
+      ap (λ m. start_count σ m x + direct_pushes σ w x) e ∙ ap (λ m. m + direct_pushes σ w x) no_start ∙ zero_plus (direct_pushes σ w x) ∙ f.pushes in
+      ap (λ m. by_counts m copied (first_place σ w x)) n
+      ∙ copies_are (times t k.pushes) copied (first_place σ w x)
+      ∙ ap (λ b. by_counts (times t k.pushes) (if b then 1 else 0) (first_place σ w x)) f.copied
+      ∙ ap (by_counts (times t k.pushes) (if has t k.copied then 1 else 0)) (first_is w k f)
+    where
+      zero_plus : (n : ℕ) → 0 + n ≡ n
+      zero_plus n = omega arith

@@ -1,0 +1,79 @@
+//! The messages that stand in the lists of queues.
+ghost use Rattle.std.specs.Prelude.{◌≡◌, ◌++◌, IfOk, OnOk, map as mapped};
+ghost use Rattle.std.specs.FinMap.{entries};
+ghost use Rattle.command_blocks.specs.EnvelopeTexts.{plain_setting};
+ghost use Rattle.place_index.specs.Gathered.{listed, number, told_at, told_by, told_under};
+
+use queue_keys::keys::split_key;
+use crate::told::message_of;
+use store_keys::Keyspace;
+use store_model::{Held, Stored};
+use wire_values::{Bytes, List};
+use std::alloc::{AllocError, Global};
+use store_tables::Deque;
+
+/// A queue and a step.
+pub(crate) type Standing = (Bytes, u8);
+
+/// The messages in the lists of queues, with their queues and steps, in the order of the keys.
+pub(crate) fn told_by(alloc: Global, keys: &Keyspace) -> Result<List<(u128, Standing)>, AllocError>
+    ensures { IfOk result (λ told. told ≡ told_by plain_setting (entries keys.now)) }
+{
+    let mut told = List::new();
+    for (key, held) in keys.iter() {
+        add_under(alloc, &mut told, key, held)?;
+    }
+    Ok(told)
+}
+
+/// Adds the messages under a key, where it is a queue's.
+fn add_under(
+    alloc: Global,
+    told: &mut List<(u128, Standing)>,
+    key: &Bytes,
+    held: &Held,
+) -> Result<(), AllocError>
+    ensures { OnOk result (told.new ≡ told.old ++ told_under plain_setting (plain_setting.split key.now) held.now) }
+{
+    let Some((queue, step)) = split_key(key.as_slice()) else {
+        return Ok(());
+    };
+    match &held.value {
+        Stored::Items(items) => add_at(alloc, told, queue, step, items),
+        Stored::Text(_) | Stored::Members(_) | Stored::Hash(_) | Stored::Scores(_) => Ok(()),
+    }
+}
+
+/// Adds the messages of a queue's list.
+fn add_at(
+    alloc: Global,
+    told: &mut List<(u128, Standing)>,
+    queue: &[u8],
+    step: u8,
+    items: &Deque<Bytes>,
+) -> Result<(), AllocError>
+    ensures { OnOk result (told.new ≡ told.old ++ told_at plain_setting (queue.now, step) items.now) }
+{
+    for item in items.iter() {
+        add_item(alloc, told, queue, step, item)?;
+    }
+    Ok(())
+}
+
+/// Adds the message of a queue's element, where it is one.
+fn add_item(
+    alloc: Global,
+    told: &mut List<(u128, Standing)>,
+    queue: &[u8],
+    step: u8,
+    item: &Bytes,
+) -> Result<(), AllocError>
+    ensures { OnOk result (told.new ≡ told.old ++ mapped (λ n. (n, (queue.now, step))) (listed (number (plain_setting.tag_of item.now)))) }
+{
+    let number = message_of(alloc, item.as_slice())?;
+    if let Some(number) = number {
+        let queue = Bytes::from_slice(alloc, queue)?;
+        told.push(alloc, (number, (queue, step)))?;
+    }
+    Ok(())
+}

@@ -1,0 +1,137 @@
+//! What the words of a command tell of messages.
+ghost use Rattle.std.specs.Prelude.{◌≡◌, IfOk, Some, None};
+ghost use Rattle.store_model.specs.Words.{command_of};
+ghost use Rattle.command_blocks.specs.EnvelopeTexts.{plain_setting};
+ghost use Rattle.place_index.specs.Gathered.{act_of, kind_of, number, only, push_one, take_one};
+ghost use Rattle.command_blocks.specs.Setting.{is_queue};
+
+use queue_keys::keys::split_key;
+use queue_keys::queue_name::are_same;
+use crate::seat::{Act, Kind};
+use envelope::{EnvelopeFault, Tag};
+use store_model::Command;
+use store_words::command_of;
+use wire_values::{Bytes, Words};
+use std::alloc::{AllocError, Global};
+use store_tables::Deque;
+
+/// What a command tells.
+#[derive(Clone, Copy, Debug)]
+pub(crate) struct Told {
+    pub(crate) kind: Kind,
+    pub(crate) act: Act,
+}
+
+/// What words tell.
+pub(crate) fn read_words(alloc: Global, words: &Words) -> Result<Told, AllocError>
+    ensures { IfOk result (λ told. told ≡ record { kind = kind_of (command_of words.now); act = act_of plain_setting (command_of words.now) }) }
+{
+    of_command(alloc, command_of(alloc, words)?)
+}
+
+/// What a command tells.
+fn of_command(alloc: Global, command: Command) -> Result<Told, AllocError>
+    ensures { IfOk result (λ told. told ≡ record { kind = kind_of command; act = act_of plain_setting command }) }
+{
+    match command {
+        Command::Lpush(key, elements) => Ok(Told {
+            kind: Kind::Pushes,
+            act: push_one(alloc, &key, elements)?,
+        }),
+        Command::Rpush(key, elements) => Ok(Told {
+            kind: Kind::Others,
+            act: push_one(alloc, &key, elements)?,
+        }),
+        Command::Hdel(key, fields) => Ok(Told {
+            kind: Kind::Others,
+            act: take_one(&key, fields),
+        }),
+        Command::Brpop(_) => Ok(Told {
+            kind: Kind::Pops,
+            act: Act::Nothing,
+        }),
+        Command::Multi => Ok(Told {
+            kind: Kind::Begins,
+            act: Act::Nothing,
+        }),
+        Command::Exec => Ok(Told {
+            kind: Kind::Runs,
+            act: Act::Nothing,
+        }),
+        _ => Ok(Told {
+            kind: Kind::Others,
+            act: Act::Nothing,
+        }),
+    }
+}
+
+/// A push to a key, where there is just one element.
+fn push_one(alloc: Global, key: &Bytes, elements: Deque<Bytes>) -> Result<Act, AllocError>
+    ensures { IfOk result (λ act. act ≡ push_one plain_setting key.now (only elements)) }
+{
+    let Some(element) = only(elements) else {
+        return Ok(Act::Nothing);
+    };
+    if !is_queue(key.as_slice()) {
+        return Ok(Act::Nothing);
+    }
+    match message_of(alloc, element.as_slice())? {
+        Some(number) => Ok(Act::Push(number)),
+        None => Ok(Act::Nothing),
+    }
+}
+
+/// The taking of a field out of a hash, where there is just one field.
+fn take_one(key: &Bytes, fields: Deque<Bytes>) -> Act
+    ensures { result ≡ take_one plain_setting key.now (only fields) }
+{
+    let Some(field) = only(fields) else {
+        return Act::Nothing;
+    };
+    if !are_same(key.as_slice(), b"unacked") {
+        return Act::Nothing;
+    }
+    match Tag::read(field.as_slice()) {
+        Some(tag) => Act::Take(tag.0),
+        None => Act::Nothing,
+    }
+}
+
+/// The text of a list that has just one.
+fn only(mut texts: Deque<Bytes>) -> Option<Bytes>
+    ensures { result ≡ only texts }
+{
+    let Some(first) = texts.pop_front() else {
+        return None;
+    };
+    if texts.is_empty() { Some(first) } else { None }
+}
+
+/// Whether it is the key of a queue.
+pub(crate) fn is_queue(key: &[u8]) -> bool
+    ensures { result ≡ is_queue plain_setting key.now }
+{
+    match split_key(key) {
+        Some(_) => true,
+        None => false,
+    }
+}
+
+/// The number of an envelope's tag. None where the bytes are no envelope.
+pub(crate) fn message_of(alloc: Global, bytes: &[u8]) -> Result<Option<u128>, AllocError>
+    ensures { IfOk result (λ n. n ≡ number (plain_setting.tag_of bytes.now)) }
+{
+    match envelope::read(alloc, bytes) {
+        Ok(message) => Ok(Some(message.tag().0)),
+        Err(EnvelopeFault::Memory) => Err(AllocError),
+        Err(
+            EnvelopeFault::TooLong
+            | EnvelopeFault::NotJson
+            | EnvelopeFault::TooDeep
+            | EnvelopeFault::Float
+            | EnvelopeFault::Missing(_)
+            | EnvelopeFault::Compressed
+            | EnvelopeFault::BadBody,
+        ) => Ok(None),
+    }
+}

@@ -1,9 +1,0 @@
--- What `lookups` ensures.
-use Rattle.place_model.proofs.Routes.{routes_are, routes_differ, binding_of-member}
-use Rattle.place_model.proofs.laws.lookups.Goals as goal
-
-pub returns-clause-keys : goal.returns-clause-keys
-returns-clause-keys c = λ l s e r ms h. (routes_are l s e r ms h, routes_differ l s e r ms h)
-
-pub returns-clause-members : goal.returns-clause-members
-returns-clause-members c = binding_of-member

@@ -1,5 +1,0 @@
-use Rattle.place_model.proofs.NameFaults.{starts_front}
-use Rattle.place_model.proofs.queue_name.begins.Goals as goal
-
-pub returns : goal.returns
-returns c = starts_front c.starts_with.result c.args.front.now c.args.text.now c.starts_with.ensures.value

@@ -1,5 +1,0 @@
-use Rattle.place_model.proofs.NameFaults.{ends_end}
-use Rattle.place_model.proofs.queue_name.ends.Goals as goal
-
-pub returns : goal.returns
-returns c = ends_end c.ends_with.result c.args.end.now c.args.text.now c.ends_with.ensures.value

@@ -1,7 +1,0 @@
-use Rattle.std.proofs.Common.{◌≡◌, drop}
-use Rattle.mini_store.specs.Store.{empty_state}
-use Rattle.place_model.specs.Stored.{store_after}
-use Rattle.place_model.proofs.stored.taken.Given as goal
-
-abbrev pub invariant-loop-entry : goal.invariant-loop-entry
-invariant-loop-entry l = store_after l.known l.store.state (drop l.entry-index l.entries) ≡ store_after l.known empty_state l.entries

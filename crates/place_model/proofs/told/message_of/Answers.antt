@@ -1,7 +1,0 @@
-use Rattle.std.proofs.Common.{rules}
-use Rattle.serde_json.specs.View.{view as data_of}
-use Rattle.place_model.proofs.Messages.{message_is}
-use Rattle.place_model.proofs.told.message_of.Goals as goal
-
-pub returns-in-Ok : goal.returns-in-Ok
-returns-in-Ok c = message_is c.args.bytes.now (data_of c.in-Ok.message) c.tag.result.0 c.in-Ok.ensures c.tag.ensures (search rules)

@@ -1,0 +1,25 @@
+//! What a key holds.
+use wire_values::Bytes;
+use store_tables::{Deque, Table};
+
+/// A value of one of the five kinds.
+#[derive(Debug, Drop)]
+pub enum Stored {
+    /// A text.
+    Text(Bytes),
+    /// A list, its head first.
+    Items(Deque<Bytes>),
+    /// The members of a set, at most 1,024.
+    Members(Table<()>),
+    /// The fields of a hash with their values.
+    Hash(Table<Bytes>),
+    /// The members of a sorted set with their scores.
+    Scores(Table<i64>),
+}
+
+/// A value, and the moment in seconds from which it is gone.
+#[derive(Debug, Drop)]
+pub struct Held {
+    pub value: Stored,
+    pub expiry: Option<u64>,
+}

@@ -1,0 +1,45 @@
+-- Why a run ends as it does.
+use Rattle.std.proofs.Common.{List, None, ap, inl, inr, sym, ℕ, ◌≡◌, ◌∙◌}
+use Rattle.links.specs.Ends.{IsPast, IsWhole}
+use Rattle.links.specs.Views.{SourceView}
+use Rattle.message_schedules.proofs.Program.{whole_placed, whole_sound}
+use Rattle.place_model.specs.Histories.{History}
+use Rattle.place_model.specs.declared.heard.Heard.{Heard}
+use Rattle.schedule_model.specs.Desk.{Desk}
+use Rattle.schedule_model.specs.Programs.{program_craft, program_legend}
+use Rattle.schedule_model.specs.Reports.{report_text}
+use Rattle.schedule_model.specs.Schedules.{Whole, history_of}
+use Rattle.top_call.proofs.Fronts.{schedule_run-past}
+use Rattle.top_call.specs.Endings.{EndsAs, Shown}
+use Rattle.top_call.specs.Replays.{IsReport, replay_run}
+use Rattle.top_call.specs.Words.{bad_place}
+use Rattle.top_call.specs.declared.ending.End.TheVariants.{BadLine, BadWord, Full, Memory, ReadFault, Reported}
+use Rattle.top_call.specs.declared.ending.End.{End}
+
+-- the report of the history that a schedule determines
+pub report_of : (schedule text : List ℕ) (h : History Heard) → ((d : Desk) × (replay_run schedule ≡ Whole d) × (history_of d ≡ h)) → text ≡ report_text program_legend h → IsReport schedule text
+report_of schedule text h (d, run, same) written = record {
+  desk = d;
+  determined = run;
+  written = written ∙ ap (report_text program_legend) (sym same);
+  sound = whole_sound schedule d run;
+  placed = whole_placed schedule d run;
+}
+
+-- an input that was read to its end
+pub shown_whole : (words : List (List ℕ)) (before now : SourceView) (bytes : List ℕ) (end : End) → bad_place words ≡ None → IsWhole 67108864 before now bytes → EndsAs bytes end → Shown words before now end
+shown_whole words before now bytes (Reported report) lawful whole ends = (lawful, (bytes, whole, ends))
+shown_whole words before now bytes (BadWord place) lawful whole ends = absurd ends
+shown_whole words before now bytes (BadLine bad) lawful whole ends = (lawful, (bytes, inl whole, ends))
+shown_whole words before now bytes ReadFault lawful whole ends = absurd ends
+shown_whole words before now bytes (Full entries cost) lawful whole ends = (lawful, (bytes, inl whole, ends))
+shown_whole words before now bytes Memory lawful whole ends = tt
+
+-- an input past the limit
+pub shown_past : (words : List (List ℕ)) (before now : SourceView) (bytes : List ℕ) (end : End) → bad_place words ≡ None → IsPast 67108864 before now bytes → EndsAs bytes end → Shown words before now end
+shown_past words before now bytes (Reported report) lawful past ends = absurd (schedule_run-past program_craft bytes ends.desk past.over ends.determined)
+shown_past words before now bytes (BadWord place) lawful past ends = absurd ends
+shown_past words before now bytes (BadLine bad) lawful past ends = (lawful, (bytes, inr past, ends))
+shown_past words before now bytes ReadFault lawful past ends = absurd ends
+shown_past words before now bytes (Full entries cost) lawful past ends = (lawful, (bytes, inr past, ends))
+shown_past words before now bytes Memory lawful past ends = tt

@@ -1,0 +1,68 @@
+-- How a run ends: its text, its status, and why it may end so.
+use Rattle.std.specs.Io.KnownBytes.{Appends, Consumes}
+use Rattle.std.specs.Prelude.{List, None, Some, codes, decimal, length, ℕ, ◌++◌, ◌+◌, ◌≡◌, ◌≤◌, ◌⊎◌}
+use Rattle.line_text.specs.Reason.{reason_text}
+use Rattle.links.specs.Causes.{AppendsFront, Rose}
+use Rattle.links.specs.Ends.{IsWhole}
+use Rattle.links.specs.Views.{SinkView, SourceView}
+use Rattle.top_call.specs.Replays.{HasInput, IsFirstBad, IsFull, IsReport}
+use Rattle.top_call.specs.Words.{bad_place}
+use Rattle.top_call.specs.declared.ending.End.TheVariants.{BadWord, BadLine, Full, Memory, ReadFault, Reported}
+use Rattle.top_call.specs.declared.ending.End.{End}
+use Rattle.top_call.specs.declared.ending.Ended.{Ended}
+
+-- the text of an ending
+abbrev pub text_of : End → List ℕ
+text_of (Reported report) = report
+text_of (BadWord place) = codes "bad word " ++ (decimal place ++ codes "\n")
+text_of (BadLine bad) = codes "bad line " ++ (decimal bad.line ++ (codes ": " ++ (reason_text bad.reason ++ codes "\n")))
+text_of ReadFault = codes "read fault\n"
+text_of (Full entries bytes) = codes "history full " ++ (decimal entries ++ (codes " " ++ (decimal bytes ++ codes "\n")))
+text_of Memory = codes "out of memory\n"
+
+-- the status of an ending, and its place
+abbrev pub ended_of : End → Ended
+ended_of (Reported report) = record { status = 0; place = 0; left = 0 }
+ended_of (BadWord place) = record { status = 2; place = place; left = 0 }
+ended_of (BadLine bad) = record { status = 3; place = bad.line; left = 0 }
+ended_of ReadFault = record { status = 4; place = 0; left = 0 }
+ended_of (Full entries bytes) = record { status = 9; place = 0; left = 0 }
+ended_of Memory = record { status = 11; place = 0; left = 0 }
+
+-- how a run over this schedule may end
+abbrev pub EndsAs : List ℕ → End → Type 0
+EndsAs schedule (Reported report) = IsReport schedule report
+EndsAs schedule (BadWord place) = ⊥
+EndsAs schedule (BadLine bad) = IsFirstBad schedule bad
+EndsAs schedule ReadFault = ⊥
+EndsAs schedule (Full entries cost) = IsFull schedule entries cost
+EndsAs schedule Memory = Unit {0}
+
+-- why a run may end so: its words, and what it read
+abbrev pub Shown : List (List ℕ) → SourceView → SourceView → End → Type 0
+Shown words before now (Reported report) = (bad_place words ≡ None) × ((bytes : List ℕ) × IsWhole 67108864 before now bytes × IsReport bytes report)
+Shown words before now (BadWord place) = (bad_place words ≡ Some place) × (now ≡ before)
+Shown words before now (BadLine bad) = (bad_place words ≡ None) × ((bytes : List ℕ) × HasInput before now bytes × IsFirstBad bytes bad)
+Shown words before now ReadFault = (bad_place words ≡ None) × (before.faults ≤ now.faults) × Rose before.faults now.faults
+Shown words before now (Full entries cost) = (bad_place words ≡ None) × ((bytes : List ℕ) × HasInput before now bytes × IsFull bytes entries cost)
+Shown words before now Memory = Unit {0}
+
+-- the whole text was written and this is answered, or the sink failed within it and the status is 5
+abbrev pub WritesText : SinkView → SinkView → List ℕ → Ended → Ended → Type 0
+WritesText before now text ended result =
+    ((result ≡ ended) × Appends before.taken now.taken text × (now.faults ≡ before.faults))
+    ⊎ ((result ≡ record { status = 5; place = 0; left = 0 }) × AppendsFront before.taken now.taken text × (before.faults ≤ now.faults) × Rose before.faults now.faults)
+
+-- the text of this ending was written, or the sink failed within it
+abbrev pub Written : SinkView → SinkView → End → Ended → Type 0
+Written before now end result = WritesText before now (text_of end) (ended_of end) result
+
+-- at most one byte more than 64 MiB was read, and no count of the source fell
+pub record Took (before now : SourceView) : Type 0 where
+  pub taken : (bytes : List ℕ) × Consumes before.left now.left bytes × (length bytes ≤ 67108864 + 1)
+  pub faults : before.faults ≤ now.faults
+  pub ends : before.ends ≤ now.ends
+
+-- how a run ends: it may end so, and its text was written
+abbrev pub HasEnded : List (List ℕ) → SourceView → SourceView → SinkView → SinkView → Ended → Type 0
+HasEnded words before now old new result = (end : End) × Shown words before now end × Written old new end result

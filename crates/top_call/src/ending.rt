@@ -1,0 +1,76 @@
+//! How a run ends: each way with its text and its status.
+ghost use Rattle.std.specs.Prelude.{IfOk, ◌≡◌};
+ghost use Rattle.top_call.specs.Endings.{ended_of, text_of};
+
+use line_text::BadLine;
+use wire_values::Bytes;
+use std::alloc::{AllocError, Global};
+
+/// What a top call answers.
+#[derive(Clone, Copy, Debug, PartialEq, Eq)]
+pub struct Ended {
+    /// The status of the process.
+    pub status: u8,
+    /// At status 2 the place of the first bad word, at status 3 the number of the first bad line, else 0.
+    pub place: u64,
+    /// Always 0: no program that is built leaves messages.
+    pub left: u64,
+}
+
+/// The ways in which a run ends, but for a failure of the sink, which is status 5.
+#[derive(Debug, Drop)]
+pub enum End {
+    /// Status 0: the input was read to its end, and determines a history, whose report this is.
+    Reported(Bytes),
+    /// Status 2: the word at this place is the first bad one.
+    BadWord(u64),
+    /// Status 3: this line is the first bad one.
+    BadLine(BadLine),
+    /// Status 4: the source failed.
+    ReadFault,
+    /// Status 9: a history of so many entries, which cost so many bytes, was to grow, and is full.
+    Full { entries: u64, bytes: u64 },
+    /// Status 11: there was no memory.
+    Memory,
+}
+
+impl End {
+    /// The status and the place.
+    pub fn ended(&self) -> Ended
+        ensures { result ≡ ended_of self.now }
+    {
+        let (status, place) = match self {
+            End::Reported(_) => (0, 0),
+            End::BadWord(place) => (2, *place),
+            End::BadLine(bad) => (3, bad.line),
+            End::ReadFault => (4, 0),
+            End::Full { .. } => (9, 0),
+            End::Memory => (11, 0),
+        };
+        Ended {
+            status,
+            place,
+            left: 0,
+        }
+    }
+
+    /// The text that is written; a report isn't copied.
+    pub fn into_text(self, alloc: Global) -> Result<Bytes, AllocError>
+        ensures { IfOk result (λ text. text ≡ text_of self) }
+    {
+        let text = match self {
+            End::Reported(report) => return Ok(report),
+            End::BadWord(place) => format!(in alloc; "bad word {place}\n")?,
+            End::BadLine(BadLine { line, reason }) => {
+                let why = reason.text();
+                format!(in alloc; "bad line {line}: {why}\n")?
+            }
+            End::ReadFault => String::from_str(alloc, "read fault\n")?,
+            End::Full { entries, bytes } => {
+                format!(in alloc; "history full {entries} {bytes}\n")?
+            }
+            End::Memory => String::from_str(alloc, "out of memory\n")?,
+        };
+        Ok(Bytes::from_vec(text.into_bytes()))
+    }
+}

@@ -1,0 +1,135 @@
+//! The top call: words, a source and a sink to a status.
+ghost use Rattle.std.specs.Io.KnownBytes.{Appends};
+ghost use Rattle.std.specs.Prelude.{Contains, List, [], map, ℕ, ◌∷◌, ◌≡◌, ◌≤◌, ◌⊎◌};
+ghost use Rattle.top_call.specs.Endings.{EndsAs, HasEnded, Shown, Took, WritesText, Written, text_of};
+ghost use Rattle.top_call.specs.Replays.{calm_statuses, replay_run};
+ghost use Rattle.top_call.specs.Statuses.{IsAnswerTo, IsBadLine, IsBadWord, IsHistoryFull, IsReadFault, IsReported, IsWriteFault};
+ghost use Rattle.top_call.specs.Words.{bad_place};
+ghost use Rattle.links.specs.Causes.{Rose};
+ghost use Rattle.links.specs.Views.{sink_view, source_view};
+
+use crate::ending::{End, Ended};
+use crate::words::bad_word;
+use line_text::INPUT_LIMIT;
+use links::{ReadEnd, Sink, Source, read_to_end, write_all};
+use replay::{RunFault, report, run_schedule};
+use std::alloc::Global;
+
+/// Runs the program that the words name, over a source and a sink.
+///
+/// The words are exactly `replay`: it reads a schedule of at most 64 MiB and writes the report of the history that the
+/// schedule determines. Nothing is written before the whole result is known, and then one text alone.
+///
+/// | Status | Comes where | Text |
+/// |---|---|---|
+/// | 0 | the input was read to its end, and each line is good | the report |
+/// | 2 | a word is bad; `place` is the first one, counted from 0 | `bad word <place>` |
+/// | 3 | a line is bad; `place` is the first one, counted from 1 | `bad line <place>: <reason>` |
+/// | 4 | the source failed | `read fault` |
+/// | 5 | the sink failed; it stands in place of any other status | a front of that status' text |
+/// | 9 | a line was to add to a history of 1,000,000 entries, or of costs of 2^30 bytes | `history full <entries> <bytes>` |
+/// | 11 | there was no memory | `out of memory` |
+pub fn run<S: Source, K: Sink>(alloc: Global, words: &[&str], src: &mut S, out: &mut K) -> Ended
+    ensures ended { HasEnded (map (λ w. w.now) words.now)
+        (source_view S.left S.read_faults S.ends src.old) (source_view S.left S.read_faults S.ends src.new)
+        (sink_view K.taken K.write_faults out.old) (sink_view K.taken K.write_faults out.new) result }
+    ensures took { Took (source_view S.left S.read_faults S.ends src.old) (source_view S.left S.read_faults S.ends src.new) }
+    ensures sink_later { K.write_faults out.old ≤ K.write_faults out.new }
+    ensures reported { result.status ≡ 0 → IsReported (map (λ w. w.now) words.now)
+        (source_view S.left S.read_faults S.ends src.old) (source_view S.left S.read_faults S.ends src.new)
+        (sink_view K.taken K.write_faults out.old) (sink_view K.taken K.write_faults out.new) }
+    ensures bad_word { result.status ≡ 2 → IsBadWord (map (λ w. w.now) words.now)
+        (source_view S.left S.read_faults S.ends src.old) (source_view S.left S.read_faults S.ends src.new)
+        (sink_view K.taken K.write_faults out.old) (sink_view K.taken K.write_faults out.new) result.place }
+    ensures bad_line { result.status ≡ 3 → IsBadLine (map (λ w. w.now) words.now)
+        (source_view S.left S.read_faults S.ends src.old) (source_view S.left S.read_faults S.ends src.new)
+        (sink_view K.taken K.write_faults out.old) (sink_view K.taken K.write_faults out.new) result.place }
+    ensures read_fault { result.status ≡ 4 → IsReadFault
+        (source_view S.left S.read_faults S.ends src.old) (source_view S.left S.read_faults S.ends src.new)
+        (sink_view K.taken K.write_faults out.old) (sink_view K.taken K.write_faults out.new) }
+    ensures write_fault { result.status ≡ 5 → IsWriteFault (map (λ w. w.now) words.now)
+        (source_view S.left S.read_faults S.ends src.old) (source_view S.left S.read_faults S.ends src.new)
+        (sink_view K.taken K.write_faults out.old) (sink_view K.taken K.write_faults out.new) }
+    ensures history_full { result.status ≡ 9 → IsHistoryFull (map (λ w. w.now) words.now)
+        (source_view S.left S.read_faults S.ends src.old) (source_view S.left S.read_faults S.ends src.new)
+        (sink_view K.taken K.write_faults out.old) (sink_view K.taken K.write_faults out.new) }
+    ensures out_of_memory { result.status ≡ 11 → Appends (K.taken out.old) (K.taken out.new) (text_of End.Memory) }
+    ensures statuses { Contains (0 ∷ 2 ∷ 3 ∷ 4 ∷ 5 ∷ 9 ∷ 11 ∷ []) result.status }
+    ensures unlawful { (place : ℕ) → bad_place (map (λ w. w.now) words.now) ≡ Some place → Contains (2 ∷ 5 ∷ 11 ∷ []) result.status }
+    ensures complete { (schedule : List ℕ) → bad_place (map (λ w. w.now) words.now) ≡ None → S.left src.old ≡ Some schedule
+        → ¬ (Rose (S.read_faults src.old) (S.read_faults src.new)) → ¬ (Rose (K.write_faults out.old) (K.write_faults out.new))
+        → Contains (calm_statuses (replay_run schedule)) result.status }
+    ensures told { (schedule : List ℕ) → S.left src.old ≡ Some schedule → IsAnswerTo schedule
+        (sink_view K.taken K.write_faults out.old) (sink_view K.taken K.write_faults out.new) result }
+{
+    let end = judge(alloc, words, src);
+    finish(alloc, out, end)
+}
+
+/// Writes the text of an end, or of want of memory where there is none for that text.
+fn finish<K: Sink>(alloc: Global, out: &mut K, end: End) -> Ended
+    ensures { (written : End) × ((written ≡ end) ⊎ (written ≡ End.Memory))
+        × Written (sink_view K.taken K.write_faults out.old) (sink_view K.taken K.write_faults out.new) written result }
+{
+    let ended = end.ended();
+    match end.into_text(alloc) {
+        Ok(text) => write_text(out, ended, text.as_slice()),
+        Err(_) => out_of_memory(out),
+    }
+}
+
+/// Ends a run for want of memory, and takes none.
+pub fn out_of_memory<K: Sink>(out: &mut K) -> Ended
+    ensures { Written (sink_view K.taken K.write_faults out.old) (sink_view K.taken K.write_faults out.new) End.Memory result }
+{
+    write_text(out, End::Memory.ended(), b"out of memory\n")
+}
+
+/// What the words and the input lead to.
+fn judge<S: Source>(alloc: Global, words: &[&str], src: &mut S) -> End
+    ensures shown { Shown (map (λ w. w.now) words.now)
+        (source_view S.left S.read_faults S.ends src.old) (source_view S.left S.read_faults S.ends src.new) result }
+    ensures took { Took (source_view S.left S.read_faults S.ends src.old) (source_view S.left S.read_faults S.ends src.new) }
+{
+    if let Some(place) = bad_word(words) {
+        return End::BadWord(place);
+    }
+    match read_to_end(alloc, src, INPUT_LIMIT as u64) {
+        Ok(bytes) => replayed(alloc, bytes.as_slice()),
+        Err(ReadEnd::Long(bytes)) => replayed(alloc, bytes.as_slice()),
+        Err(ReadEnd::Fault) => End::ReadFault,
+        Err(ReadEnd::Memory) => End::Memory,
+    }
+}
+
+/// What a schedule leads to: the report of its history, its first bad line, or the numbers of a full history.
+fn replayed(alloc: Global, schedule: &[u8]) -> End
+    ensures { EndsAs schedule.now result }
+{
+    match run_schedule(alloc, schedule) {
+        Ok(history) => match report(alloc, &history) {
+            Ok(text) => End::Reported(text),
+            Err(_) => End::Memory,
+        },
+        Err(RunFault::Bad(bad)) => End::BadLine(bad),
+        Err(RunFault::Full { entries, bytes }) => End::Full { entries, bytes },
+        Err(RunFault::Memory) => End::Memory,
+    }
+}
+
+/// Writes a text, and answers this end of a run, or status 5 where the sink failed.
+fn write_text<K: Sink>(out: &mut K, ended: Ended, text: &[u8]) -> Ended
+    ensures { WritesText (sink_view K.taken K.write_faults out.old) (sink_view K.taken K.write_faults out.new) text.now ended result }
+{
+    match write_all(out, text) {
+        Ok(()) => ended,
+        Err(_) => Ended {
+            status: 5,
+            place: 0,
+            left: 0,
+        },
+    }
+}
+
+#[cfg(test)]
+mod tests;
