@@ -1,5 +1,5 @@
 -- What an answer of the store is, read off its outermost layer.
-use Rattle.std.specs.Prelude.{ℤ, Bool, true, false, List, [], ◌∷◌, map, Option, None, Some, option_and_then}
+use Rattle.std.specs.Prelude.{zero, suc, pos, ℤ, Bool, true, false, List, [], ◌∷◌, map, Option, None, Some, option_and_then}
 use Rattle.wire_values.specs.Layer.{layer}
 use Rattle.wire_values.specs.declared.value.Value.{Value}
 use Rattle.wire_values.specs.declared.value.Value.TheOpen.{Value-F}
@@ -79,3 +79,8 @@ error_in other = false
 -- whether an answer is an error
 abbrev pub is_error : Value → Bool
 is_error v = error_in (layer v)
+
+-- the answer is the integer 1
+abbrev pub is_one : Option ℤ → Bool
+is_one (Some (pos (suc zero))) = true
+is_one other = false

@@ -23,7 +23,7 @@ pub fn integer(answer: &Value) -> Option<i64>
 }
 
 /// Whether an answer is the integer 1.
-pub(crate) fn is_one(answer: &Value) -> bool
+pub fn is_one(answer: &Value) -> bool
     ensures { result ≡ is_one (number_of answer.now) }
 {
     match integer(answer) {

@@ -1,11 +1,2 @@
-pub mod Calm
-pub mod Dues
-pub mod Ends
-pub mod Expiries
-pub mod Pops
-pub mod Ranks
 pub mod Refills
-pub mod Rooms
 pub mod Steps
-pub mod Takings
-pub mod Told

@@ -7,7 +7,6 @@ use Rattle.uuid.specs.Text.{parsed}
 use Rattle.envelope.specs.Tags.{if_spelled, tag_of_text, tag_text}
 use Rattle.envelope.proofs.TagTexts.{tag_of_text-tag_text}
 use Rattle.command_blocks.specs.EnvelopeTexts.{plain_setting}
-use Rattle.place_index.specs.GatheredLaws.{PlacesGathered}
 use Rattle.queue_keys.specs.Names.{Bytes, same}
 use Rattle.queue_keys.proofs.Basics.{eqb-refl, eqb_true, false_true, same-refl, same_true}
 use Rattle.place_index.proofs.Gathers.{is_number}

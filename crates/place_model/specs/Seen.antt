@@ -6,7 +6,7 @@ use Rattle.store_model.specs.Words.{command_of}
 use Rattle.store_model.specs.declared.command.Command.{Command}
 use Rattle.store_model.specs.declared.command.Command.TheVariants.{Lpush, Rpush, Brpop, Multi, Exec, Hdel, Smembers}
 use Rattle.queue_keys.specs.Names.{Bytes, same}
-use Rattle.command_blocks.specs.Answers.{number_of, items_of, pair_of}
+use Rattle.command_blocks.specs.Answers.{is_one, number_of, items_of, pair_of}
 use Rattle.command_blocks.specs.Setting.{Setting, is_queue}
 use Rattle.command_blocks.specs.Calls.{Call}
 
@@ -98,11 +98,6 @@ unfoldable pub seen : Setting → List Call → Seen
 seen σ l = seen_from σ nothing_seen l
 
 -- ---- transactions
-
--- the answer is the integer 1
-abbrev pub is_one : Option ℤ → Bool
-is_one (Some (pos (suc zero))) = true
-is_one other = false
 
 -- the command took t out of the table
 abbrev pub deletes_one : Setting → Bytes → Command → Value → Bool

@@ -144,7 +144,7 @@ fn is_table(name: &[u8]) -> bool
 
 /// Whether two texts are the same.
 #[tactic(auto, unfolding(crate::specs::Names::same))]
-pub(crate) fn are_same(one: &[u8], other: &[u8]) -> bool
+pub fn are_same(one: &[u8], other: &[u8]) -> bool
     ensures { result ≡ same one.now other.now }
 {
     one == other

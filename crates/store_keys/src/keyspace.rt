@@ -44,7 +44,7 @@ impl Model for Keyspace {
 
 impl Keyspace {
     /// No keys; takes no memory.
-    pub(crate) fn new(alloc: Global) -> Self
+    pub fn new(alloc: Global) -> Self
         ensures { result ≡ map.empty }
     {
         Keyspace {
@@ -68,14 +68,14 @@ impl Keyspace {
     }
 
     /// Whether the key is present.
-    pub(crate) fn has(&self, key: &Bytes) -> bool
+    pub fn has(&self, key: &Bytes) -> bool
         ensures { result ≡ is_some (map.get self.now key.now) }
     {
         self.get(key).is_some()
     }
 
     /// Puts what a present key holds in the place of what it held, which takes no memory.
-    pub(crate) fn replace(&mut self, key: &Bytes, held: Held) -> Result<Held, Held>
+    pub fn replace(&mut self, key: &Bytes, held: Held) -> Result<Held, Held>
         ensures there { IfOk result (λ before. map.get self.old key.now ≡ Some before) }
         ensures ok { OnOk result (self.new ≡ map.insert self.old key.now held) }
         ensures absent { OnErr result (map.get self.old key.now ≡ None) }
@@ -90,7 +90,7 @@ impl Keyspace {
     }
 
     /// Puts what a key holds.
-    pub(crate) fn insert(&mut self, key: Bytes, held: Held) -> Result<(), AllocError>
+    pub fn insert(&mut self, key: Bytes, held: Held) -> Result<(), AllocError>
         ensures { OnOk result (self.new ≡ map.insert self.old key held) }
     {
         self.soonest = sooner(self.soonest, held.expiry);
@@ -99,7 +99,7 @@ impl Keyspace {
     }
 
     /// Takes a key out with what it holds.
-    pub(crate) fn remove(&mut self, key: &Bytes) -> Option<Held>
+    pub fn remove(&mut self, key: &Bytes) -> Option<Held>
         ensures held { result ≡ map.get self.old key.now }
         ensures removed { self.new ≡ map.remove self.old key.now }
     {
@@ -107,7 +107,7 @@ impl Keyspace {
     }
 
     /// Puts a value under a key, and keeps the key's expiry.
-    pub(crate) fn put(&mut self, key: Bytes, value: Stored) -> Result<(), AllocError>
+    pub fn put(&mut self, key: Bytes, value: Stored) -> Result<(), AllocError>
         ensures { OnOk result (self.new ≡ put self.old key value) }
     {
         let expiry = match self.get(&key) {
@@ -118,7 +118,7 @@ impl Keyspace {
     }
 
     /// Puts a value back under its key, where anything is left of it.
-    pub(crate) fn restore(
+    pub fn restore(
         &mut self,
         key: Bytes,
         value: Stored,
@@ -135,7 +135,7 @@ impl Keyspace {
 
 impl Keyspace {
     /// Whether the key is present and its expiry is reached.
-    pub(crate) fn is_due(&self, key: &Bytes, at: u64) -> bool
+    pub fn is_due(&self, key: &Bytes, at: u64) -> bool
         ensures { result ≡ is_due at (map.get self.now key.now) }
     {
         let Some(held) = self.get(key) else {
@@ -145,21 +145,21 @@ impl Keyspace {
     }
 
     /// Whether one of the keys is present and its expiry is reached.
-    pub(crate) fn has_due(&self, keys: &Deque<Bytes>, at: u64) -> bool
+    pub fn has_due(&self, keys: &Deque<Bytes>, at: u64) -> bool
         ensures { result ≡ list_any (λ k. is_due at (map.get self.now k)) keys.now }
     {
         keys.iter().any(|key| self.is_due(key, at))
     }
 
     /// Whether the key is present and its expiry isn't reached.
-    pub(crate) fn is_live(&self, key: &Bytes, at: u64) -> bool
+    pub fn is_live(&self, key: &Bytes, at: u64) -> bool
         ensures { result ≡ is_live at (map.get self.now key.now) }
     {
         self.has(key) && !self.is_due(key, at)
     }
 
     /// Whether one of the keys is present and its expiry isn't reached.
-    pub(crate) fn has_live(&self, keys: &[Bytes], at: u64) -> bool
+    pub fn has_live(&self, keys: &[Bytes], at: u64) -> bool
         ensures { result ≡ list_any (λ k. is_live at (map.get self.now k)) keys.now }
     {
         keys.iter().any(|key| self.is_live(key, at))
@@ -173,7 +173,7 @@ impl Keyspace {
     }
 
     /// Drops each key whose expiry is reached.
-    pub(crate) fn drop_due(&mut self, at: u64)
+    pub fn drop_due(&mut self, at: u64)
         ensures { self.new ≡ live_at at self.old }
     {
         drop_all_due(&mut self.kept, at);

@@ -55,3 +55,14 @@ fn read_word<R: Env>(
     let text = str::from_utf8(&room[..count]).unwrap_or(BAD_WORD);
     Ok(Some(String::from_str(alloc, text)?))
 }
+
+/// The words as a slice of texts.
+pub fn views<'a>(alloc: Global, texts: &'a [String]) -> Result<Vec<&'a str>, AllocError>
+    ensures { IfOk result (λ words. map (λ w. w.now) words.items ≡ map string_bytes texts.now) }
+{
+    let mut words = Vec::new(alloc);
+    for text in texts {
+        words.push(text.as_str())?;
+    }
+    Ok(words)
+}

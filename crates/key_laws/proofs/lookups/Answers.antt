@@ -1,6 +1,6 @@
 -- What `lookups` ensures.
 use Rattle.key_laws.proofs.Routes.{routes_are, routes_differ, binding_of-member}
-use Rattle.key_laws.proofs.laws.lookups.Goals as goal
+use Rattle.key_laws.proofs.lookups.Goals as goal
 
 pub returns-clause-keys : goal.returns-clause-keys
 returns-clause-keys c = λ l s e r ms h. (routes_are l s e r ms h, routes_differ l s e r ms h)

@@ -1,6 +1,6 @@
 -- What `tokens` ensures.
 use Rattle.key_laws.proofs.Texts.{token_parts}
-use Rattle.key_laws.proofs.laws.tokens.Goals as goal
+use Rattle.key_laws.proofs.tokens.Goals as goal
 
 pub returns : goal.returns
 returns c = token_parts

@@ -1,6 +1,6 @@
 -- What `key_fact` ensures.
 use Rattle.queue_keys.proofs.Splits.{key_parts, split_of_key, key_of_split}
-use Rattle.key_laws.proofs.laws.key_fact.Goals as goal
+use Rattle.key_laws.proofs.key_fact.Goals as goal
 
 pub returns-clause-tells : goal.returns-clause-tells
 returns-clause-tells c = key_parts

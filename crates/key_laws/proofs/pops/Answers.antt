@@ -1,7 +1,7 @@
 -- What `pops` ensures.
 use Rattle.key_laws.proofs.Lists.{pops_are, length-pop_keys}
 use Rattle.key_laws.proofs.Steps.{has_step}
-use Rattle.key_laws.proofs.laws.pops.Goals as goal
+use Rattle.key_laws.proofs.pops.Goals as goal
 
 pub returns-clause-keys : goal.returns-clause-keys
 returns-clause-keys c = pops_are

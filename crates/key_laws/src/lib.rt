@@ -1,46 +1,43 @@
-//! What the definitions of keys, lookups and tokens keep, for every key layout.
+//! What the definitions of keys, lookups, tokens and settings keep, for every key layout: laws, whose functions have empty
+//! bodies.
+#![tactic(auto)]
+
 ghost use Rattle.key_laws.specs.KeyLaws.{KeyTells, SplitTells, OnlyKeysSplit, OthersApart, PopsCount, PopsTell, StepsTell, RoutesTell, MembersTell, TokenTells};
 ghost use Rattle.command_blocks.specs.EnvelopeTexts.{EnvelopesServe};
-ghost use Rattle.place_index.specs.GatheredLaws.{PlacesGathered};
 ghost use Rattle.key_laws.specs.SettingLaws.{LayoutsServe};
 
-// A queue's key tells the queue and its step, and the split of a key gives them for such a key alone.
+/// A queue's key tells the queue and its step, and the split of a key gives them for such a key alone.
 pub fn key_fact()
     ensures tells { KeyTells }
     ensures split { SplitTells }
     ensures only { OnlyKeysSplit }
 {}
 
-// No other key that is written is a queue's, and none is that of the table or its index.
+/// No other key that is written is a queue's, and none is that of the table or its index.
 pub fn others_apart()
     ensures { OthersApart }
 {}
 
-// The keys of a pop are queues', one for each queue at each step, and each priority has a step.
+/// The keys of a pop are queues', one for each queue at each step, and each priority has a step.
 pub fn pops()
     ensures keys { PopsTell }
     ensures count { PopsCount }
     ensures steps { StepsTell }
 {}
 
-// A lookup gives keys of queues, each once, and reads each member as it was made.
+/// A lookup gives keys of queues, each once, and reads each member as it was made.
 pub fn lookups()
     ensures keys { RoutesTell }
     ensures members { MembersTell }
 {}
 
-// A token tells its seed and its number.
+/// A token tells its seed and its number.
 pub fn tokens()
     ensures { TokenTells }
 {}
 
-// With texts that keep their facts, each lawful layout gives a lawful setting, and the texts of envelopes keep them.
+/// With texts that keep their facts, each lawful layout gives a lawful setting, and the texts of envelopes keep them.
 pub fn layouts_serve()
     ensures layouts { LayoutsServe }
     ensures envelopes { EnvelopesServe }
-{}
-
-// What was gathered from a history tells the place of each message.
-pub fn places_gathered()
-    ensures { PlacesGathered }
 {}

@@ -1,0 +1,11 @@
+pub mod Answers
+pub mod Blocks
+pub mod Calls
+pub mod Cores
+pub mod EnvelopeTexts
+pub mod PassBlocks
+pub mod ReturnBlocks
+pub mod RouteBlocks
+pub mod Scripts
+pub mod Setting
+pub mod TakeBlocks

@@ -1,0 +1,8 @@
+//! Blocks of commands: which commands a client says together and which replies are listed there, as definitions; and how
+//! replies are told apart.
+#![tactic(auto)]
+
+pub mod answer;
+mod block;
+
+pub use block::{BlockEnd, CoreFault, Side};

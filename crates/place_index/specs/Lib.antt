@@ -1,0 +1,5 @@
+pub mod Gathered
+pub mod Indexed
+pub mod Kept
+pub mod Stored
+pub mod Tallies

@@ -1,0 +1,4 @@
+pub mod Basics
+pub mod Cuts
+pub mod NameFaults
+pub mod Splits

@@ -1,0 +1,12 @@
+pub mod Commands
+pub mod Connections
+pub mod Hashes
+pub mod Integers
+pub mod Keys
+pub mod Lists
+pub mod Replies
+pub mod Sets
+pub mod SortedSets
+pub mod Store
+pub mod Texts
+pub mod Words

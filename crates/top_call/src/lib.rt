@@ -1,0 +1,10 @@
+//! The top call of the programs: words, a source and a sink to a status.
+#![tactic(auto)]
+
+mod ending;
+mod node;
+mod words;
+
+pub use ending::Ended;
+pub use node::{out_of_memory, run};
+pub use words::{read_words, views};
