@@ -1,5 +1,5 @@
 -- A whole block is said by its script, to its end.
-use Rattle.std.proofs.Common.{◌≡◌, ◌⊎◌, inl, inr, ℕ, ◌+◌, ◌<◌, zero, suc, List, [], ◌∷◌, ◌++◌, Option, None, Some, Bool, true, false, refl, ap, sym, subst, ◌∙◌, ℤ, codes, decimal, arith, if◌then◌else◌}
+use Rattle.std.proofs.Common.{◌≡◌, ◌⊎◌, inl, inr, ℕ, ◌+◌, zero, suc, List, [], ◌∷◌, ◌++◌, Option, None, Some, Bool, true, false, refl, ap, sym, subst, ◌∙◌, ℤ, codes, decimal, arith, if◌then◌else◌}
 use Rattle.std.specs.Prelude.{option_and_then}
 use Rattle.wire_values.proofs.Layers.{layer-array}
 use Rattle.wire_values.specs.Layer.{layer}
@@ -14,32 +14,36 @@ use Rattle.queue_keys.specs.Bindings.{member}
 use Rattle.command_blocks.specs.Setting.{Setting, IsLawful}
 use Rattle.command_blocks.specs.Calls.{Call, call, push_word}
 use Rattle.command_blocks.specs.RouteBlocks.{IsDeclareBlock, Told, direct_calls, direct_keys, IsPublishBlock, Plain, Named}
-use Rattle.command_blocks.specs.TakeBlocks.{IsPop, brpop_words, IsPopBlock, Empty, Unreadable, Popped, IsEndBlock, Acknowledged}
+use Rattle.command_blocks.specs.TakeBlocks.{brpop_words, IsPopBlock, Empty, Unreadable, Popped, IsEndBlock, Acknowledged}
 use Rattle.command_blocks.specs.ReturnBlocks.{ReturnEnd, Contended, goes_on, queued_calls, queued_keys, reading, asking, leaving, taking, Carries, Try, whole_try, IsTry, IsTries, Missing, Useless, Nowhere, Whole, Eighth, Again}
 use Rattle.command_blocks.specs.PassBlocks.{PassEnd, IsReturns, All_returned, Returned, Returned_until, Ended_early, IsRelease, Own, Foreign, tags_among, lock_words, due_words, IsPassBlock, Is_held, Ran}
-use Rattle.command_blocks.specs.Scripts.{Script, Over, Off, Say, Plan, Declare, Undeclare, Publish, Pop, End, Return, Pass, script_of, plainly, if_told, on_status, on_done, on_queued, on_number, told_by, texts_of, on_texts, on_two, on_two_numbers, null_array_in, null_bulk_in, on_null_array, declare_script, pushes, asking_script, publish_script, keep_script, kept_by, on_popped, popping, pop_script, end_script, queued_script, on_ran, leave_script, take_script, carried_for, route_script, on_entry, try_script, tries_script, return_script, on_released, on_token, release_script, returns_script, on_locked, pass_script, rest_of, IsSaid}
+use Rattle.command_blocks.specs.Scripts.{Script, Over, Off, Say, Plan, Declare, Undeclare, Publish, Pop, End, Return, Pass, script_of, plainly, if_told, on_done, on_queued, on_number, told_by, on_texts, on_two, on_two_numbers, null_array_in, null_bulk_in, on_null_array, declare_script, pushes, asking_script, publish_script, keep_script, kept_by, on_popped, popping, pop_script, end_script, queued_script, on_ran, leave_script, take_script, carried_for, route_script, on_entry, try_script, tries_script, return_script, on_released, on_token, release_script, returns_script, on_locked, pass_script, rest_of, IsSaid}
 use Rattle.command_blocks.specs.declared.block.Side.{Side}
 use Rattle.command_blocks.specs.declared.block.Side.TheVariants.{Right}
 use Rattle.block_laws.specs.Rows.{IsPlanBlock}
-use Rattle.block_laws.proofs.Values.{eq_itself, eq_true, layer-Status, layer-NullBulk, layer-NullArray, layer-Bulk, number_of-Integer, items_of-Array, bulk_of-Bulk, texts_of-bulks, numbers_in-integers, pair_of-pair}
+use Rattle.block_laws.proofs.Values.{eq_itself, eq_true, layer-Status, layer-Bulk, items_of-Array, bulk_of-Bulk, texts_of-bulks, numbers_in-integers, pair_of-pair}
 use Rattle.block_laws.proofs.Good.{status_listed, number_listed, null_array_listed, null_bulk_listed}
 use Rattle.block_laws.proofs.Fronts.{said-append, rest-append}
 use Rattle.block_laws.proofs.Tries.{carried_is, carried_so}
 use Rattle.block_laws.proofs.Talks.{off_not}
 
 -- the calls are said by the one script, and leave the other
-abbrev pub Goes : Script → List Call → Script → Type 0
-Goes p l q = IsSaid p l × (rest_of p l ≡ q)
+pub record Goes (p : Script) (l : List Call) (q : Script) : Type 0 where
+  pub said : IsSaid p l
+  pub rest : rest_of p l ≡ q
 
 stays : (p : Script) → Goes p [] p
-stays p = (tt, refl)
+stays p = record { said = tt; rest = refl }
 
 joined : (p q r : Script) (xs ys : List Call) → Goes p xs q → Goes q ys r → Goes p (xs ++ ys) r
-joined p q r xs ys g h = (said-append p xs ys g.0 (subst (λ z. IsSaid z ys) (sym g.1) h.0), rest-append p xs ys ∙ (ap (λ z. rest_of z ys) g.1 ∙ h.1))
+joined p q r xs ys g h = record {
+  said = said-append p xs ys g.said (subst (λ z. IsSaid z ys) (sym g.rest) h.said);
+  rest = rest-append p xs ys ∙ (ap (λ z. rest_of z ys) g.rest ∙ h.rest);
+}
 
 -- a call, and those after its answer
 step : (w : ℕ → Words) (go : Value → Script) (a : ℕ) (r : Value) (p q : Script) (ys : List Call) → go r ≡ p → Goes p ys q → Goes (Say w go) (call a (w a) r ∷ ys) q
-step w go a r p q ys e h = let k = subst (λ z. Goes z ys q) (sym e) h in ((refl, k.0), k.1)
+step w go a r p q ys e h = let k = subst (λ z. Goes z ys q) (sym e) h in record { said = (refl, k.said); rest = k.rest }
 
 -- ---- answers
 
@@ -178,10 +182,10 @@ module _ (σ : Setting) (lawful : IsLawful σ) (side : Side) (t : Bytes) (ended 
       carried_said y.a y.b y.c y.entry y.envelope y.members (queued_keys (y.first ∷ y.others)) _ fits.0 fits.1 (taking_said y.d y.e y.f y.g y.envelope y.first y.others r p ys e h)
 
 not_carried : (σ : Setting) (t u : Bytes) → ((v : Bytes) → Carries σ u t v → ⊥) → carried_for σ t u ≡ None
-not_carried σ t u no = by (carried_for σ t u) refl where
+not_carried σ t u never = by (carried_for σ t u) refl where
   by : (o : Option Bytes) → carried_for σ t u ≡ o → o ≡ None
   by None e = refl
-  by (Some v) e = absurd (no v (carried_is σ t u v e))
+  by (Some v) e = absurd (never v (carried_is σ t u v e))
 
 module _ (σ : Setting) (lawful : IsLawful σ) (side : Side) (t : Bytes) (ended stuck : Script) where
   -- what goes on after this end
@@ -194,8 +198,8 @@ module _ (σ : Setting) (lawful : IsLawful σ) (side : Side) (t : Bytes) (ended 
       (null_bulk_listed (leave_script ended) (if_told go (bulk_of NullBulk))) (leaving_said ended c)) where
         go : Bytes → Script
         go u = route_script σ side t u ended (tries_script σ side t ended stuck m) (carried_for σ t u)
-  tries_said n m end l e (Useless n' a b c u no) =
-      reading_said σ lawful side t ended (tries_script σ side t ended stuck m) ended a b u None _ (not_carried σ t u no) (leaving_said ended c)
+  tries_said n m end l e (Useless n' a b c u never) =
+      reading_said σ lawful side t ended (tries_script σ side t ended stuck m) ended a b u None _ (not_carried σ t u never) (leaving_said ended c)
   tries_said n m end l e (Nowhere n' a b c d u v ms carries none) =
       carried_said σ lawful side t ended (tries_script σ side t ended stuck m) ended a b c u v ms [] _ carries (sym none) (leaving_said ended d)
   tries_said n m end l e (Whole n' y zs fits) =
@@ -204,19 +208,19 @@ module _ (σ : Setting) (lawful : IsLawful σ) (side : Side) (t : Bytes) (ended 
     by : (m : ℕ) → 7 + m ≡ 7 → Goes (tries_script σ side t ended stuck (suc m)) (whole_try σ side t y NullArray []) stuck
     by zero e = whole_said σ lawful side t ended stuck stuck y NullArray stuck [] fits (null_array_listed stuck _) (stays stuck)
     by (suc m) e = absurd (omega (arith, e))
-  tries_said n m end l e (Again n' y end' l' few fits more) = by m e where
-    by : (m : ℕ) → n + m ≡ 7 → Goes (tries_script σ side t ended stuck (suc m)) (whole_try σ side t y NullArray l') (after end)
-    by zero e = absurd (omega (arith, e, few))
-    by (suc m) e =
+  tries_said n m end l e (Again n' y end' l' few fits more) = by m e (λ k f. tries_said (suc n) k end l' f more) where
+    by : (m : ℕ) → n + m ≡ 7 → ((k : ℕ) → suc n + k ≡ 7 → Goes (tries_script σ side t ended stuck (suc k)) l' (after end)) → Goes (tries_script σ side t ended stuck (suc m)) (whole_try σ side t y NullArray l') (after end)
+    by zero e later = absurd (omega (arith, e, few))
+    by (suc m) e later =
         whole_said σ lawful side t ended (tries_script σ side t ended stuck (suc m)) (after end) y NullArray (tries_script σ side t ended stuck (suc m)) l' fits (null_array_listed (tries_script σ side t ended stuck (suc m)) _)
-        (tries_said (suc n) m end l' (omega (arith, e)) more)
+        (later m (omega (arith, e)))
 
 over_so : (b : Bool) → (if b then Over else Over) ≡ Over
 over_so true = refl
 over_so false = refl
 
 return_said : (σ : Setting) → IsLawful σ → (side : Side) (t : Bytes) (end : ReturnEnd) (l : List Call) → IsTries σ side t 0 end l → Goes (return_script σ side t) l Over
-return_said σ lawful side t end l tries = let g = tries_said σ lawful side t Over Over 0 7 end l refl tries in (g.0, g.1 ∙ over_so (goes_on end))
+return_said σ lawful side t end l tries = let g = tries_said σ lawful side t Over Over 0 7 end l refl tries in record { said = g.said; rest = g.rest ∙ over_so (goes_on end) }
 
 -- ---- passes
 
@@ -226,12 +230,12 @@ released_listed r (inl h) =
     ap on_released h.1 ∙ (array_listed Over (if_told go (items_of (Array h.0))) h.0 ∙ ap (if_told go) (items_of-Array h.0))
 released_listed r (inr h) = ap on_released h ∙ null_array_listed Over _
 
-differs_so : (u token : Bytes) → (u ≡ token → ⊥) → same u token ≡ false
+differs_so : (u own : Bytes) → (u ≡ own → ⊥) → same u own ≡ false
 unfolding same
-differs_so u token no = by (same u token) refl where
-  by : (b : Bool) → same u token ≡ b → b ≡ false
+differs_so u own differs = by (same u own) refl where
+  by : (b : Bool) → same u own ≡ b → b ≡ false
   by false e = refl
-  by true e = absurd (no (eq_true u token e))
+  by true e = absurd (differs (eq_true u own e))
 
 module _ (σ : Setting) (token : Bytes) where
   abbrev own : Script
@@ -262,7 +266,7 @@ module _ (σ : Setting) (token : Bytes) where
     turn_said : (t : Bytes) (ts : List Bytes) (end : ReturnEnd) (l : List Call) → IsTries σ Right t 0 end l → goes_on end ≡ true → Goes (returns_script σ token (t ∷ ts)) l (returns_script σ token ts)
     turn_said t ts end l tries on =
         let g = tries_said σ lawful Right t (returns_script σ token ts) (release_script σ token) 0 7 end l refl tries in
-        (g.0, g.1 ∙ ap (λ b. if b then returns_script σ token ts else release_script σ token) on)
+        record { said = g.said; rest = g.rest ∙ ap (λ b. if b then returns_script σ token ts else release_script σ token) on }
 
     returns_said : (ts : List Bytes) (end : PassEnd) (l : List Call) → IsReturns σ ts end l → Goes (returns_script σ token ts) l (release_script σ token)
     returns_said ts end l All_returned = stays (release_script σ token)
@@ -303,5 +307,5 @@ off_ends (x ∷ xs) = off_ends xs
 -- so calls after which a script is off begin no block of its plan
 pub plan_off : (σ : Setting) → IsLawful σ → (s n p : ℕ) (plan : Plan) (l more : List Call) → rest_of (script_of σ s p plan) l ≡ Off → IsPlanBlock σ s n p plan (l ++ more) → ⊥
 plan_off σ lawful s n p plan l more off b =
-    let over : rest_of (script_of σ s p plan) (l ++ more) ≡ Over = (plan_said σ lawful s n p plan (l ++ more) b).1 in
+    let over : rest_of (script_of σ s p plan) (l ++ more) ≡ Over = (plan_said σ lawful s n p plan (l ++ more) b).rest in
     off_not (sym (rest-append (script_of σ s p plan) l more ∙ (ap (λ q. rest_of q more) off ∙ off_ends more)) ∙ over)

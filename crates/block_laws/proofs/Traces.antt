@@ -1,11 +1,11 @@
 -- A trace goes on with a call, and begins its block.
-use Rattle.std.proofs.Common.{◌≡◌, ◌⊎◌, inl, inr, ℕ, ◌<◌, ◌^◌, refl, ap, sym, ◌∙◌, subst, List, [], ◌∷◌, ◌++◌, Some}
+use Rattle.std.proofs.Common.{◌≡◌, ◌⊎◌, inl, inr, ℕ, ◌<◌, ◌^◌, refl, ap, sym, ◌∙◌, List, [], ◌∷◌, ◌++◌, Some}
 use Rattle.wire_values.specs.declared.value.Value.{Value}
 use Rattle.store_model.specs.Words.{Words}
 use Rattle.command_blocks.specs.Setting.{Setting}
 use Rattle.command_blocks.specs.Calls.{Call, call}
-use Rattle.command_blocks.specs.Scripts.{Script, Over, Off, Plan, script_of, after_call, next_words, rest_of, IsSaid}
-use Rattle.block_laws.specs.Rows.{IsGood, AreTimely, IsLawfulPlan, IsPlanBlock, IsRow}
+use Rattle.command_blocks.specs.Scripts.{Script, Over, Off, Plan, script_of, after_call, next_words, rest_of}
+use Rattle.block_laws.specs.Rows.{IsGood, IsLawfulPlan, IsPlanBlock, IsRow}
 use Rattle.block_laws.specs.Traces.{IsTrace, IsFrontOf}
 use Rattle.block_laws.proofs.PlanRows.{plan_row}
 use Rattle.block_laws.proofs.Fronts.{said-append, rest-append, timely-append, end_of, IsPutOff, rest_good, good_on}
