@@ -1,5 +1,5 @@
 -- A core's trace goes on with each reply.
-use Rattle.std.proofs.Common.{◌≡◌, ℕ, ◌<◌, ◌^◌, List, [], ◌∷◌, ◌++◌, Bool, true, false, Some, None, Ok, Err, refl, Result, sym, subst, ap, ◌∙◌}
+use Rattle.std.proofs.Common.{◌≡◌, ℕ, ◌<◌, ◌^◌, List, [], ◌∷◌, ◌++◌, true, false, Some, None, Ok, Err, refl, Result, sym, subst, ap, ◌∙◌}
 use Rattle.std.specs.Prelude.{⊤}
 use Rattle.wire_values.specs.declared.value.Value.{Value}
 use Rattle.store_model.specs.Words.{Words}
@@ -8,7 +8,8 @@ use Rattle.command_blocks.specs.Calls.{Call, call}
 use Rattle.command_blocks.specs.Cores.{IsAnswered, is_saying}
 use Rattle.command_blocks.specs.EnvelopeTexts.{plain_setting, texts}
 use Rattle.queue_keys.specs.Layouts.{plain}
-use Rattle.command_blocks.specs.Scripts.{Plan, Script, Over, Off, next_words, rest_of, script_of}
+use Rattle.queue_keys.specs.Names.{same}
+use Rattle.command_blocks.specs.Scripts.{Plan, Script, Over, Off, next_words, script_of}
 use Rattle.command_blocks.specs.Setting.{IsLawful}
 use Rattle.key_laws.proofs.EnvelopeFacts.{envelopes_serve}
 use Rattle.key_laws.proofs.Settings.{lawful_setting}
@@ -20,9 +21,9 @@ use Rattle.block_laws.proofs.Traces.{next_trace, trace_front}
 use Rattle.block_core.specs.Cores.{HasHad, HasHadOn, IsListed, IsWhole, StateTells, core_end, core_left, state_end, state_left}
 use Rattle.block_core.specs.Goings.{HasGone, IsRefused}
 use Rattle.block_core.specs.Stages.{TellsOn, progress_left}
-use Rattle.block_core.specs.declared.core.BlockCore.{BlockCore}
-use Rattle.block_core.specs.declared.core.State.{State}
-use Rattle.block_core.specs.declared.core.State.TheVariants as state
+use Rattle.block_core.specs.declared.block.BlockCore.{BlockCore}
+use Rattle.block_core.specs.declared.block.State.{State}
+use Rattle.block_core.specs.declared.block.State.TheVariants as state
 use Rattle.block_core.specs.declared.fault.ReplyFault.{ReplyFault}
 use Rattle.block_core.specs.declared.fault.ReplyFault.TheVariants.{Refused, Memory}
 use Rattle.block_core.specs.declared.stage.Progress.{Progress}
@@ -82,6 +83,7 @@ off_by left new found.Refused reply (Err (Refused given)) says gone = ap (state_
 off_by left new found.Refused reply (Err Memory) says gone = tt
 
 plain_lawful : IsLawful plain_setting
+unfolding same
 plain_lawful = lawful_setting plain texts refl envelopes_serve
 
 -- calls that were had begin a block of the plan, and with a refused reply they begin none

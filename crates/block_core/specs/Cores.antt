@@ -7,9 +7,9 @@ use Rattle.command_blocks.specs.EnvelopeTexts.{plain_setting}
 use Rattle.command_blocks.specs.Scripts.{Plan, Script, Over, Off, script_of}
 use Rattle.block_laws.specs.Rows.{IsLawfulPlan, IsPlanBlock}
 use Rattle.block_laws.specs.Traces.{IsTrace, IsFrontOf}
-use Rattle.block_core.specs.declared.core.BlockCore.{BlockCore}
-use Rattle.block_core.specs.declared.core.State.{State}
-use Rattle.block_core.specs.declared.core.State.TheVariants as state
+use Rattle.block_core.specs.declared.block.BlockCore.{BlockCore}
+use Rattle.block_core.specs.declared.block.State.{State}
+use Rattle.block_core.specs.declared.block.State.TheVariants as state
 use Rattle.block_core.specs.declared.fault.ReplyFault.{ReplyFault}
 use Rattle.block_core.specs.declared.fault.ReplyFault.TheVariants.{Refused, Memory}
 

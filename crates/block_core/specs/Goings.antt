@@ -1,8 +1,8 @@
 -- The steps of taking a reply; these serve the proofs of a core alone.
 use Rattle.std.specs.Prelude.{◌≡◌, ⊤, Result, Ok, Err, Some}
 use Rattle.store_model.specs.declared.reply.Reply.{Reply}
-use Rattle.block_core.specs.declared.core.BlockCore.{BlockCore}
-use Rattle.block_core.specs.declared.core.State.TheVariants as state
+use Rattle.block_core.specs.declared.block.BlockCore.{BlockCore}
+use Rattle.block_core.specs.declared.block.State.TheVariants as state
 use Rattle.block_core.specs.declared.fault.ReplyFault.{ReplyFault}
 use Rattle.block_core.specs.declared.fault.ReplyFault.TheVariants.{Refused, Memory}
 use Rattle.block_core.specs.declared.stage.Progress.{Progress}

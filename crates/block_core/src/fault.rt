@@ -2,10 +2,10 @@
 ghost use Rattle.std.specs.Prelude.{◌≡◌, IfOk};
 ghost use Rattle.block_core.specs.declared.fault.ReplyFault.TheVariants.{Refused};
 
-use store_model::Reply;
 use command_blocks::CoreFault;
-use wire_values::copy_values;
 use std::alloc::{AllocError, Global};
+use store_model::Reply;
+use wire_values::copy_values;
 
 /// Why a core took no reply.
 #[derive(Debug, Drop)]

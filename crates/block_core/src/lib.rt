@@ -9,12 +9,12 @@
 //! `CoreFault::from(fault)` on.
 #![tactic(auto)]
 
-mod core;
+mod block;
 mod fault;
 mod laws;
 mod stage;
 
-pub use core::BlockCore;
+pub use block::BlockCore;
 pub use fault::ReplyFault;
 pub use laws::blocks_begin;
 pub use stage::{Progress, Stage};

@@ -6,8 +6,8 @@ ghost use Rattle.command_blocks.specs.Cores.{IsAnswered, is_saying};
 ghost use Rattle.command_blocks.specs.Scripts.{Plan, Script, next_words};
 ghost use Rattle.block_core.specs.Stages.{TellsOn, progress_left};
 
-use wire_values::{Value, Words};
 use std::alloc::{AllocError, Global};
+use wire_values::{Value, Words};
 
 /// What an answer brings to a block of stages `S` and ends `E`.
 #[derive(Drop)]

@@ -11,7 +11,7 @@ use Rattle.queue_keys.specs.Names.{Bytes, is_name}
 use Rattle.queue_keys.specs.QueueKeys.{queue_key}
 use Rattle.command_blocks.specs.Scripts.{Plan, Publish, Script, pushes}
 use Rattle.block_core.specs.Cores.{HasHad, core_left}
-use Rattle.block_core.specs.declared.core.BlockCore.{BlockCore}
+use Rattle.block_core.specs.declared.block.BlockCore.{BlockCore}
 use Rattle.block_core.specs.declared.stage.Progress.{Progress}
 use Rattle.block_core.specs.declared.stage.Progress.TheVariants.{Over, Refused}
 use Rattle.routes.specs.declared.publish.PublishStage.{PublishStage}

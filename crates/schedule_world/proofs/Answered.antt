@@ -9,7 +9,7 @@ use Rattle.command_blocks.specs.Calls.{call}
 use Rattle.command_blocks.specs.Cores.{IsAnswered}
 use Rattle.command_blocks.specs.Scripts.{Script, Over, Off, Say, after_call, next_words}
 use Rattle.block_core.specs.Cores.{HasTaken, core_left}
-use Rattle.block_core.specs.declared.core.BlockCore.{BlockCore}
+use Rattle.block_core.specs.declared.block.BlockCore.{BlockCore}
 use Rattle.block_core.specs.declared.fault.ReplyFault.{ReplyFault}
 use Rattle.block_core.specs.declared.fault.ReplyFault.TheVariants.{Refused, Memory}
 use Rattle.schedule_model.specs.Faults.{has_more}

@@ -8,7 +8,7 @@ use Rattle.command_blocks.specs.Cores.{is_saying}
 use Rattle.command_blocks.specs.EnvelopeTexts.{plain_setting}
 use Rattle.command_blocks.specs.Scripts.{End, Plan, Script}
 use Rattle.block_core.specs.Cores.{HasHad, core_left}
-use Rattle.block_core.specs.declared.core.BlockCore.{BlockCore}
+use Rattle.block_core.specs.declared.block.BlockCore.{BlockCore}
 use Rattle.unacked.specs.Steps.{steps_left}
 use Rattle.unacked.specs.declared.end.Acked.{Acked}
 use Rattle.unacked.specs.declared.end.EndStage.{EndStage}

@@ -17,7 +17,7 @@ use Rattle.command_blocks.specs.EnvelopeTexts.{plain_setting}
 use Rattle.queue_keys.specs.Names.{Bytes}
 use Rattle.command_blocks.specs.Scripts.{Plan, Pop, Script, pop_script}
 use Rattle.block_core.specs.Cores.{HasHad, core_left}
-use Rattle.block_core.specs.declared.core.BlockCore.{BlockCore}
+use Rattle.block_core.specs.declared.block.BlockCore.{BlockCore}
 use Rattle.block_core.specs.declared.stage.Progress.{Progress}
 use Rattle.block_core.specs.declared.stage.Progress.TheVariants as progress
 use Rattle.unacked.specs.Queues.{AreSome}

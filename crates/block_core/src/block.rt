@@ -12,10 +12,10 @@ ghost use Rattle.block_core.specs.declared.fault.ReplyFault.TheVariants.{Memory}
 
 use crate::fault::ReplyFault;
 use crate::stage::{Progress, Stage};
-use store_model::Reply;
-use wire_values::Words;
 use std::alloc::{AllocError, Global};
 use std::mem;
+use store_model::Reply;
+use wire_values::Words;
 
 /// A core of a block of stages `S` and ends `E`, which says its commands one by one.
 ///

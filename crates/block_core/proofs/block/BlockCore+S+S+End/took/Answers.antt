@@ -1,7 +1,7 @@
 -- After each answer the core has had one more call.
 use Rattle.std.proofs.Common.{refl, sym}
 use Rattle.block_core.proofs.Cores.{gone_on, listed_on}
-use Rattle.block_core.proofs.core.BlockCore.took.Goals as goal
+use Rattle.block_core.proofs.block.BlockCore+S+S+End.took.Goals as goal
 
 pub returns-in-Ok-clause-traced : goal.returns-in-Ok-clause-traced
 returns-in-Ok-clause-traced g c s p plan calls words h next =
