@@ -7,6 +7,7 @@ ghost use Rattle.links.specs.Memory.{MemorySourceView, read_count, read_fails, s
 
 use crate::counts::{fails_now, raise};
 use crate::{Failed, Source};
+use wire_values::Bytes;
 use std::marker::Model;
 use wire_values::Bytes;
 

@@ -6,6 +6,7 @@ ghost use Rattle.links.specs.Ends.{HasReadEnd, IsWhole};
 ghost use Rattle.links.specs.Views.{source_view};
 
 use crate::{Failed, Sink, Source};
+use wire_values::Bytes;
 use std::alloc::{AllocError, Global};
 use wire_values::Bytes;
 

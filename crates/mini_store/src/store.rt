@@ -4,6 +4,9 @@ ghost use Rattle.store_model.specs.Words.{IsWithinLimits};
 ghost use Rattle.std.specs.Prelude.{◌≡◌, ◌<◌, ◌^◌, IfOk, IsErr, IsTrue, OnErr, OnOk, false, true};
 
 use crate::database::Database;
+use store_keys::Keyspace;
+use store_model::Reply;
+use wire_values::Words;
 use std::alloc::{AllocError, Global};
 use std::marker::Model;
 use store_keys::Keyspace;

@@ -3,6 +3,8 @@ ghost use Rattle.std.specs.Prelude.{◌≡◌, [], ◌∷◌, OnOk, OnErr};
 ghost use Rattle.place_model.specs.Takable.{AreTakable};
 
 use crate::Heard;
+use store_model::Reply;
+use wire_values::{List, Words};
 use std::alloc::{AllocError, Global};
 use store_model::Reply;
 use wire_values::{List, Words};

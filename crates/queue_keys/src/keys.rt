@@ -6,6 +6,7 @@ ghost use Rattle.queue_keys.specs.QueueKeys.{if_name, keys_at, marked_step, mark
 
 use crate::QueueName;
 use crate::queue_name::{are_same, is_name};
+use wire_values::{Bytes, Words};
 use std::alloc::{AllocError, Global};
 use wire_values::{Bytes, Words};
 

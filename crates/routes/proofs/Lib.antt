@@ -1,2 +1,2 @@
 pub mod Direct
-pub mod PublishTraces
+pub mod Publishes

@@ -1,2 +1,1 @@
 pub mod Publishes
-pub mod PublishTraces

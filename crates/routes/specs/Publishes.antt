@@ -1,17 +1,21 @@
--- What is left of a publication, and how it ended.
-use Rattle.std.specs.Prelude.{◌≡◌, true, [], ◌∷◌, Option, None, Ok}
+-- What is left of a publication, and what its end tells.
+use Rattle.std.specs.Prelude.{◌≡◌, ℕ, ℤ, true, List, [], ◌∷◌, length, Option, None, Some, Ok}
 use Rattle.serde_json.specs.Data.{Data}
 use Rattle.serde_json.specs.View.{view as data_of}
 use Rattle.serde_json.specs.Written.{compact_text}
 use Rattle.envelope.specs.Envelopes.{envelope_at, parts_in, priority_of}
+use Rattle.envelope.specs.declared.tag.Tag.{Tag}
+use Rattle.command_blocks.specs.Calls.{Call}
 use Rattle.queue_keys.specs.Layouts.{plain, step_of}
 use Rattle.queue_keys.specs.Names.{Bytes, is_name}
 use Rattle.queue_keys.specs.QueueKeys.{queue_key}
-use Rattle.command_blocks.specs.Scripts.{Script, Over, Off, pushes}
-use Rattle.command_blocks.specs.declared.block.BlockEnd.{BlockEnd}
-use Rattle.routes.specs.declared.publish.PublishCore.{PublishCore}
+use Rattle.command_blocks.specs.Scripts.{Plan, Publish, Script, pushes}
+use Rattle.block_core.specs.Cores.{HasHad, core_left}
+use Rattle.block_core.specs.declared.block.BlockCore.{BlockCore}
+use Rattle.block_core.specs.declared.stage.Progress.{Progress}
+use Rattle.block_core.specs.declared.stage.Progress.TheVariants.{Over, Refused}
 use Rattle.routes.specs.declared.publish.PublishStage.{PublishStage}
-use Rattle.routes.specs.declared.publish.PublishStage.TheVariants as stage
+use Rattle.routes.specs.declared.publish.Sent.{Sent}
 
 -- the tree is that of an envelope that goes to a queue directly, and its text is read again as the same tree
 pub record GoesDirectly (d : Data) : Type 0 where
@@ -23,22 +27,33 @@ pub record GoesDirectly (d : Data) : Type 0 where
 abbrev pub direct_key : Data → Bytes
 direct_key d = queue_key plain (parts_in d).routing_key (step_of plain (priority_of d))
 
--- what is left at a stage of the publication of an envelope's tree
-abbrev pub stage_left : Data → PublishStage → Script
-stage_left d stage.Pushing = pushes (compact_text d) (direct_key d ∷ [])
-stage_left d (stage.Over end) = Over
-stage_left d stage.Off = Off
+-- the push of an envelope's tree to its list
+abbrev pub push_script : Data → Script
+push_script d = pushes (compact_text d) (direct_key d ∷ [])
+
+-- what is left at the stage of the push
+abbrev pub stage_left : PublishStage → Script
+stage_left stage = push_script (data_of stage.envelope)
 
 -- what is left to say of a publication
-abbrev pub publish_left : PublishCore → Script
-publish_left core = stage_left (data_of core.envelope) core.stage
+abbrev pub publish_left : BlockCore PublishStage Sent → Script
+publish_left core = core_left stage_left core
 
--- the end of a stage at which it is over, if it wasn't given yet
-abbrev pub stage_end : PublishStage → Option BlockEnd
-stage_end stage.Pushing = None
-stage_end (stage.Over end) = end
-stage_end stage.Off = None
+-- what a push's answer brings, by the integer that it tells: the message of this tag went to one queue
+abbrev pub pushed_by : Tag → Option ℤ → Progress PublishStage Sent
+pushed_by tag None = Refused
+pushed_by tag (Some z) = Over (record { tag = tag; queues = 1 })
 
--- the end of a publication that is over, if it wasn't given yet
-abbrev pub publish_end : PublishCore → Option BlockEnd
-publish_end core = stage_end core.stage
+-- before the push nothing was called, and the stage has the envelope of the plan
+abbrev pub PublishHad : Plan → List Call → PublishStage → Type 0
+PublishHad (Publish v) calls stage = (calls ≡ []) × (envelope_at v ≡ Ok (data_of stage.envelope))
+PublishHad other calls stage = ⊥
+
+-- what the end of a publication tells: the tag of its message, and a queue for each of its calls
+abbrev pub TellsPublish : Plan → List Call → Sent → Type 0
+TellsPublish (Publish v) calls end = (d : Data) × (envelope_at v ≡ Ok d) × (end.tag.0 ≡ (parts_in d).tag) × (end.queues ≡ length calls)
+TellsPublish other calls end = ⊥
+
+-- the core of the publication of an envelope's text had these calls so far
+abbrev pub HasPublishing : ℕ → ℕ → Bytes → List Call → BlockCore PublishStage Sent → Type 0
+HasPublishing s p v calls core = HasHad stage_left PublishHad TellsPublish s p (Publish v) calls core

@@ -1,11 +1,6 @@
-//! Cores that send messages on their way, command by command.
+//! The blocks that send messages on their way: each is a stage of a `block_core::BlockCore`, with its end.
 #![tactic(auto)]
 
-mod laws;
 mod publish;
 
-pub use laws::publications_are_blocks;
-pub use publish::PublishCore;
-
-#[cfg(test)]
-mod tests;
+pub use publish::{PublishCore, PublishStage, Sent, publish_core};

@@ -13,9 +13,9 @@ use Rattle.schedule_model.specs.Faults.{Craft, Test, first_reason, is_no_name, i
 use Rattle.schedule_model.specs.Schedules.{publish_plan, plan_of}
 use Rattle.schedule_model.specs.declared.line.Asked.{Asked}
 use Rattle.schedule_model.specs.declared.line.Asked.TheVariants as asked
-use Rattle.schedule_laws.specs.Rows.{IsDeclaration, IsLawfulPlan}
+use Rattle.block_laws.specs.Rows.{IsDeclaration, IsLawfulPlan}
 use Rattle.schedule_laws.specs.Sound.{IsSealed, IsCraft}
-use Rattle.schedule_laws.proofs.Values.{some_is}
+use Rattle.block_laws.proofs.Values.{some_is}
 use Rattle.schedule_laws.proofs.Worlds.{neither}
 use Rattle.schedule_laws.proofs.Spelled.{AreFew, IsAskedWithin}
 

@@ -17,7 +17,7 @@ use Rattle.schedule_model.specs.Costs.{is_full}
 use Rattle.schedule_model.specs.Desk.{Book, Desk, first_desk, with_book, with_client, Said, with_call, said_one, said_all, with_stop}
 use Rattle.schedule_model.specs.Faults.{has_number, has_seed}
 use Rattle.schedule_laws.specs.Sound.{RisesTo}
-use Rattle.schedule_laws.proofs.Values.{some_is}
+use Rattle.block_laws.proofs.Values.{some_is}
 use Rattle.schedule_laws.proofs.Numbered.{same_or, get_same, get_other, insert_twice}
 use Rattle.schedule_laws.proofs.Kept.{IsKept, new_kept, call_kept, gone_kept}
 use Rattle.schedule_laws.proofs.Worlds.{after-append, legal-append, next_called, next_stopped, own_more, foreign_more, rises_later, rises_call, rises_stop, add, after_add, legal_add, no_calls, table_none, table_more, table_with, among_more}

@@ -21,7 +21,7 @@ use Rattle.schedule_model.specs.declared.line.Asked.{Asked}
 use Rattle.schedule_model.specs.declared.line.Line.{Line}
 use Rattle.schedule_model.specs.declared.line.Line.TheVariants.{Client, At, Begin, Step, Run, Stop}
 use Rattle.schedule_laws.specs.Sound.{IsCraft, IsSoundlyDetermined}
-use Rattle.schedule_laws.proofs.PlanRows.{plan_row}
+use Rattle.block_laws.proofs.PlanRows.{plan_row}
 use Rattle.schedule_laws.proofs.Kept.{DecidesFronts, begun_kept}
 use Rattle.schedule_laws.proofs.Worlds.{neither}
 use Rattle.schedule_laws.proofs.Desks.{Holds, first_holds, book_holds, HeardHolds, said_one_holds, said_all_holds, moment_holds, stop_holds, client_holds}

@@ -8,9 +8,9 @@ use Rattle.command_blocks.specs.Calls.{Call, call, concat}
 use Rattle.command_blocks.specs.Blocks.{drawn, passed, IsFrontOfBlocks, IsMannered}
 use Rattle.command_blocks.specs.Scripts.{Script, Over, Off, Say, Plan, script_of, kind_of, after_call, rest_of, IsSaid}
 use Rattle.schedule_model.specs.Desk.{Book, begun}
-use Rattle.schedule_laws.specs.Rows.{IsGood, AreTimely, IsRow}
-use Rattle.schedule_laws.proofs.Talks.{says_not}
-use Rattle.schedule_laws.proofs.Fronts.{said-append, rest-append, timely-append, end_of, IsPutOff, rest_good, BlocksTo, blocks_more, concat_more, whole_front, part_front}
+use Rattle.block_laws.specs.Rows.{IsGood, AreTimely, IsRow}
+use Rattle.block_laws.proofs.Talks.{says_not}
+use Rattle.block_laws.proofs.Fronts.{said-append, rest-append, timely-append, end_of, IsPutOff, rest_good, BlocksTo, blocks_more, concat_more, whole_front, part_front}
 
 -- for each list of calls before the moment 2^40 it is decided whether it is a front of blocks
 abbrev pub DecidesFronts : Setting → Type 0

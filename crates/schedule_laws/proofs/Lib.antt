@@ -1,13 +1,4 @@
-pub mod Values
-pub mod Talks
-pub mod Good
-pub mod PlainRows
-pub mod Tries
-pub mod Returns
-pub mod PlanRows
 pub mod Numbered
-pub mod Fronts
-pub mod Parts
 pub mod Kept
 pub mod Worlds
 pub mod Desks
@@ -17,4 +8,3 @@ pub mod Decided
 pub mod Sounds
 pub mod Crafts
 pub mod Determined
-pub mod Traces

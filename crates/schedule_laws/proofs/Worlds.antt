@@ -14,7 +14,7 @@ use Rattle.place_model.specs.declared.heard.Heard.{Heard as Note}
 use Rattle.place_model.specs.declared.history.Entry.{Entry}
 use Rattle.place_model.specs.declared.history.Entry.TheVariants.{Call as Called, Heard, Stop}
 use Rattle.schedule_model.specs.Faults.{has_number, has_seed}
-use Rattle.schedule_laws.specs.Rows.{AreTimely}
+use Rattle.block_laws.specs.Rows.{AreTimely}
 use Rattle.schedule_laws.specs.Sound.{RisesTo}
 use Rattle.schedule_laws.proofs.Numbered.{same_or, get_other, insert_swap, another}
 

@@ -1,15 +1,14 @@
 pub mod Answered
 pub mod Begins
-pub mod Bounds
 pub mod BuiltLines
 pub mod Clients
-pub mod Directly
 pub mod Drafted
 pub mod Going
 pub mod Joins
 pub mod Known
 pub mod Named
 pub mod Prepared
+pub mod Rooms
 pub mod Sayings
 pub mod Shelved
 pub mod Sizes

@@ -1,13 +1,14 @@
 -- What is left of a client's block.
-use Rattle.std.specs.Prelude.{ℕ}
-use Rattle.command_blocks.specs.Scripts.{Script}
-use Rattle.schedule_world.specs.Lefts.{core_left}
+use Rattle.command_blocks.specs.Scripts.{Script, Over}
+use Rattle.routes.specs.Publishes.{publish_left}
+use Rattle.unacked.specs.Ends.{end_left}
+use Rattle.unacked.specs.Pops.{pop_left}
 use Rattle.schedule_world.specs.declared.left.Left.{Left}
+use Rattle.schedule_world.specs.declared.left.Left.TheVariants as left
 
 -- its script
 abbrev pub script_left : Left → Script
-script_left l = core_left l.core
-
--- how many commands are left at most
-abbrev pub commands_left : Left → ℕ
-commands_left l = l.commands
+script_left left.Over = Over
+script_left (left.Publish core) = publish_left core.value
+script_left (left.Pop core) = pop_left core.value
+script_left (left.End core) = end_left core.value

@@ -3,6 +3,7 @@ pub mod Blocks
 pub mod Books
 pub mod Desks
 pub mod Lefts
+pub mod Rooms
 pub mod Plans
 pub mod Rests
 pub mod Running

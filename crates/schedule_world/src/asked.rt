@@ -8,6 +8,7 @@ ghost use Rattle.schedule_model.specs.declared.line.Asked.TheVariants.{Ack, Decl
 
 use crate::word::{dashed_in, joined, name_in, priority_in, queues_in, visibility_in};
 use line_text::tag_in;
+use wire_values::Bytes;
 use schedule_model::Asked;
 use std::alloc::{AllocError, Global};
 use wire_values::Bytes;

@@ -11,7 +11,7 @@ use std::collections::BTreeMap;
 use std::marker::Model;
 
 /// What is kept of a client: its seed, how many tags it drew, and what is left of its block.
-#[derive(Debug, Drop)]
+#[derive(Drop)]
 pub(crate) struct Book {
     pub(crate) seed: u64,
     pub(crate) drawn: u64,
@@ -19,7 +19,7 @@ pub(crate) struct Book {
 }
 
 /// The clients' books by their numbers, seen by contracts as a finite map.
-#[derive(Debug, Drop)]
+#[derive(Drop)]
 pub(crate) struct Books {
     kept: BTreeMap<u32, Book>,
 }

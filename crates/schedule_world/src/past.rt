@@ -9,6 +9,7 @@ use crate::cost::call_cost;
 use crate::left::Left;
 use mini_store::Store;
 use place_model::{Entry, History};
+use wire_values::Words;
 use std::alloc::{AllocError, Global};
 use wire_values::Words;
 
@@ -19,7 +20,7 @@ const ENTRY_LIMIT: usize = 1_000_000;
 const COST_LIMIT: u64 = 1 << 30;
 
 /// The present moment in seconds, the history with what its entries cost, and the store that answered.
-#[derive(Debug, Drop)]
+#[derive(Drop)]
 pub(crate) struct Past {
     pub(crate) moment: u64,
     pub(crate) history: History,
@@ -41,8 +42,9 @@ impl Past {
     ghost use Rattle.schedule_model.specs.Desk.{Book, first_desk, said_all, said_one, with_call};
     ghost use Rattle.schedule_model.specs.Faults.{has_more};
     ghost use Rattle.schedule_world.specs.Desks.{desk_with};
-    ghost use Rattle.schedule_world.specs.Blocks.{commands_left, script_left};
+    ghost use Rattle.schedule_world.specs.Blocks.{script_left};
     ghost use Rattle.schedule_world.specs.Lefts.{after_answer};
+    ghost use Rattle.schedule_world.specs.Rooms.{room_left};
 
     /// Nothing happened yet; takes no memory.
     pub(crate) fn new(alloc: Global) -> Past
@@ -134,7 +136,6 @@ impl Past {
         requires next { next_words (script_left left.old) self.old.moment ≡ Some words }
         ensures desk { OnOk result ((bs : FinMap nat_cmp Book) → desk_with self.new bs ≡ with_call (desk_with self.old bs) client words (apply_of self.old.store.state self.old.moment client words)) }
         ensures left { OnOk result (script_left left.new ≡ after_answer (script_left left.old) (apply_of self.old.store.state self.old.moment client words).1.answer) }
-        ensures fewer { OnOk result (commands_left left.new < commands_left left.old) }
         ensures table { (history_of self.new.history).clients ≡ (history_of self.old.history).clients }
     {
         let reply = self.store.apply(alloc, self.moment, client, &words)?;
@@ -167,7 +168,7 @@ impl Past {
     ) -> Result<bool, AllocError>
         requires { has_number client (history_of self.old.history).clients ≡ true }
         ensures said { IfOk result (λ room. (bs : FinMap nat_cmp Book) → said_one (desk_with self.old bs) client (script_left left.old) ≡ record { desk = desk_with self.new bs; left = script_left left.new; room = room }) }
-        ensures fewer { IfOk result (λ room. room ≡ true → has_more (script_left left.old) ≡ true → commands_left left.new < commands_left left.old) }
+        ensures fewer { IfOk result (λ room. room ≡ true → has_more (script_left left.old) ≡ true → room_left self.new < room_left self.old) }
         ensures table { (history_of self.new.history).clients ≡ (history_of self.old.history).clients }
     {
         let Some(words) = left.next(alloc, self.moment)? else {

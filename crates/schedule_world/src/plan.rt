@@ -18,12 +18,13 @@ use crate::task::{Publication, arguments, sealed};
 use envelope::{Envelope, Tag, write};
 use line_text::Reason;
 use queue_keys::{NameFault, QueueName, is_reserved};
+use wire_values::{Bytes, List, Words};
 use schedule_model::Asked;
 use std::alloc::{AllocError, Global};
 use wire_values::{Bytes, List, Words};
 
 /// A block that was begun, and how many tags its client drew by then.
-#[derive(Debug, Drop)]
+#[derive(Drop)]
 pub(crate) struct Begun {
     pub(crate) left: Left,
     pub(crate) drawn: u64,
@@ -62,7 +63,7 @@ pub(crate) fn prepared(
             )
         }
         Asked::Pop { queues } => popping(alloc, seed, drawn, &queues),
-        Asked::Ack { seed: of, counter } => acknowledging(seed, drawn, of, counter),
+        Asked::Ack { seed: of, counter } => acknowledging(alloc, seed, drawn, of, counter),
         Asked::Declare { .. }
         | Asked::Undeclare { .. }
         | Asked::Restore { .. }
@@ -122,7 +123,7 @@ fn sent(alloc: Global, envelope: Envelope) -> Result<Left, AllocError>
 {
     // What is written is read again as the same tree.
     let _text = write(alloc, &envelope)?;
-    Ok(Left::publication(envelope))
+    Left::publication(alloc, envelope)
 }
 
 /// A pop over queues.
@@ -138,20 +139,22 @@ fn popping(alloc: Global, seed: u64, drawn: u64, queues: &Words) -> Result<Begun
         return Err(LineFault::Bad(Reason::Reserved));
     }
     let names = queue_names(alloc, queues.as_slice())?;
-    Ok(Begun {
-        left: Left::pop(names),
-        drawn,
-    })
+    let left = Left::pop(alloc, names)?;
+    Ok(Begun { left, drawn })
 }
 
 /// An acknowledgement of a tag.
-fn acknowledging(seed: u64, drawn: u64, of: u64, counter: u64) -> Result<Begun, LineFault>
+fn acknowledging(
+    alloc: Global,
+    seed: u64,
+    drawn: u64,
+    of: u64,
+    counter: u64,
+) -> Result<Begun, LineFault>
     ensures { IsPrepared seed drawn (Ack of counter) result }
 {
-    Ok(Begun {
-        left: Left::acknowledgement(Tag::of(of, counter)),
-        drawn,
-    })
+    let left = Left::acknowledgement(alloc, Tag::of(of, counter))?;
+    Ok(Begun { left, drawn })
 }
 
 /// Whether no queue's name is spelled so, reserved or not.

@@ -17,7 +17,7 @@ use std::alloc::Global;
 /// A schedule being taken line by line: contracts see the desk of its reader.
 ///
 /// After want of memory the world is spent: what its desk is then isn't told.
-#[derive(Debug, Drop)]
+#[derive(Drop)]
 pub struct World {
     past: Past,
     books: Books,

@@ -8,6 +8,8 @@ ghost use Rattle.std.specs.Prelude.{◌≡◌, ◌+◌, ◌<◌, ◌^◌, [], If
 
 use crate::effect::{Effect, error, number, status};
 use crate::keyspace::Keyspace;
+use store_model::{Held, Stored};
+use wire_values::{Bytes, Value};
 use std::alloc::{AllocError, Global};
 use store_model::{Held, Stored};
 use store_tables::Deque;

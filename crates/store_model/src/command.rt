@@ -1,4 +1,5 @@
 //! Commands with their arguments.
+use wire_values::Bytes;
 use store_tables::Deque;
 use wire_values::Bytes;
 

@@ -1,5 +1,6 @@
 //! What the store knows of a connection.
 use crate::Command;
+use wire_values::{Bytes, Values};
 use store_tables::Deque;
 use wire_values::{Bytes, Values};
 

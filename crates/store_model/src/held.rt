@@ -1,4 +1,5 @@
 //! What a key holds.
+use wire_values::Bytes;
 use store_tables::{Deque, Table};
 use wire_values::Bytes;
 

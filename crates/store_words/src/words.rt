@@ -4,6 +4,8 @@ ghost use Rattle.store_model.specs.Words.{IsWithinLimits, bare, brpop_of, comman
 ghost use Rattle.std.specs.Prelude.{All, ◌≡◌, ◌≤◌, ◌↔◌, length, Bool, IsTrue, List, [], ◌∷◌, IfOk, MatchOption, map as mapped, ℕ};
 
 use crate::integer::{integer, natural, seconds};
+use store_model::{Command, Fault};
+use wire_values::{Bytes, Words};
 use std::alloc::{AllocError, Global};
 use store_model::{Command, Fault};
 use store_tables::Deque;

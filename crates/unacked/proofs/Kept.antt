@@ -25,6 +25,7 @@ use Rattle.queue_keys.specs.Names.{Bytes}
 use Rattle.queue_keys.specs.QueueKeys.{pop_keys}
 use Rattle.command_blocks.specs.Scripts.{Over, if_told, kept_by, next_words, null_array_in, on_popped, pop_script}
 use Rattle.unacked.specs.Pops.{index_words, table_words, tag_in}
+use Rattle.unacked.specs.Queues.{AreSome}
 use Rattle.unacked.specs.Steps.{begin_left, steps_left}
 use Rattle.store_model.specs.Words.{Words}
 use Rattle.unacked.specs.declared.step.Step.{Step}
@@ -33,8 +34,8 @@ use Rattle.unacked.specs.declared.step.Step.TheVariants.{Begin, Index, Table}
 -- ---- BRPOP
 
 -- the words of a pop
-pub asks : (names : List Bytes) (at : ℕ) → 1 ≤ length names → next_words (pop_script plain_setting names) at ≡ Some (codes "BRPOP" ∷ pop_keys plain names ++ codes "1" ∷ [])
-asks [] at h = absurd (omega (arith, h))
+pub asks : (names : List Bytes) (at : ℕ) → AreSome names → next_words (pop_script plain_setting names) at ≡ Some (codes "BRPOP" ∷ pop_keys plain names ++ codes "1" ∷ [])
+asks [] at h = absurd h
 asks (q ∷ qs) at h = refl
 
 -- after the null array a pop is over

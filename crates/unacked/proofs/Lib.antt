@@ -3,5 +3,5 @@ pub mod Steps
 pub mod Names
 pub mod Limits
 pub mod Kept
-pub mod PopTraces
-pub mod EndTraces
+pub mod Ends
+pub mod Pops

@@ -1,14 +1,19 @@
--- What is left of an acknowledgement, and how it ended.
-use Rattle.std.specs.Prelude.{ℕ, [], ◌∷◌, codes, Option, None}
+-- What is left of an acknowledgement, and what its end tells.
+use Rattle.std.specs.Prelude.{◌≡◌, ℕ, ℤ, true, refl, List, [], ◌∷◌, ◌++◌, codes, Some}
 use Rattle.store_model.specs.Words.{Words}
 use Rattle.envelope.specs.Tags.{tag_text}
+use Rattle.command_blocks.specs.Answers.{is_one, integers}
+use Rattle.command_blocks.specs.Calls.{Call}
+use Rattle.command_blocks.specs.Cores.{is_saying}
 use Rattle.command_blocks.specs.EnvelopeTexts.{plain_setting}
-use Rattle.command_blocks.specs.Scripts.{Script, Over, Off}
-use Rattle.command_blocks.specs.declared.block.BlockEnd.{BlockEnd}
+use Rattle.command_blocks.specs.Scripts.{End, Plan, Script}
+use Rattle.block_core.specs.Cores.{HasHad, core_left}
+use Rattle.block_core.specs.declared.block.BlockCore.{BlockCore}
 use Rattle.unacked.specs.Steps.{steps_left}
-use Rattle.unacked.specs.declared.end.EndCore.{EndCore}
+use Rattle.unacked.specs.declared.end.Acked.{Acked}
 use Rattle.unacked.specs.declared.end.EndStage.{EndStage}
-use Rattle.unacked.specs.declared.end.EndStage.TheVariants as stage
+use Rattle.unacked.specs.declared.step.Step.{Step}
+use Rattle.unacked.specs.declared.step.Step.TheVariants.{Begin, Index, Table, Run}
 
 -- the command that takes a tag out of the index
 abbrev pub index_words : ℕ → ℕ → Words
@@ -18,22 +23,25 @@ index_words tag at = codes "ZREM" ∷ plain_setting.index ∷ tag_text tag ∷ [
 abbrev pub table_words : ℕ → Words
 table_words tag = codes "HDEL" ∷ plain_setting.unacked ∷ tag_text tag ∷ []
 
--- what is left at a stage of the acknowledgement of a tag
-abbrev pub stage_left : ℕ → EndStage → Script
-stage_left tag (stage.Saying step) = steps_left (index_words tag) (table_words tag) step
-stage_left tag (stage.Over end) = Over
-stage_left tag stage.Off = Off
+-- what is left at a stage
+abbrev pub stage_left : EndStage → Script
+stage_left stage = steps_left (index_words stage.tag.0) (table_words stage.tag.0) stage.step
 
 -- what is left to say of an acknowledgement
-abbrev pub end_left : EndCore → Script
-end_left core = stage_left core.tag.0 core.stage
+abbrev pub end_left : BlockCore EndStage Acked → Script
+end_left core = core_left stage_left core
 
--- the end of a stage at which it is over, if it wasn't given yet
-abbrev pub stage_end : EndStage → Option BlockEnd
-stage_end (stage.Saying step) = None
-stage_end (stage.Over end) = end
-stage_end stage.Off = None
+-- the end of an acknowledgement tells of its calls, by the answer to the last, which is EXEC: two integers, and whether the second is 1
+abbrev pub TellsEnd : List Call → Acked → Type 0
+TellsEnd calls end = (before : List Call) × (last : Call) × (x : ℤ) × (y : ℤ) × (calls ≡ before ++ last ∷ []) × (last.answer ≡ integers (x ∷ y ∷ [])) × (end.removed ≡ is_one (Some y))
 
--- the end of an acknowledgement that is over, if it wasn't given yet
-abbrev pub acknowledged_end : EndCore → Option BlockEnd
-acknowledged_end core = stage_end core.stage
+-- the core of the acknowledgement of a tag had these calls so far
+abbrev pub HasEnding : ℕ → ℕ → ℕ → List Call → BlockCore EndStage Acked → Type 0
+HasEnding s p tag calls core = HasHad stage_left (λ plan calls stage. Unit {0}) (λ plan calls end. TellsEnd calls end) s p (End (tag_text tag)) calls core
+
+-- at each step a command is next
+pub end_says : (tag : ℕ) (step : Step) → is_saying (steps_left (index_words tag) (table_words tag) step) ≡ true
+end_says tag Begin = refl
+end_says tag Index = refl
+end_says tag Table = refl
+end_says tag Run = refl

@@ -1,6 +1,4 @@
 pub mod Queues
 pub mod Steps
-pub mod Pops
 pub mod Ends
-pub mod PopTraces
-pub mod EndTraces
+pub mod Pops

@@ -5,8 +5,8 @@ use Rattle.store_model.specs.Words.{Words}
 use Rattle.command_blocks.specs.Answers.{is_one, integers}
 use Rattle.command_blocks.specs.Calls.{call}
 use Rattle.command_blocks.specs.Scripts.{Script, Over, Off, Say, plainly, on_done, on_queued, on_two_numbers, after_call}
-use Rattle.unacked.specs.declared.step.Progress.{Progress}
-use Rattle.unacked.specs.declared.step.Progress.TheVariants.{Next, Ran, Refused}
+use Rattle.unacked.specs.declared.step.Course.{Course}
+use Rattle.unacked.specs.declared.step.Course.TheVariants.{Next, Ran, Refused}
 use Rattle.unacked.specs.declared.step.Step.{Step}
 use Rattle.unacked.specs.declared.step.Step.TheVariants.{Begin, Index, Table, Run}
 
@@ -38,18 +38,18 @@ abbrev pub answered_left : (ℕ → Words) → Words → Step → Value → Scri
 answered_left index table step answer = after_call (steps_left index table step) (call 0 [] answer)
 
 -- what is left by what an answer brings
-abbrev pub progress_left : (ℕ → Words) → Words → Progress → Script
-progress_left index table (Next step) = steps_left index table step
-progress_left index table (Ran removed) = Over
-progress_left index table Refused = Off
+abbrev pub course_left : (ℕ → Words) → Words → Course → Script
+course_left index table (Next step) = steps_left index table step
+course_left index table (Ran removed) = Over
+course_left index table Refused = Off
 
 -- a transaction that ran was answered two integers, and the second tells whether its command on the table counted one member
-abbrev pub HasRun : Progress → Value → Type 0
+abbrev pub HasRun : Course → Value → Type 0
 HasRun (Next step) answer = Unit {0}
 HasRun (Ran removed) answer = (x : ℤ) × (y : ℤ) × (answer ≡ integers (x ∷ y ∷ [])) × (removed ≡ is_one (Some y))
 HasRun Refused answer = Unit {0}
 
 -- what two integers bring as EXEC's answer
-abbrev pub ran_by : Option (ℤ × ℤ) → Progress
+abbrev pub ran_by : Option (ℤ × ℤ) → Course
 ran_by None = Refused
 ran_by (Some p) = Ran (is_one (Some p.1))

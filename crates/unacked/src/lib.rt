@@ -1,17 +1,12 @@
-//! Cores that say a block command by command: one that pops a message into the table of messages that are not
-//! acknowledged, and one that takes a message out of it for good.
+//! The blocks on the table of messages that are not acknowledged: a pop, which takes a message into it, and an
+//! acknowledgement, which takes one out of it for good. Each is a stage of a `block_core::BlockCore`, with its ends.
 #![tactic(auto)]
 
 mod end;
-mod laws;
 mod pop;
 mod queues;
 mod step;
 mod words;
 
-pub use end::EndCore;
-pub use laws::{ends_are_blocks, pops_are_blocks};
-pub use pop::PopCore;
-
-#[cfg(test)]
-mod tests;
+pub use end::{Acked, EndCore, EndStage, end_core};
+pub use pop::{Delivery, PopCore, PopEnd, PopStage, pop_core};

@@ -2,7 +2,7 @@
 ghost use Rattle.std.specs.Prelude.{◌≡◌, ℕ, if◌then◌else◌};
 ghost use Rattle.store_model.specs.Words.{Words as Said};
 ghost use Rattle.command_blocks.specs.Answers.{numbers_of};
-ghost use Rattle.unacked.specs.Steps.{HasRun, answered_left, progress_left, ran_by};
+ghost use Rattle.unacked.specs.Steps.{HasRun, answered_left, course_left, ran_by};
 
 use command_blocks::answer::{is_status, is_unit, two_integers};
 use wire_values::Value;
@@ -22,7 +22,7 @@ pub(crate) enum Step {
 
 /// What an answer brings.
 #[derive(Clone, Copy, Debug)]
-pub(crate) enum Progress {
+pub(crate) enum Course {
     /// The next command may be sent.
     Next(Step),
     /// The transaction ran, and whether its command on the table counted one member.
@@ -33,9 +33,9 @@ pub(crate) enum Progress {
 
 impl Step {
     /// What an answer to the command of this step brings.
-    pub(crate) fn answered(self, answer: &Value) -> Progress
+    pub(crate) fn answered(self, answer: &Value) -> Course
         ensures left { (index : ℕ → Said) (table : Said)
-            → progress_left index table result ≡ answered_left index table self answer.now }
+            → course_left index table result ≡ answered_left index table self answer.now }
         ensures ran { HasRun result answer.now }
     {
         match self {
@@ -48,22 +48,22 @@ impl Step {
 }
 
 /// The next step, where the answer is a listed one.
-fn next_if(listed: bool, step: Step) -> Progress
-    ensures { result ≡ (if listed then Progress.Next step else Progress.Refused) }
+fn next_if(listed: bool, step: Step) -> Course
+    ensures { result ≡ (if listed then Course.Next step else Course.Refused) }
 {
     if listed {
-        Progress::Next(step)
+        Course::Next(step)
     } else {
-        Progress::Refused
+        Course::Refused
     }
 }
 
 /// What an answer to EXEC brings.
-fn ran(answer: &Value) -> Progress
+fn ran(answer: &Value) -> Course
     ensures { result ≡ ran_by (numbers_of answer.now) }
 {
     match two_integers(answer) {
-        Some((_, removed)) => Progress::Ran(is_unit(removed)),
-        None => Progress::Refused,
+        Some((_, removed)) => Course::Ran(is_unit(removed)),
+        None => Course::Refused,
     }
 }

@@ -2,6 +2,7 @@
 ghost use Rattle.std.specs.Prelude.{IfOk, IsUtf8};
 
 use envelope::{Draft, Envelope, EnvelopeFault, Tag, redelivered, seal, write, write_entry};
+use wire_values::{Bytes, List, Value, Words};
 use serde_json::Value as Tree;
 use std::alloc::{AllocError, Global};
 use wire_values::{Bytes, List, Value, Words};

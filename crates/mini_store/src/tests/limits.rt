@@ -1,6 +1,7 @@
 //! The store's limits, each met and passed by one.
 use super::{told, words_of};
 use crate::Store;
+use wire_values::{Bytes, Words};
 use std::alloc::{AllocError, Global};
 use std::process::Abort;
 use std::test::Fail;

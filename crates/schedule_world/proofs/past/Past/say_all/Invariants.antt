@@ -1,9 +1,9 @@
-use Rattle.std.proofs.Common.{◌≡◌}
+use Rattle.std.proofs.Common.{◌≡◌, ◌-◌, length}
 use Rattle.std.specs.FinMap.{FinMap}
 use Rattle.std.specs.Ordering.{nat_cmp}
 use Rattle.schedule_model.specs.Desk.{Book, said_all}
 use Rattle.schedule_world.specs.Desks.{desk_with}
-use Rattle.schedule_world.specs.Blocks.{commands_left, script_left}
+use Rattle.schedule_world.specs.Blocks.{script_left}
 use Rattle.schedule_world.proofs.past.Past.say_all.Given as goal
 
 -- what is left is said as it was to be, and the table is as it was
@@ -14,4 +14,4 @@ invariant-loop-alloc l = record {
 }
 
 abbrev pub decreases-loop-alloc : goal.decreases-loop-alloc
-decreases-loop-alloc l = commands_left l.left
+decreases-loop-alloc l = 1000000 - length l.self.history.entries

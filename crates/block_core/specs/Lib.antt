@@ -1,0 +1,4 @@
+pub mod Faults
+pub mod Stages
+pub mod Cores
+pub mod Goings

@@ -1,0 +1,11 @@
+pub mod Values
+pub mod Talks
+pub mod Good
+pub mod PlainRows
+pub mod Tries
+pub mod Returns
+pub mod PlanRows
+pub mod Fronts
+pub mod Parts
+pub mod Traces
+pub mod Said
