@@ -8,8 +8,6 @@ use envelope::{Envelope, EnvelopeFault, Tag};
 use store_model::Reply;
 use wire_values::{Bytes, copy_values};
 use std::alloc::{AllocError, Global};
-use store_model::Reply;
-use wire_values::{Bytes, copy_values};
 
 /// The end of a queue's list to which a message returns.
 #[derive(Clone, Copy, Debug)]

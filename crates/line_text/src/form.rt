@@ -6,7 +6,6 @@ ghost use Rattle.line_text.specs.Forms.{escaped, hex_digit, quoted, value_form, 
 
 use wire_values::{Bytes, Value};
 use std::alloc::{AllocError, Global};
-use wire_values::{Bytes, Value};
 
 /// A way to write bytes in a line.
 pub trait Form {

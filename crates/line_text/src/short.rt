@@ -9,7 +9,6 @@ ghost use Rattle.line_text.specs.declared.short.Shape.{Shape as Shaped};
 use crate::form::{Form, quoted, value_text, words_text};
 use wire_values::{Bytes, Value};
 use std::alloc::{AllocError, Global};
-use wire_values::{Bytes, Value};
 
 /// What bytes spell.
 #[derive(Clone, Copy, Debug, PartialEq, Eq, Drop)]

@@ -11,7 +11,6 @@ use crate::{
 use wire_values::{Bytes, Value, Values};
 use std::alloc::{AllocError, Global};
 use std::test::Fail;
-use wire_values::{Bytes, Value, Values};
 
 /// A legend that knows three words.
 struct Three;

@@ -15,10 +15,7 @@ use std::alloc::{AllocError, Global};
 use std::collections::BTreeMap;
 use std::marker::Model;
 use std::mem;
-use store_keys::Keyspace;
-use store_model::{Command, Conn, Queue};
 use store_tables::Deque;
-use wire_values::{Bytes, Value, Values};
 
 /// The connections by their numbers, seen by contracts as a finite map.
 #[derive(Debug, Drop)]

@@ -20,13 +20,7 @@ use sqlite_items::Items;
 use std::alloc::{AllocError, Global};
 use std::marker::Model;
 use std::mem;
-use store_keys::Keyspace;
-use store_keys::effect::{error, number, pair, status};
-use store_model::{Command, Conn, Queue, Reply};
 use store_tables::Deque;
-use store_words::integer::natural;
-use store_words::{command_of, upper_byte};
-use wire_values::{Bytes, Value, Values, Words};
 
 /// The keys and the connections.
 #[derive(Debug, Drop)]

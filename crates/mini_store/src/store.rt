@@ -9,9 +9,6 @@ use store_model::Reply;
 use wire_values::Words;
 use std::alloc::{AllocError, Global};
 use std::marker::Model;
-use store_keys::Keyspace;
-use store_model::Reply;
-use wire_values::Words;
 
 /// A store of texts, lists, sets, hashes and sorted sets under keys, shared by connections that are told by their
 /// numbers. Contracts see its state, and whether it is spent.

@@ -5,8 +5,6 @@ use wire_values::{Bytes, Value, Words};
 use std::alloc::{AllocError, Global};
 use std::process::Abort;
 use std::test::Fail;
-use store_words::is_within_limits;
-use wire_values::{Bytes, Value, Words};
 
 mod limits;
 

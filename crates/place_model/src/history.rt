@@ -6,8 +6,6 @@ use crate::Heard;
 use store_model::Reply;
 use wire_values::{List, Words};
 use std::alloc::{AllocError, Global};
-use store_model::Reply;
-use wire_values::{List, Words};
 
 /// An entry of a history: a call of a connection, a note of its client, or its end. `N` is the type of notes.
 #[derive(Debug, Drop)]

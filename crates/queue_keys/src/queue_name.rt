@@ -6,7 +6,6 @@ ghost use Rattle.queue_keys.specs.NameFaults.{name_fault, told};
 use wire_values::Bytes;
 use std::alloc::{AllocError, Global};
 use std::marker::Model;
-use wire_values::Bytes;
 
 /// The first reason why a text is no queue's name, or want of memory.
 #[derive(Clone, Copy, Debug, PartialEq, Eq)]

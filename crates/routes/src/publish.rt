@@ -16,8 +16,6 @@ use command_blocks::answer::integer;
 use queue_keys::{QueueName, queue_key, step_of};
 use wire_values::{Bytes, Value, Words};
 use std::alloc::{AllocError, Global};
-use store_model::Reply;
-use wire_values::{Bytes, Words};
 
 /// The publication of a message that goes to its queue directly, by the empty exchange.
 pub type PublishCore = BlockCore<PublishStage, Sent>;

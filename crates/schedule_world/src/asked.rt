@@ -11,7 +11,6 @@ use line_text::tag_in;
 use wire_values::Bytes;
 use schedule_model::Asked;
 use std::alloc::{AllocError, Global};
-use wire_values::Bytes;
 
 /// What these words begin, the word of the block before the others. None where they spell nothing that can be begun.
 pub(crate) fn asked_in(

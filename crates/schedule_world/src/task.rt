@@ -16,7 +16,6 @@ use envelope::{Draft, Envelope, EnvelopeFault, Tag, Tree, seal};
 use wire_values::Bytes;
 use serde_json::{Value, json};
 use std::alloc::{AllocError, Global};
-use wire_values::Bytes;
 
 /// The deepest nesting of a task's arguments.
 const MAX_LEVELS: u32 = 90;

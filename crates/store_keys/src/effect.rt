@@ -6,7 +6,6 @@ use wire_values::{Bytes, Value};
 use sqlite_items::Items;
 use std::alloc::{AllocError, Global};
 use store_tables::Deque;
-use wire_values::{Bytes, Value};
 
 /// The keys that a command altered, and its answer.
 #[derive(Debug, Drop)]

@@ -16,9 +16,7 @@ use std::collections::BTreeMap;
 use std::collections::btree_map::Iter;
 use std::marker::Model;
 use std::mem;
-use store_model::{Held, Stored};
 use store_tables::Deque;
-use wire_values::Bytes;
 
 /// The keys in byte order with what they hold, seen by contracts as a finite map.
 ///

@@ -9,9 +9,7 @@ use crate::keyspace::Keyspace;
 use store_model::{Held, Stored};
 use wire_values::{Bytes, Value};
 use std::alloc::{AllocError, Global};
-use store_model::{Held, Stored};
 use store_tables::Deque;
-use wire_values::{Bytes, Value};
 
 fn items_in(value: Stored) -> Option<Deque<Bytes>>
     ensures { result ≡ items_at (Some value) }

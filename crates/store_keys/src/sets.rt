@@ -11,9 +11,7 @@ use crate::members::{finish, take_out};
 use store_model::{Held, Stored};
 use wire_values::{Bytes, Value};
 use std::alloc::{AllocError, Global};
-use store_model::{Held, Stored};
 use store_tables::{Deque, Table};
-use wire_values::{Bytes, Value};
 
 fn members_in(value: Stored) -> Option<Table<()>>
     ensures { result ≡ members_at (Some value) }

@@ -9,7 +9,6 @@ use std::alloc::{AllocError, Global};
 use std::collections::VecDeque;
 use std::collections::vec_deque::Iter;
 use std::marker::Model;
-use wire_values::Bytes;
 
 /// A list of values that grows and shrinks at both ends, seen by contracts as that list.
 #[derive(Debug, Drop)]

@@ -10,7 +10,6 @@ use wire_values::Bytes;
 use std::alloc::{AllocError, Global};
 use std::collections::BTreeMap;
 use std::marker::Model;
-use wire_values::Bytes;
 
 /// A table from byte strings to values, seen by contracts as a finite map in byte order.
 #[derive(Debug, Drop)]

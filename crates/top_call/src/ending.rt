@@ -5,7 +5,6 @@ ghost use Rattle.top_call.specs.Endings.{ended_of, text_of};
 use line_text::BadLine;
 use wire_values::Bytes;
 use std::alloc::{AllocError, Global};
-use wire_values::Bytes;
 
 /// What a top call answers.
 #[derive(Clone, Copy, Debug, PartialEq, Eq)]

@@ -15,8 +15,6 @@ use block_core::{BlockCore, Progress, Stage};
 use envelope::Tag;
 use wire_values::{Value, Words};
 use std::alloc::{AllocError, Global};
-use store_model::Reply;
-use wire_values::Words;
 
 /// The acknowledgement of a message by its tag, one transaction on the table and its index.
 pub type EndCore = BlockCore<EndStage, Acked>;

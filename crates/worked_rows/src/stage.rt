@@ -13,9 +13,6 @@ use place_model::{Entry, History, Place};
 use wire_values::Words;
 use std::alloc::{AllocError, Global};
 use std::process::Abort;
-use store_model::Reply;
-use store_words::is_within_limits;
-use wire_values::Words;
 
 /// A store, the history of its clients, and the names that rows have for byte strings.
 #[derive(Drop)]
