@@ -1,7 +1,7 @@
 -- What the program's schedules determine.
 use Rattle.std.proofs.Common.{◌≡◌, true, length, ◌≤◌, refl, subst, arith}
 use Rattle.command_blocks.specs.EnvelopeTexts.{plain_setting, texts}
-use Rattle.place_model.specs.Histories.{History}
+use Rattle.place_model.specs.Histories.{History, after}
 use Rattle.queue_keys.specs.Layouts.{is_layout, plain}
 use Rattle.queue_keys.specs.Names.{Bytes, same}
 use Rattle.place_model.specs.Starts.{IsSound}
@@ -52,3 +52,7 @@ whole_sound bytes d e = (subst (IsSoundlyDetermined plain_setting) e (sound byte
 -- and its messages are in their places
 pub whole_placed : (bytes : Bytes) (d : Desk) → schedule_run program_craft bytes ≡ Whole d → IsEachPlaced (history_of d)
 whole_placed bytes d e = placed (history_of d) (whole_sound bytes d e)
+
+-- and it leaves the desk's store
+pub whole_store : (bytes : Bytes) (d : Desk) → schedule_run program_craft bytes ≡ Whole d → (after (history_of d)).store ≡ d.store
+whole_store bytes d e = (subst (IsSoundlyDetermined plain_setting) e (sound bytes)).store

@@ -11,6 +11,7 @@ use letters::Letters;
 use mini_store::Store;
 use place_index::{places_beside, store_after};
 use place_model::History;
+use schedule_world::Ran;
 use std::alloc::{AllocError, Global};
 use wire_values::Bytes;
 
@@ -22,8 +23,21 @@ pub fn report(alloc: Global, history: &History) -> Result<Bytes, AllocError>
     report_beside(alloc, Letters::new(alloc), history, store)
 }
 
-/// The same, beside what is known of texts, and the store that the history leaves.
-pub fn report_beside(
+/// The report of the history that a schedule's run leaves, beside its store and what is known of its texts.
+pub fn report_ran(alloc: Global, ran: Ran) -> Result<Bytes, AllocError>
+    requires { ran.store.state ≡ (after (history_of ran.history)).store }
+    ensures { IfOk result (λ text. text ≡ report_text program_legend (history_of ran.history)) }
+{
+    let Ran {
+        history,
+        store,
+        letters,
+    } = ran;
+    report_beside(alloc, letters, &history, store)
+}
+
+/// The report of a history that leaves this store, beside what is known of its texts.
+fn report_beside(
     alloc: Global,
     mut letters: Letters,
     history: &History,

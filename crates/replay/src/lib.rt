@@ -8,10 +8,10 @@ mod note_text;
 mod place_text;
 mod report_lines;
 
-pub use history_report::{report, report_beside};
+pub use history_report::{report, report_ran};
 pub use legend::{Celery, Lettered};
 pub use report_lines::report_of;
-pub use schedule_world::{LineFault, RunFault, World, run_schedule};
+pub use schedule_world::{LineFault, Ran, RunFault, World, run_schedule, run_whole};
 
 #[cfg(test)]
 mod tests;

@@ -3,12 +3,12 @@ use Rattle.std.proofs.Common.{◌≡◌, ℕ, ◌+◌, ◌∙◌, Bool, true, fa
 use Rattle.std.specs.Borrow.{Bor}
 use Rattle.line_text.specs.Lines.{numbered, text_fault}
 use Rattle.queue_keys.specs.Names.{Bytes}
-use Rattle.place_model.specs.declared.history.History as code
 use Rattle.schedule_model.specs.Desk.{Desk, first_desk}
 use Rattle.schedule_model.specs.Faults.{Craft}
 use Rattle.schedule_model.specs.Schedules.{Led, Went, Filled, header_led, header_on, last_led, led_on, line_led, lines_led}
 use Rattle.schedule_model.specs.Schedules as schedules
-use Rattle.schedule_world.specs.Runs.{IsRun, from_present, numbered_led}
+use Rattle.schedule_world.specs.Runs.{HasRun, from_present, numbered_led}
+use Rattle.schedule_world.specs.declared.run.Ran.{Ran}
 use Rattle.schedule_world.specs.declared.run.RunFault.{RunFault}
 
 -- how it goes on depends on what the desks determine
@@ -72,14 +72,14 @@ past_else true flag more p r = absurd (cc)
 past_else false flag more p r = r
 
 -- the answer of the lines behind the header is that of the text
-pub behind_header : (κ : Craft) (cut flag : Bool) (d : Desk) (first : Option (ℕ × Bor Bytes)) (mid rest : List (ℕ × Bytes)) (ls : List Bytes) (n : ℕ) (h : Bytes) (result : Result code.History RunFault)
+pub behind_header : (κ : Craft) (cut flag : Bool) (d : Desk) (first : Option (ℕ × Bor Bytes)) (mid rest : List (ℕ × Bytes)) (ls : List Bytes) (n : ℕ) (h : Bytes) (result : Result Ran RunFault)
     → numbered 1 ls ≡ (n, h) ∷ mid → MatchOption first ((mid ≡ []) × (rest ≡ [])) (λ x. mid ≡ (x.0, x.1.now) ∷ rest) → flag ≡ is_past cut (from_present first rest)
-    → last_led flag (header_led h (text_fault 65536 h)) ≡ Went first_desk → d ≡ first_desk → IsRun (numbered_led κ cut d (from_present first rest)) result → IsRun (header_on κ cut ls) result
+    → last_led flag (header_led h (text_fault 65536 h)) ≡ Went first_desk → d ≡ first_desk → HasRun (numbered_led κ cut d (from_present first rest)) result → HasRun (header_on κ cut ls) result
 behind_header κ cut flag d first mid rest ls n h result is given past went fresh run =
     let left = past_present first mid rest given in
     let ahead : numbered 1 ls ≡ (n, h) ∷ from_present first rest = is ∙ ap (λ m. (n, h) ∷ m) left in
     let same = header_went κ cut ls n h (from_present first rest) ahead (subst (λ b. last_led b (header_led h (text_fault 65536 h)) ≡ Went first_desk) past went) in
-    subst (λ r. IsRun r result) (ap (λ e. numbered_led κ cut e (from_present first rest)) fresh ∙ sym same) run
+    subst (λ r. HasRun r result) (ap (λ e. numbered_led κ cut e (from_present first rest)) fresh ∙ sym same) run
 
 -- ---- what is read of an input
 

@@ -7,6 +7,7 @@ use Rattle.place_model.specs.declared.history.History as code
 use Rattle.line_text.specs.declared.reason.Reason.{Reason}
 use Rattle.schedule_world.specs.declared.fault.LineFault.{LineFault}
 use Rattle.schedule_world.specs.declared.fault.LineFault.TheVariants as line
+use Rattle.schedule_world.specs.declared.run.Ran.{Ran}
 use Rattle.schedule_world.specs.declared.run.RunFault.{RunFault}
 use Rattle.schedule_world.specs.declared.run.RunFault.TheVariants.{Bad, Full, Memory}
 use Rattle.schedule_model.specs.Desk.{Desk, first_desk}
@@ -22,6 +23,18 @@ IsRun r (Ok h) = (d : Desk) × (r ≡ Whole d) × (schedules.history_of d ≡ hi
 IsRun r (Err (Bad b)) = r ≡ Bad_line b.line b.reason
 IsRun r (Err (Full n cost)) = r ≡ schedules.Full n cost
 IsRun r (Err Memory) = Unit {0}
+
+-- the same of a run's end, whose store is that of the desk
+abbrev pub HasRun : Determined → Result Ran RunFault → Type 0
+HasRun r (Ok ran) = (d : Desk) × (r ≡ Whole d) × (schedules.history_of d ≡ history_of ran.history) × (d.store ≡ ran.store.state)
+HasRun r (Err (Bad b)) = r ≡ Bad_line b.line b.reason
+HasRun r (Err (Full n cost)) = r ≡ schedules.Full n cost
+HasRun r (Err Memory) = Unit {0}
+
+-- the history of a run's end
+abbrev pub history_alone : Result Ran RunFault → Result code.History RunFault
+history_alone (Ok ran) = Ok ran.history
+history_alone (Err fault) = Err fault
 
 -- the history that the schedule determines, its first bad line, or the numbers of a full history
 abbrev pub IsAnswer : Bytes → Result code.History RunFault → Type 0

@@ -22,5 +22,5 @@ mod world;
 
 pub use fault::LineFault;
 pub use line::line_of;
-pub use run::{RunFault, run_schedule};
+pub use run::{Ran, RunFault, run_schedule, run_whole};
 pub use world::World;

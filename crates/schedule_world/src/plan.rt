@@ -15,7 +15,8 @@ ghost use Rattle.schedule_world.specs.Plans.{IsBuiltBlock, IsPrepared};
 use crate::LineFault;
 use crate::left::Left;
 use crate::task::{Publication, arguments, sealed};
-use envelope::{Envelope, Tag, write};
+use envelope::{Envelope, Tag};
+use letters::Letters;
 use line_text::Reason;
 use queue_keys::{NameFault, QueueName, is_reserved};
 use wire_values::{Bytes, List, Words};
@@ -35,6 +36,7 @@ pub(crate) struct Begun {
 /// `Bad` with the first reason that holds; `Memory` is want of memory, or of a tag that the client could draw.
 pub(crate) fn prepared(
     alloc: Global,
+    letters: &mut Letters,
     seed: u64,
     drawn: u64,
     asked: Asked,
@@ -52,6 +54,7 @@ pub(crate) fn prepared(
         } => {
             publication(
                 alloc,
+                letters,
                 seed,
                 drawn,
                 &exchange,
@@ -74,6 +77,7 @@ pub(crate) fn prepared(
 /// A publication on the empty exchange.
 fn publication(
     alloc: Global,
+    letters: &mut Letters,
     seed: u64,
     drawn: u64,
     exchange: &Bytes,
@@ -107,21 +111,21 @@ fn publication(
     let Some(envelope) = sealed(alloc, seed, counter, &asked, &tree)? else {
         return Err(LineFault::Bad(Reason::Task));
     };
-    let left = sent(alloc, envelope)?;
+    let left = sent(alloc, letters, envelope)?;
     Ok(Begun {
         left,
         drawn: counter,
     })
 }
 
-/// An envelope on its way to its queue.
-fn sent(alloc: Global, envelope: Envelope) -> Result<Left, AllocError>
+/// An envelope on its way to its queue, which is noted.
+fn sent(alloc: Global, letters: &mut Letters, envelope: Envelope) -> Result<Left, AllocError>
     requires exchange { (parts_in (data_of envelope)).exchange ≡ [] }
     requires queue { is_name (parts_in (data_of envelope)).routing_key ≡ true }
     ensures { IfOk result (λ left. script_left left ≡ publish_script plain_setting (envelope_text envelope)) }
 {
-    // What is written is read again as the same tree.
-    let _text = write(alloc, &envelope)?;
+    letters.note(alloc, &envelope)?;
+    let _text = envelope.text();
     Left::publication(alloc, envelope)
 }
 

@@ -3,17 +3,20 @@ ghost use Rattle.std.specs.Prelude.{◌≡◌, IfOk};
 ghost use Rattle.line_text.specs.Lines.{lines_of, text_fault};
 ghost use Rattle.line_text.specs.LinesLeft.{lines_left};
 ghost use Rattle.command_blocks.specs.EnvelopeTexts.{plain_setting};
+ghost use Rattle.place_model.specs.Histories.{after};
 ghost use Rattle.place_model.specs.Shown.{history_of};
 ghost use Rattle.place_model.specs.Starts.{IsSound};
 ghost use Rattle.schedule_model.specs.Desk.{first_desk};
 ghost use Rattle.schedule_model.specs.Programs.{program_craft};
 ghost use Rattle.schedule_model.specs.Schedules.{header_led, header_on, last_led};
 ghost use Rattle.schedule_world.specs.Desks.{desk_of};
-ghost use Rattle.schedule_world.specs.Runs.{IsAnswer, IsEachPlaced, IsHeaderTold, IsRun, fault_at, from_present, numbered_led};
+ghost use Rattle.schedule_world.specs.Runs.{HasRun, IsAnswer, IsEachPlaced, IsHeaderTold, fault_at, from_present, history_alone, numbered_led};
 ghost use Rattle.schedule_world.specs.declared.run.RunFault.TheVariants.{Bad};
 
 use crate::{LineFault, World};
+use letters::Letters;
 use line_text::{BadLine, INPUT_LIMIT, LINE_LIMIT, Lines, Reason, line_text};
+use mini_store::Store;
 use place_model::History;
 use std::alloc::Global;
 
@@ -28,6 +31,17 @@ pub enum RunFault {
     Memory,
 }
 
+/// What a schedule's run leaves: its history, the store after it, and what is known of texts of the history.
+#[derive(Drop)]
+pub struct Ran {
+    /// The history.
+    pub history: History,
+    /// The store that the history leaves.
+    pub store: Store,
+    /// What texts of the history spell.
+    pub letters: Letters,
+}
+
 /// The history that a schedule determines. Of one that is longer than 67,108,864 bytes no more is read than one byte
 /// past that limit; the line that holds this byte is too long.
 ///
@@ -39,6 +53,22 @@ pub fn run_schedule(alloc: Global, bytes: &[u8]) -> Result<History, RunFault>
     ensures sound { IfOk result (λ h. IsSound plain_setting (history_of h)) }
     ensures placed { IfOk result (λ h. IsEachPlaced (history_of h)) }
 {
+    match run_whole(alloc, bytes) {
+        Ok(ran) => Ok(ran.history),
+        Err(fault) => Err(fault),
+    }
+}
+
+/// The same, with the store that the history leaves, and what is known of its texts.
+///
+/// # Errors
+/// As `run_schedule`.
+pub fn run_whole(alloc: Global, bytes: &[u8]) -> Result<Ran, RunFault>
+    ensures answer { IsAnswer bytes.now (history_alone result) }
+    ensures sound { IfOk result (λ ran. IsSound plain_setting (history_of ran.history)) }
+    ensures placed { IfOk result (λ ran. IsEachPlaced (history_of ran.history)) }
+    ensures store { IfOk result (λ ran. ran.store.state ≡ (after (history_of ran.history)).store) }
+{
     let is_cut = INPUT_LIMIT < bytes.len();
     let text = if is_cut {
         &bytes[..INPUT_LIMIT + 1]
@@ -49,9 +79,9 @@ pub fn run_schedule(alloc: Global, bytes: &[u8]) -> Result<History, RunFault>
 }
 
 /// The lines of a text, the header first, taken by a world before its first line.
-fn text_run(alloc: Global, world: World, is_cut: bool, text: &[u8]) -> Result<History, RunFault>
+fn text_run(alloc: Global, world: World, is_cut: bool, text: &[u8]) -> Result<Ran, RunFault>
     requires { desk_of world ≡ first_desk }
-    ensures { IsRun (header_on program_craft is_cut (lines_of text.now)) result }
+    ensures { HasRun (header_on program_craft is_cut (lines_of text.now)) result }
 {
     let mut lines = Lines::new(text);
     let Some((_, header)) = lines.next() else {
@@ -92,8 +122,8 @@ fn lines_run<'a>(
     is_cut: bool,
     first: Option<(u64, &'a [u8])>,
     mut lines: Lines<'a>,
-) -> Result<History, RunFault>
-    ensures { IsRun (numbered_led program_craft is_cut (desk_of world) (from_present first.entry (lines_left lines.entry))) result }
+) -> Result<Ran, RunFault>
+    ensures { HasRun (numbered_led program_craft is_cut (desk_of world) (from_present first.entry (lines_left lines.entry))) result }
 {
     let mut present = first;
     while let Some((number, line)) = present {
@@ -105,7 +135,7 @@ fn lines_run<'a>(
             return Err(run_fault(number, fault));
         }
     }
-    Ok(world.into_history())
+    Ok(world.into_ran())
 }
 
 /// The fault of a line, as one of the schedule.

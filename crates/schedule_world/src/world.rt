@@ -2,6 +2,7 @@
 ghost use Rattle.place_model.specs.Shown.{history_of};
 ghost use Rattle.schedule_world.specs.Running.{AreKnown};
 
+use crate::run::Ran;
 use crate::LineFault;
 use crate::book::{Book, Books};
 use crate::built::waits;
@@ -9,6 +10,7 @@ use crate::left::Left;
 use crate::line::line_of;
 use crate::past::Past;
 use crate::plan::prepared;
+use letters::Letters;
 use line_text::{LINE_LIMIT, MOMENT_LIMIT, Reason, line_text, words};
 use place_model::History;
 use schedule_model::{Asked, Line};
@@ -21,6 +23,7 @@ use std::alloc::Global;
 pub struct World {
     past: Past,
     books: Books,
+    letters: Letters,
     ghost known: { AreKnown books (history_of past.history).clients },
 }
 
@@ -46,6 +49,7 @@ impl World {
         World {
             past: Past::new(alloc),
             books: Books::new(alloc),
+            letters: Letters::new(alloc),
         }
     }
 
@@ -69,6 +73,19 @@ impl World {
         ensures { history_of result ≡ schedules.history_of (desk_of self) }
     {
         self.past.history
+    }
+
+    /// The history so far, the store that answered, and what is known of texts.
+    pub(crate) fn into_ran(self) -> Ran
+        ensures history { history_of result.history ≡ schedules.history_of (desk_of self) }
+        ensures store { result.store.state ≡ (desk_of self).store }
+    {
+        let Past { history, store, .. } = self.past;
+        Ran {
+            history,
+            store,
+            letters: self.letters,
+        }
     }
 
     /// Takes the words of a line.
@@ -149,7 +166,7 @@ impl World {
         ensures { IsTold (led_by program_craft (desk_of self.old) (Some (Begin client asked))) (desk_of self.old) (desk_of self.new) result }
     {
         let (seed, drawn) = self.books.resting(client)?;
-        let begun = prepared(alloc, seed, drawn, asked)?;
+        let begun = prepared(alloc, &mut self.letters, seed, drawn, asked)?;
         self.books.set(
             client,
             Book {

@@ -12,7 +12,7 @@ use crate::ending::{End, Ended};
 use crate::words::bad_word;
 use line_text::INPUT_LIMIT;
 use links::{ReadEnd, Sink, Source, read_to_end, write_all};
-use replay::{RunFault, report, run_schedule};
+use replay::{RunFault, report_ran, run_whole};
 use std::alloc::Global;
 
 /// Runs the program that the words name, over a source and a sink.
@@ -106,8 +106,8 @@ fn judge<S: Source>(alloc: Global, words: &[&str], src: &mut S) -> End
 fn replayed(alloc: Global, schedule: &[u8]) -> End
     ensures { EndsAs schedule.now result }
 {
-    match run_schedule(alloc, schedule) {
-        Ok(history) => match report(alloc, &history) {
+    match run_whole(alloc, schedule) {
+        Ok(ran) => match report_ran(alloc, ran) {
             Ok(text) => End::Reported(text),
             Err(_) => End::Memory,
         },

@@ -4,4 +4,4 @@ use Rattle.top_call.proofs.node.replayed.Goals as goal
 
 pub returns-in-Ok-report : goal.returns-in-Ok-report
 returns-in-Ok-report c =
-    report_of c.args.schedule.now c.in-Ok-report.text (history_of c.in-Ok.history) c.in-Ok.ensures.answer c.in-Ok-report.ensures
+    report_of c.args.schedule.now c.in-Ok-report.text (history_of c.in-Ok.ran.history) c.in-Ok.ensures.answer c.in-Ok-report.ensures
