@@ -1,5 +1,5 @@
 //! Entries of the table of messages that are not acknowledged yet: an envelope beside where it was sent.
-ghost use Rattle.std.specs.Prelude.{◌≡◌, [], ◌∷◌, ◌++◌, IfOk, OnOk, Ok, option_map};
+ghost use Rattle.std.specs.Prelude.{◌≡◌, [], ◌∷◌, ◌++◌, IfOk, IsUtf8, OnOk, Ok, option_map};
 ghost use Rattle.serde_json.specs.Data.{string};
 ghost use Rattle.serde_json.specs.View.{items_view, view as data_of};
 ghost use Rattle.serde_json.specs.Written.{compact_text};
@@ -73,7 +73,8 @@ pub fn write_entry(alloc: Global, e: &Envelope) -> Result<Bytes, AllocError>
 
 /// A text as it stands in JSON.
 fn quoted(alloc: Global, text: &str) -> Result<Bytes, AllocError>
-    ensures { IfOk result (λ b. b ≡ compact_text (string text.now)) }
+    ensures text { IfOk result (λ b. b ≡ compact_text (string text.now)) }
+    ensures utf8 { IfOk result (λ b. IsUtf8 b) }
 {
     let value = Value::String(String::from_str(alloc, text)?);
     Ok(Bytes::from_vec(value.to_vec(alloc)?))

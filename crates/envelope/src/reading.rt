@@ -91,20 +91,20 @@ pub fn of_tree(alloc: Global, tree: Tree) -> Result<Envelope, EnvelopeFault>
     let (text, size) = sized_text(alloc, &tree)?;
     want(size <= MAX_BYTES, EnvelopeFault::TooLong)?;
     want(fits_marked(alloc, &tree, size)?, EnvelopeFault::TooLong)?;
-    Ok(Envelope::whole(tree, found, text))
+    Ok(Envelope::whole(tree, found, Bytes::from_vec(text)))
 }
 
 /// A tree's compact text, and its length.
-fn sized_text(alloc: Global, tree: &Value) -> Result<(Bytes, usize), AllocError>
+fn sized_text(alloc: Global, tree: &Value) -> Result<(Vec<u8>, usize), AllocError>
     ensures size { IfOk result (λ p. has_float (data_of tree.now) ≡ false
         → p.1 ≡ length (compact_text (data_of tree.now))) }
     ensures text { IfOk result (λ p. has_float (data_of tree.now) ≡ false
-        → p.0 ≡ compact_text (data_of tree.now)) }
-    ensures utf8 { IfOk result (λ p. IsUtf8 p.0) }
+        → p.0.items ≡ compact_text (data_of tree.now)) }
+    ensures utf8 { IfOk result (λ p. IsUtf8 p.0.items) }
     ensures back { IfOk result (λ p. depth (data_of tree.now) ≤ max_depth
-        → json_in p.0 ≡ Some (data_of tree.now)) }
+        → json_in p.0.items ≡ Some (data_of tree.now)) }
 {
-    let text = text_of(alloc, tree)?;
+    let text = tree.to_vec(alloc)?;
     let size = text.len();
     Ok((text, size))
 }
