@@ -13,8 +13,8 @@ returns c = record {
   pushes = λ t. c.in_ok-pushes.ensures t ∙ ap (λ ns. tally (times t ns)) (c.as_slice.ensures ∙ ap (λ (w : Walk). w.pushes) c.in_ok-walk.ensures);
   ended = λ t. c.in_ok-ended.ensures t ∙ ap (λ ns. tally (times t ns)) (c.as_slice-2.ensures ∙ ap (λ (w : Walk). w.ended) c.in_ok-walk.ensures);
   copied = λ t. c.in_ok-copied.ensures t ∙ ap (λ ns. tally (times t ns)) (c.as_slice-3.ensures ∙ ap (λ (w : Walk). w.copied) c.in_ok-walk.ensures);
-  standing = λ t. c.in_ok-standing.ensures t ∙ ap (first_of t) (c.in_ok-told_by.ensures ∙ ap (λ m. told_by plain_setting (entries m)) (c.keys.ensures ∙ ap (λ (s : State). s.keys) c.in_ok-store.ensures));
+  standing = λ t. c.in_ok-standing.ensures t ∙ ap (first_of t) (c.in_ok-told_by.ensures ∙ ap (λ m. told_by plain_setting (entries m)) (c.keys.ensures ∙ ap (λ (s : State). s.keys) c.requires));
   in_hands = λ t. c.in_ok-hands-2.ensures t ∙ ap (first_of t) (c.in_ok-hands.ensures ∙ ap (λ (w : Walk). hands false (entries w.seats)) c.in_ok-walk.ensures);
   lost = λ t. c.in_ok-losses.ensures t ∙ ap (first_of t) (c.in_ok-hands-3.ensures ∙ ap (λ (w : Walk). hands true (entries w.seats)) c.in_ok-walk.ensures);
-  store = c.in_ok-store.ensures;
+  store = c.requires;
 }
