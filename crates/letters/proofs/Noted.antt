@@ -4,6 +4,7 @@ use Rattle.std.specs.Prelude.{OnErr, OnOk}
 use Rattle.std.specs.Ordering.{eq_by_cmp}
 use Rattle.std.specs.FinMap.{FinMap, empty, get, get-empty, get-insert, insert}
 use Rattle.std.proofs.Math.Logic.{∥∥₁_elim}
+use Rattle.std.proofs.Props.{props}
 use Rattle.wire_values.specs.Order.{bytes_cmp}
 use Rattle.store_tables.proofs.Lookups.{tied_same}
 use Rattle.store_tables.proofs.Maps.{bytes_total, bytes_anti}
@@ -27,7 +28,7 @@ right_more m k v h is b l e = go (eq_by_cmp bytes_cmp b k) refl (sym (get-insert
 
 -- what is kept is right
 pub right_each : (m : FinMap bytes_cmp Letter) → ∥ AreRight m ∥₁ → AreRight m
-right_each m h = λ b l e. ∥∥₁_elim h (hlevel) (λ r. r b l e)
+right_each m h = λ b l e. ∥∥₁_elim h (hlevel props) (λ r. r b l e)
 
 -- it stays so, whether there was memory or not
 pub right_put : {A E : Type 0} (r : Result A E) (m n : FinMap bytes_cmp Letter) (k : List ℕ) (v : Letter) → ∥ AreRight m ∥₁ → letter_of k ≡ Some v

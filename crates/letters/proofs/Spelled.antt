@@ -1,5 +1,5 @@
 -- What the texts of envelopes and of their entries spell.
-use Rattle.std.proofs.Common.{◌≡◌, ℕ, List, false, codes, Option, Some, None, Result, Ok, Err, refl, sym, ◌∙◌}
+use Rattle.std.proofs.Common.{◌≡◌, ℕ, List, false, codes, Option, Some, None, Result, Ok, Err, refl, sym, ap, ◌∙◌}
 use Rattle.serde_json.specs.Data.{Data, null, boolean, number, string, array, object}
 use Rattle.envelope.specs.Entries.{Entry, entry_at, entry_in}
 use Rattle.envelope.specs.Envelopes.{envelope_at, parts_in}
