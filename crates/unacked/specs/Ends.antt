@@ -6,7 +6,7 @@ use Rattle.command_blocks.specs.Answers.{is_one, integers}
 use Rattle.command_blocks.specs.Calls.{Call}
 use Rattle.command_blocks.specs.Cores.{is_saying}
 use Rattle.command_blocks.specs.EnvelopeTexts.{plain_setting}
-use Rattle.command_blocks.specs.Scripts.{End, Plan, Script}
+use Rattle.command_blocks.specs.Scripts.{End, Script}
 use Rattle.block_core.specs.Cores.{HasHad, core_left}
 use Rattle.block_core.specs.declared.block.BlockCore.{BlockCore}
 use Rattle.unacked.specs.Steps.{steps_left}

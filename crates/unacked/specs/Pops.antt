@@ -15,12 +15,12 @@ use Rattle.command_blocks.specs.Calls.{Call}
 use Rattle.command_blocks.specs.Cores.{is_saying}
 use Rattle.command_blocks.specs.EnvelopeTexts.{plain_setting}
 use Rattle.queue_keys.specs.Names.{Bytes}
-use Rattle.command_blocks.specs.Scripts.{Plan, Pop, Script, pop_script}
+use Rattle.command_blocks.specs.Scripts.{Pop, Script, pop_script}
 use Rattle.block_core.specs.Cores.{HasHad, core_left}
 use Rattle.block_core.specs.declared.block.BlockCore.{BlockCore}
 use Rattle.block_core.specs.declared.stage.Progress.{Progress}
 use Rattle.block_core.specs.declared.stage.Progress.TheVariants as progress
-use Rattle.unacked.specs.Queues.{AreSome}
+use Rattle.unacked.specs.Queues.{are_some}
 use Rattle.unacked.specs.Steps.{steps_left}
 use Rattle.unacked.specs.declared.pop.Delivery.{Delivery}
 use Rattle.unacked.specs.declared.pop.PopEnd.{PopEnd}
@@ -128,8 +128,8 @@ steps_say d Index = refl
 steps_say d Table = refl
 steps_say d Run = refl
 
-names_say : (names : List Bytes) → AreSome names → is_saying (pop_script plain_setting names) ≡ true
-names_say [] h = absurd h
+names_say : (names : List Bytes) → are_some names ≡ true → is_saying (pop_script plain_setting names) ≡ true
+names_say [] h = h
 names_say (q ∷ qs) h = refl
 
 pub popping_says : (at : Popping) → is_saying (popping_left at) ≡ true

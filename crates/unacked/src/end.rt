@@ -13,8 +13,8 @@ use crate::step::{Course, Step};
 use crate::words::{one_word, three_words};
 use block_core::{BlockCore, Progress, Stage};
 use envelope::Tag;
-use wire_values::{Value, Words};
 use std::alloc::{AllocError, Global};
+use wire_values::{Value, Words};
 
 /// The acknowledgement of a message by its tag, one transaction on the table and its index.
 pub type EndCore = BlockCore<EndStage, Acked>;

@@ -16,11 +16,11 @@ use crate::queues::Queues;
 use crate::step::{Course, Step};
 use crate::words::{decimal_text, four_words, one_word};
 use block_core::{BlockCore, Progress, Stage};
-use envelope::{Envelope, EnvelopeFault, read, write_entry};
 use command_blocks::answer::{is_null_array, pair};
+use envelope::{Envelope, EnvelopeFault, read, write_entry};
 use queue_keys::{QueueName, pop_keys};
-use wire_values::{Bytes, List, Value, Words};
 use std::alloc::{AllocError, Global};
+use wire_values::{Bytes, List, Value, Words};
 
 /// A pop of some queues, which BRPOP begins; a message that it gives goes into the table and its index by one
 /// transaction.
