@@ -3,11 +3,11 @@
 ghost use Rattle.std.specs.Prelude.{◌≡◌, IfOk};
 ghost use Rattle.command_blocks.specs.declared.block.CoreFault.TheVariants.{Memory, Refused};
 
-use queue_keys::NameFault;
 use envelope::{Envelope, EnvelopeFault, Tag};
+use queue_keys::NameFault;
+use std::alloc::{AllocError, Global};
 use store_model::Reply;
 use wire_values::{Bytes, copy_values};
-use std::alloc::{AllocError, Global};
 
 /// The end of a queue's list to which a message returns.
 #[derive(Clone, Copy, Debug)]

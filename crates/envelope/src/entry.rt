@@ -11,9 +11,9 @@ use crate::envelope::Envelope;
 use crate::fault::EnvelopeFault;
 use crate::find::want;
 use crate::reading::{fit_names, json, of_tree};
-use wire_values::Bytes;
 use serde_json::{Value, json};
 use std::alloc::{AllocError, Global};
+use wire_values::Bytes;
 
 /// The longest bytes of an entry.
 const MAX_ENTRY: usize = 1_048_576;

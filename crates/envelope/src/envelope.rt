@@ -8,10 +8,10 @@ ghost use Rattle.envelope.specs.Shown.{parts_view};
 
 use crate::marks::has_marks;
 use crate::tag::Tag;
-use wire_values::Bytes;
 use serde_json::Value;
 use std::alloc::{AllocError, Global};
 use std::marker::Model;
+use wire_values::Bytes;
 
 /// A JSON tree.
 pub type Tree = Value;

@@ -21,9 +21,9 @@ use crate::tag::Tag;
 use crate::walk::{holds_float, nests_within};
 use base64::DecodeAllocError;
 use base64::engine::general_purpose::STANDARD;
-use wire_values::Bytes;
 use serde_json::Value;
 use std::alloc::{AllocError, Global};
+use wire_values::Bytes;
 
 /// The longest bytes of an envelope, and of its compact text.
 const MAX_BYTES: usize = 1_040_000;

@@ -12,9 +12,9 @@ use crate::fault::EnvelopeFault;
 use crate::reading::of_tree;
 use crate::tag::Tag;
 use base64::engine::general_purpose::STANDARD;
-use wire_values::Bytes;
 use serde_json::{Value, json};
 use std::alloc::{AllocError, Global};
+use wire_values::Bytes;
 
 /// A message that is to be sealed in an envelope.
 #[derive(Debug, Drop)]

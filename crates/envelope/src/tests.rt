@@ -7,11 +7,11 @@ use crate::{
     Draft, EnvelopeFault, Field, Seed, Tag, of_tree, read, read_entry, redelivered, seal, write,
     write_entry,
 };
-use wire_values::Bytes;
 use serde_json::Value;
 use std::alloc::{AllocError, Global};
 use std::process::Abort;
 use std::test::Fail;
+use wire_values::Bytes;
 
 /// A message of `tasks.add` as Celery 5 writes it by Kombu's Redis transport.
 fn usual() -> &'static str {

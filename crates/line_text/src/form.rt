@@ -4,8 +4,8 @@
 ghost use Rattle.std.specs.Prelude.{◌≡◌, ◌∷◌, ◌++◌, ◌<◌, List, OnOk, ℕ};
 ghost use Rattle.line_text.specs.Forms.{escaped, hex_digit, quoted, value_form, value_text, words_text};
 
-use wire_values::{Bytes, Value};
 use std::alloc::{AllocError, Global};
+use wire_values::{Bytes, Value};
 
 /// A way to write bytes in a line.
 pub trait Form {

@@ -7,8 +7,8 @@ ghost use Rattle.line_text.specs.Short.{is_bare, is_plain, shaped, short_value, 
 ghost use Rattle.line_text.specs.declared.short.Shape.{Shape as Shaped};
 
 use crate::form::{Form, quoted, value_text, words_text};
-use wire_values::{Bytes, Value};
 use std::alloc::{AllocError, Global};
+use wire_values::{Bytes, Value};
 
 /// What bytes spell.
 #[derive(Clone, Copy, Debug, PartialEq, Eq, Drop)]

@@ -8,9 +8,9 @@ use crate::{
     number_in, quoted, quoted_words, rest_after, short_value, short_word, short_words, tag_in,
     value_form, words,
 };
-use wire_values::{Bytes, Value, Values};
 use std::alloc::{AllocError, Global};
 use std::test::Fail;
+use wire_values::{Bytes, Value, Values};
 
 /// A legend that knows three words.
 struct Three;

@@ -7,8 +7,8 @@ ghost use Rattle.links.specs.Memory.{MemorySourceView, read_count, read_fails, s
 
 use crate::counts::{fails_now, raise};
 use crate::{Failed, Source};
-use wire_values::Bytes;
 use std::marker::Model;
+use wire_values::Bytes;
 
 /// A source over bytes. Each read gives at most `piece` bytes; the k-th read, counted from 0, fails where k is
 /// in `fails`, and then moves nothing.

@@ -6,8 +6,8 @@ ghost use Rattle.links.specs.Ends.{HasReadEnd, IsWhole};
 ghost use Rattle.links.specs.Views.{source_view};
 
 use crate::{Failed, Sink, Source};
-use wire_values::Bytes;
 use std::alloc::{AllocError, Global};
+use wire_values::Bytes;
 
 /// How many bytes one read asks for at most.
 const PIECE: usize = 65_536;

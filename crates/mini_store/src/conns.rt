@@ -7,15 +7,15 @@ ghost use Rattle.std.specs.FinMap as map;
 ghost use Rattle.std.specs.Ordering.{nat_cmp};
 ghost use Rattle.std.specs.Prelude.{◌≡◌, [], ◌∷◌, ◌++◌, IfOk, IsTrue, None, OnOk, is_some, length, map as mapped};
 
-use store_keys::keyspace::Keyspace;
-use store_model::{Command, Conn, Queue};
-use wire_values::{Bytes, Value, Values};
 use sqlite_items::Items;
 use std::alloc::{AllocError, Global};
 use std::collections::BTreeMap;
 use std::marker::Model;
 use std::mem;
+use store_keys::Keyspace;
+use store_model::{Command, Conn, Queue};
 use store_tables::Deque;
+use wire_values::{Bytes, Value, Values};
 
 /// The connections by their numbers, seen by contracts as a finite map.
 #[derive(Debug, Drop)]

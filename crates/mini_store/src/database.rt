@@ -9,18 +9,18 @@ ghost use Rattle.std.specs.FinMap.{insert, remove};
 ghost use Rattle.std.specs.Prelude.{◌≡◌, ◌<◌, ◌^◌, [], ◌∷◌, ◌++◌, ℕ, IfOk, IsTrue, None, OnOk, Some, bytes_eq, codes, false, is_some, length, map as mapped, nat_lt, true};
 
 use crate::conns::Connections;
-use store_keys::effect::{error, number, pair, status};
-use store_words::integer::natural;
-use store_keys::keyspace::Keyspace;
 use crate::run::{fault_answer, is_queued, run};
-use store_words::words::{command_of, upper_byte};
-use store_model::{Command, Conn, Queue, Reply};
-use wire_values::{Bytes, Value, Values, Words};
 use sqlite_items::Items;
 use std::alloc::{AllocError, Global};
 use std::marker::Model;
 use std::mem;
+use store_keys::Keyspace;
+use store_keys::effect::{error, number, pair, status};
+use store_model::{Command, Conn, Queue, Reply};
 use store_tables::Deque;
+use store_words::integer::natural;
+use store_words::{command_of, upper_byte};
+use wire_values::{Bytes, Value, Values, Words};
 
 /// The keys and the connections.
 #[derive(Debug, Drop)]

@@ -8,12 +8,11 @@ ghost use Rattle.std.specs.FinMap.{entries};
 ghost use Rattle.std.specs.Prelude.{◌≡◌, ◌<◌, ◌^◌, [], IfOk, OnOk};
 
 use crate::conns::Connections;
+use std::alloc::{AllocError, Global};
 use store_keys::effect::{Effect, error, number, status};
-use store_keys::keyspace::Keyspace;
-use store_keys::{hashes, lists, sets, sorted_sets, texts};
+use store_keys::{Keyspace, hashes, lists, sets, sorted_sets, texts};
 use store_model::{Command, Fault};
 use wire_values::{Bytes, Value};
-use std::alloc::{AllocError, Global};
 
 /// The answer to a faulty spelling.
 pub fn fault_answer(alloc: Global, fault: Fault) -> Result<Value, AllocError>

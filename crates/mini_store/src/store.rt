@@ -4,11 +4,11 @@ ghost use Rattle.store_model.specs.Words.{IsWithinLimits};
 ghost use Rattle.std.specs.Prelude.{◌≡◌, ◌<◌, ◌^◌, IfOk, IsErr, IsTrue, OnErr, OnOk, false, true};
 
 use crate::database::Database;
+use std::alloc::{AllocError, Global};
+use std::marker::Model;
 use store_keys::Keyspace;
 use store_model::Reply;
 use wire_values::Words;
-use std::alloc::{AllocError, Global};
-use std::marker::Model;
 
 /// A store of texts, lists, sets, hashes and sorted sets under keys, shared by connections that are told by their
 /// numbers. Contracts see its state, and whether it is spent.

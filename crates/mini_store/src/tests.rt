@@ -1,10 +1,10 @@
 //! The commands by words against replies written by hand from Redis' command pages and the store's own rules.
 use crate::Store;
-use store_words::is_within_limits;
-use wire_values::{Bytes, Value, Words};
 use std::alloc::{AllocError, Global};
 use std::process::Abort;
 use std::test::Fail;
+use store_words::is_within_limits;
+use wire_values::{Bytes, Value, Words};
 
 mod limits;
 

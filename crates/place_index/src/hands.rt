@@ -7,9 +7,9 @@ ghost use Rattle.place_index.specs.Gathered.{hand_if, hands};
 
 use crate::numbered::Numbered;
 use crate::seat::Seat;
-use wire_values::List;
 use std::alloc::{AllocError, Global};
 use std::collections::BTreeMap;
+use wire_values::List;
 
 impl Numbered<Seat> {
     /// The messages in the hands of clients that are gone, or that aren't, with their connections, in order.

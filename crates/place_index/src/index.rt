@@ -6,10 +6,10 @@ use crate::standing::{Standing, told_by};
 use crate::stored::store_after;
 use crate::tagged::{Tagged, first_told, tallied};
 use crate::walk::gathered;
-use place_model::{History, Place};
 use mini_store::Store;
-use wire_values::List;
+use place_model::{History, Place};
 use std::alloc::{AllocError, Global};
+use wire_values::List;
 
 /// What a history tells of its messages.
 #[derive(Debug, Drop)]

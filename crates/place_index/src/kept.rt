@@ -7,10 +7,10 @@ ghost use Rattle.command_blocks.specs.EnvelopeTexts.{plain_setting};
 ghost use Rattle.place_index.specs.Kept.{is_kept};
 
 use envelope::Tag;
+use std::alloc::{AllocError, Global};
 use store_keys::Keyspace;
 use store_model::{Held, Stored};
 use wire_values::Bytes;
-use std::alloc::{AllocError, Global};
 
 /// Whether a message is a field of the table and a member of the table's index.
 pub(crate) fn is_kept(alloc: Global, keys: &Keyspace, number: u128) -> Result<bool, AllocError>

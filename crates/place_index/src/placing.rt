@@ -13,8 +13,8 @@ ghost use Rattle.place_model.specs.declared.heard.Heard.{Heard};
 
 use crate::index::Index;
 use crate::tagged::first_numbers;
-use place_model::{History, Place};
 use envelope::Tag;
+use place_model::{History, Place};
 use std::alloc::{AllocError, Global};
 
 /// The place of a tag after a history.

@@ -4,13 +4,13 @@ ghost use Rattle.std.specs.FinMap.{entries};
 ghost use Rattle.command_blocks.specs.EnvelopeTexts.{plain_setting};
 ghost use Rattle.place_index.specs.Gathered.{listed, number, told_at, told_by, told_under};
 
-use queue_keys::keys::split_key;
 use crate::told::message_of;
+use queue_keys::split_key;
+use std::alloc::{AllocError, Global};
 use store_keys::Keyspace;
 use store_model::{Held, Stored};
-use wire_values::{Bytes, List};
-use std::alloc::{AllocError, Global};
 use store_tables::Deque;
+use wire_values::{Bytes, List};
 
 /// A queue and a step.
 pub(crate) type Standing = (Bytes, u8);

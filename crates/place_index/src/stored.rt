@@ -10,8 +10,8 @@ ghost use Rattle.place_model.specs.Takable.{AreTakable, IsTakable};
 use crate::numbered::Numbered;
 use crate::seat::Seat;
 use crate::walk::seated;
-use place_model::{Entry, Heard, History};
 use mini_store::Store;
+use place_model::{Entry, Heard, History};
 use std::alloc::{AllocError, Global};
 
 /// The store after a history: each call of a client of the table is taken, and each stop of one leaves nothing of its

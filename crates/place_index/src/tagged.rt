@@ -5,10 +5,10 @@ ghost use Rattle.std.specs.Option.{option_copied};
 ghost use Rattle.place_index.specs.Gathered.{first_of, times};
 ghost use Rattle.place_index.specs.Tallies.{first_numbers, tally};
 
-use wire_values::List;
 use std::alloc::{AllocError, Global};
 use std::collections::BTreeMap;
 use std::marker::Model;
+use wire_values::List;
 
 /// A table from the numbers of delivery tags to values, seen by contracts as a finite map in the order of numbers.
 #[derive(Debug, Drop)]

@@ -5,15 +5,13 @@ ghost use Rattle.std.specs.Prelude.{IsTrue};
 ghost use Rattle.store_model.specs.Words.{IsWithinLimits};
 
 use crate::{place_of, places};
-
-use place_model::{Entry, History, Place};
-
-use queue_keys::{QueueName, pop_keys, queue_key};
 use envelope::Tag;
-use store_model::Reply;
-use wire_values::{Bytes, Value, Values, Words};
+use place_model::{Entry, History, Place};
+use queue_keys::{QueueName, pop_keys, queue_key};
 use std::alloc::{AllocError, Global};
 use std::test::Fail;
+use store_model::Reply;
+use wire_values::{Bytes, Value, Values, Words};
 
 /// A message as Celery writes it for the queue `celery`, with the tag of seed 7 and counter 1.
 fn message() -> &'static str {

@@ -5,15 +5,14 @@ ghost use Rattle.command_blocks.specs.EnvelopeTexts.{plain_setting};
 ghost use Rattle.place_index.specs.Gathered.{act_of, kind_of, number, only, push_one, take_one};
 ghost use Rattle.command_blocks.specs.Setting.{is_queue};
 
-use queue_keys::keys::split_key;
-use queue_keys::queue_name::are_same;
 use crate::seat::{Act, Kind};
 use envelope::{EnvelopeFault, Tag};
+use queue_keys::{are_same, split_key};
+use std::alloc::{AllocError, Global};
 use store_model::Command;
+use store_tables::Deque;
 use store_words::command_of;
 use wire_values::{Bytes, Words};
-use std::alloc::{AllocError, Global};
-use store_tables::Deque;
 
 /// What a command tells.
 #[derive(Clone, Copy, Debug)]

@@ -2,10 +2,10 @@
 ghost use Rattle.std.specs.Prelude.{◌≡◌, ◌++◌, not, filter, nat_le, drop, IfOk, OnOk};
 ghost use Rattle.place_index.specs.Gathered.{copied_by, copied_in, ended_by, ended_in, has, pushed, taken, taken_by, times};
 
-use command_blocks::answer::{is_one, items};
 use crate::seat::{Act, Kind};
-use wire_values::{List, Value};
+use command_blocks::answer::{is_one, items};
 use std::alloc::{AllocError, Global};
+use wire_values::{List, Value};
 
 /// Adds the messages that a call took out of the table and pushed nowhere.
 pub(crate) fn add_ended(

@@ -6,14 +6,14 @@ ghost use Rattle.place_index.specs.Gathered.{acts_after, gathered, hand_after, h
 ghost use Rattle.command_blocks.specs.Answers.{number_of, pair_of};
 ghost use Rattle.place_model.specs.Shown.{history_of};
 
-use command_blocks::answer::{integer, pair};
 use crate::numbered::Numbered;
 use crate::seat::{Act, Kind, Seat};
 use crate::told::{Told, is_queue, message_of, read_words};
 use crate::transaction::{add_copied, add_ended};
+use command_blocks::answer::{integer, pair};
 use place_model::{Entry, Heard, History};
-use wire_values::{List, Value};
 use std::alloc::{AllocError, Global};
+use wire_values::{List, Value};
 
 /// What was gathered, by the numbers of delivery tags.
 #[derive(Debug, Drop)]

@@ -3,9 +3,9 @@ ghost use Rattle.std.specs.Prelude.{◌≡◌, [], ◌∷◌, OnOk, OnErr};
 ghost use Rattle.place_model.specs.Takable.{AreTakable};
 
 use crate::Heard;
+use std::alloc::{AllocError, Global};
 use store_model::Reply;
 use wire_values::{List, Words};
-use std::alloc::{AllocError, Global};
 
 /// An entry of a history: a call of a connection, a note of its client, or its end. `N` is the type of notes.
 #[derive(Debug, Drop)]

@@ -6,8 +6,8 @@ ghost use Rattle.queue_keys.specs.QueueKeys.{if_name, keys_at, marked_step, mark
 
 use crate::QueueName;
 use crate::queue_name::{are_same, is_name};
-use wire_values::{Bytes, Words};
 use std::alloc::{AllocError, Global};
+use wire_values::{Bytes, Words};
 
 /// The step of a priority: the greatest of 0, 3, 6 and 9 that isn't above it (Kombu's `priority_steps`).
 pub fn step_of(priority: u8) -> u8

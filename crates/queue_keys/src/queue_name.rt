@@ -3,9 +3,9 @@ ghost use Rattle.std.specs.Prelude.{◌≡◌, true, IfOk, IfErr, None, is_none,
 ghost use Rattle.queue_keys.specs.Names.{has_end, has_front, index_name, is_free, is_name, is_reserved, mutex_name, same, unacked_name};
 ghost use Rattle.queue_keys.specs.NameFaults.{name_fault, told};
 
-use wire_values::Bytes;
 use std::alloc::{AllocError, Global};
 use std::marker::Model;
+use wire_values::Bytes;
 
 /// The first reason why a text is no queue's name, or want of memory.
 #[derive(Clone, Copy, Debug, PartialEq, Eq)]

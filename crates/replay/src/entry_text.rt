@@ -11,10 +11,10 @@ ghost use Rattle.schedule_model.specs.Reports.{entry_line, entry_lines, line, no
 
 use crate::note_text::note;
 use line_text::{Legend, short_value, short_word};
-use store_model::Reply;
 use place_model::{Entry, Heard};
-use wire_values::{Bytes, Value};
 use std::alloc::{AllocError, Global};
+use store_model::Reply;
+use wire_values::{Bytes, Value};
 
 /// Appends the lines of entries, the first of them numbered 1.
 pub(crate) fn entry_lines<L: Legend>(

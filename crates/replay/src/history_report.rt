@@ -8,8 +8,8 @@ use crate::legend::Celery;
 use crate::report_lines::report_of;
 use place_index::places;
 use place_model::History;
-use wire_values::Bytes;
 use std::alloc::{AllocError, Global};
+use wire_values::Bytes;
 
 /// The report of a history: its entries, where its messages are, and how many there are in each place.
 pub fn report(alloc: Global, history: &History) -> Result<Bytes, AllocError>

@@ -13,8 +13,8 @@ use crate::place_text::{place_lines, total_line};
 use envelope::Tag;
 use line_text::Legend;
 use place_model::{Entry, Heard, Place};
-use wire_values::Bytes;
 use std::alloc::{AllocError, Global};
+use wire_values::Bytes;
 
 /// The report of a history of these entries, whose accepted tags have these places in the order of their first push.
 pub fn report_of<L: Legend>(

@@ -11,11 +11,11 @@ ghost use Rattle.serde_json.specs.View.{view as data_of};
 ghost use Rattle.serde_json.specs.Written.{compact_text};
 
 use block_core::{BlockCore, Progress, Stage};
-use envelope::{Envelope, Tag, write};
 use command_blocks::answer::integer;
+use envelope::{Envelope, Tag, write};
 use queue_keys::{QueueName, queue_key, step_of};
-use wire_values::{Bytes, Value, Words};
 use std::alloc::{AllocError, Global};
+use wire_values::{Bytes, Value, Words};
 
 /// The publication of a message that goes to its queue directly, by the empty exchange.
 pub type PublishCore = BlockCore<PublishStage, Sent>;

@@ -9,8 +9,8 @@ use crate::cost::call_cost;
 use crate::left::Left;
 use mini_store::Store;
 use place_model::{Entry, History};
-use wire_values::Words;
 use std::alloc::{AllocError, Global};
+use wire_values::Words;
 
 /// The greatest number of entries of a history.
 const ENTRY_LIMIT: usize = 1_000_000;

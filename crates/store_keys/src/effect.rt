@@ -2,10 +2,10 @@
 ghost use Rattle.store_model.specs.Replies.{bulks, number, pair};
 ghost use Rattle.std.specs.Prelude.{◌≡◌, [], ◌∷◌, IfOk};
 
-use wire_values::{Bytes, Value};
 use sqlite_items::Items;
 use std::alloc::{AllocError, Global};
 use store_tables::Deque;
+use wire_values::{Bytes, Value};
 
 /// The keys that a command altered, and its answer.
 #[derive(Debug, Drop)]

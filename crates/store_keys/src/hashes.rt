@@ -8,10 +8,10 @@ ghost use Rattle.std.specs.Prelude.{◌≡◌, [], IfNone, IfOk, IfSome, OnOk, S
 use crate::effect::{Effect, error, number};
 use crate::keyspace::Keyspace;
 use crate::members::{finish, is_long, take_out};
-use store_model::{Held, Stored};
-use wire_values::{Bytes, Value};
 use std::alloc::{AllocError, Global};
+use store_model::{Held, Stored};
 use store_tables::{Deque, Table};
+use wire_values::{Bytes, Value};
 
 fn hash_in(value: Stored) -> Option<Table<Bytes>>
     ensures { result ≡ hash_at (Some value) }

@@ -9,14 +9,14 @@ ghost use Rattle.std.specs.List.{list_any};
 ghost use Rattle.std.specs.Option.{option_copied};
 ghost use Rattle.std.specs.Prelude.{◌≡◌, ◌≤◌, IfErr, IfOk, IsTrue, None, OnErr, OnOk, Some, filter, if◌then◌else◌, is_some, nat_eq, not};
 
-use store_model::{Held, Stored};
-use wire_values::Bytes;
 use std::alloc::{AllocError, Global};
 use std::collections::BTreeMap;
 use std::collections::btree_map::Iter;
 use std::marker::Model;
 use std::mem;
+use store_model::{Held, Stored};
 use store_tables::Deque;
+use wire_values::Bytes;
 
 /// The keys in byte order with what they hold, seen by contracts as a finite map.
 ///
@@ -118,12 +118,7 @@ impl Keyspace {
     }
 
     /// Puts a value back under its key, where anything is left of it.
-    pub fn restore(
-        &mut self,
-        key: Bytes,
-        value: Stored,
-        left: usize,
-    ) -> Result<(), AllocError>
+    pub fn restore(&mut self, key: Bytes, value: Stored, left: usize) -> Result<(), AllocError>
         ensures { OnOk result (self.new ≡ (if nat_eq left 0 then self.old else put self.old key value)) }
     {
         if left == 0 {

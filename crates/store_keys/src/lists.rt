@@ -6,10 +6,10 @@ ghost use Rattle.std.specs.Prelude.{◌≡◌, [], IfNone, IfOk, IfSome, OnOk, S
 
 use crate::effect::{Effect, error, number, pair};
 use crate::keyspace::Keyspace;
-use store_model::{Held, Stored};
-use wire_values::{Bytes, Value};
 use std::alloc::{AllocError, Global};
+use store_model::{Held, Stored};
 use store_tables::Deque;
+use wire_values::{Bytes, Value};
 
 fn items_in(value: Stored) -> Option<Deque<Bytes>>
     ensures { result ≡ items_at (Some value) }

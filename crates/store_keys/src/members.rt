@@ -4,12 +4,12 @@ ghost use Rattle.store_model.specs.Replies.{number};
 ghost use Rattle.std.specs.List.{list_any};
 ghost use Rattle.std.specs.Prelude.{◌≡◌, ◌<◌, [], ◌∷◌, IfOk, if◌then◌else◌, nat_eq};
 
-use store_model::Stored;
 use crate::effect::{Effect, number};
 use crate::keyspace::Keyspace;
-use wire_values::Bytes;
 use std::alloc::{AllocError, Global};
+use store_model::Stored;
 use store_tables::{Deque, Table};
+use wire_values::Bytes;
 
 /// Whether a member or field has more than 1,024 bytes.
 pub fn is_long(name: &Bytes) -> bool

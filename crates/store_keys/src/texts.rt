@@ -8,10 +8,10 @@ ghost use Rattle.std.specs.Prelude.{◌≡◌, ◌+◌, ◌<◌, ◌^◌, [], If
 
 use crate::effect::{Effect, error, number, status};
 use crate::keyspace::Keyspace;
-use store_model::{Held, Stored};
-use wire_values::{Bytes, Value};
 use std::alloc::{AllocError, Global};
+use store_model::{Held, Stored};
 use store_tables::Deque;
+use wire_values::{Bytes, Value};
 
 /// GET.
 pub fn get(keys: &Keyspace, alloc: Global, key: &Bytes) -> Result<Value, AllocError>

@@ -1,6 +1,6 @@
 //! Commands with their arguments.
-use wire_values::Bytes;
 use store_tables::Deque;
+use wire_values::Bytes;
 
 /// What is wrong with the words of a command, in the order in which it is looked for.
 #[derive(Debug, Drop)]

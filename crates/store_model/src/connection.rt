@@ -1,7 +1,7 @@
 //! What the store knows of a connection.
 use crate::Command;
-use wire_values::{Bytes, Values};
 use store_tables::Deque;
+use wire_values::{Bytes, Values};
 
 /// The commands queued since MULTI, at most 4,096, and whether one was refused.
 #[derive(Debug, Drop)]

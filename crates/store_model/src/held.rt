@@ -1,6 +1,6 @@
 //! What a key holds.
-use wire_values::Bytes;
 use store_tables::{Deque, Table};
+use wire_values::Bytes;
 
 /// A value of one of the five kinds.
 #[derive(Debug, Drop)]

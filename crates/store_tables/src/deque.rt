@@ -4,11 +4,11 @@ ghost use Rattle.std.specs.List.{list_any};
 ghost use Rattle.std.specs.VecDeque.Iter.{deque_iter_rest, deque_iter_steps};
 ghost use Rattle.std.specs.Prelude.{◌≡◌, [], ◌∷◌, ◌++◌, IfOk, IfSome, IfNone, filter, not, nat_lt, OnOk, OnErr, length, IsTrue, ◌↔◌, bytes_eq};
 
-use wire_values::Bytes;
 use std::alloc::{AllocError, Global};
 use std::collections::VecDeque;
 use std::collections::vec_deque::Iter;
 use std::marker::Model;
+use wire_values::Bytes;
 
 /// A list of values that grows and shrinks at both ends, seen by contracts as that list.
 #[derive(Debug, Drop)]

@@ -6,10 +6,10 @@ ghost use Rattle.std.specs.FinMap as map;
 ghost use Rattle.wire_values.specs.Order.{bytes_cmp};
 
 use crate::Deque;
-use wire_values::Bytes;
 use std::alloc::{AllocError, Global};
 use std::collections::BTreeMap;
 use std::marker::Model;
+use wire_values::Bytes;
 
 /// A table from byte strings to values, seen by contracts as a finite map in byte order.
 #[derive(Debug, Drop)]

@@ -4,10 +4,10 @@ ghost use Rattle.store_model.specs.Words.{IsWithinLimits, bare, brpop_of, comman
 ghost use Rattle.std.specs.Prelude.{All, ◌≡◌, ◌≤◌, ◌↔◌, length, Bool, IsTrue, List, [], ◌∷◌, IfOk, MatchOption, map as mapped, ℕ};
 
 use crate::integer::{integer, natural, seconds};
-use store_model::{Command, Fault};
-use wire_values::{Bytes, Words};
 use std::alloc::{AllocError, Global};
+use store_model::{Command, Fault};
 use store_tables::Deque;
+use wire_values::{Bytes, Words};
 
 /// Whether a store takes these words: at most 4,096, each of at most 1,048,576 bytes.
 pub fn is_within_limits(words: &Words) -> bool

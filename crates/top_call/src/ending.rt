@@ -3,8 +3,8 @@ ghost use Rattle.std.specs.Prelude.{IfOk, ◌≡◌};
 ghost use Rattle.top_call.specs.Endings.{ended_of, text_of};
 
 use line_text::BadLine;
-use wire_values::Bytes;
 use std::alloc::{AllocError, Global};
+use wire_values::Bytes;
 
 /// What a top call answers.
 #[derive(Clone, Copy, Debug, PartialEq, Eq)]

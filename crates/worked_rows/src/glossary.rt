@@ -2,9 +2,9 @@
 ghost use Rattle.std.specs.Prelude.{IfOk, IsUtf8};
 
 use envelope::{Draft, Envelope, EnvelopeFault, Tag, redelivered, seal, write, write_entry};
-use wire_values::{Bytes, List, Value, Words};
 use serde_json::Value as Tree;
 use std::alloc::{AllocError, Global};
+use wire_values::{Bytes, List, Value, Words};
 
 /// The four keys of the queue `celery`, for which rows have the one word `K`.
 fn keys() -> [&'static [u8]; 4] {

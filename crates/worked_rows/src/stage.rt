@@ -6,13 +6,13 @@ use crate::lawful::{is_new, is_running};
 use envelope::Tag;
 use line_text::{number_in, tag_in, words};
 use mini_store::Store;
-use store_model::Reply;
-use store_words::is_within_limits;
 use place_index::{place_of, places};
 use place_model::{Entry, History, Place};
-use wire_values::Words;
 use std::alloc::{AllocError, Global};
 use std::process::Abort;
+use store_model::Reply;
+use store_words::is_within_limits;
+use wire_values::Words;
 
 /// A store, the history of its clients, and the names that rows have for byte strings.
 #[derive(Drop)]

@@ -1,10 +1,10 @@
 //! The store's limits, each met and passed by one.
 use super::{told, words_of};
 use crate::Store;
-use wire_values::{Bytes, Words};
 use std::alloc::{AllocError, Global};
 use std::process::Abort;
 use std::test::Fail;
+use wire_values::{Bytes, Words};
 
 /// The words of a line, and one more that has so many bytes.
 fn with_long_word(alloc: Global, line: &str, count: usize) -> Result<Words, AllocError> {

@@ -6,9 +6,9 @@ mod rows;
 use super::{finish, run};
 use crate::ending::{End, Ended};
 use links::{MemorySink, MemorySource};
-use wire_values::Bytes;
 use std::alloc::{AllocError, Global};
 use std::test::Fail;
+use wire_values::Bytes;
 
 /// One message published.
 const SCHEDULE: &[u8] = b"celery-schedule 1
