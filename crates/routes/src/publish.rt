@@ -37,11 +37,11 @@ pub struct PublishStage {
 
 impl Stage for PublishStage {
     ghost use Rattle.std.specs.Prelude.{refl};
-    ghost use Rattle.routes.specs.Publishes.{PublishHad, TellsPublish, stage_left};
+    ghost use Rattle.routes.specs.Publishes.{PublishHad, TellsPublish, push_stage_left};
 
     type End = Sent;
 
-    ghost left = { stage_left };
+    ghost left = { push_stage_left };
 
     ghost had = { PublishHad };
 

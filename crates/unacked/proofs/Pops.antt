@@ -16,7 +16,7 @@ use Rattle.key_laws.proofs.Lists.{length-pop_keys}
 use Rattle.block_core.specs.Stages.{TellsOn, progress_left}
 use Rattle.block_core.specs.declared.stage.Progress.{Progress}
 use Rattle.block_core.specs.declared.stage.Progress.TheVariants as found
-use Rattle.unacked.specs.Pops.{FoundTells, HasKept, IsDelivered, IsFirst, IsGiven, IsKeeping, IsPopEnd, PopHad, PoppingHad, PoppingTells, TellsPop, index_words, popping_left, stage_left, table_words}
+use Rattle.unacked.specs.Pops.{FoundTells, HasKept, IsDelivered, IsFirst, IsGiven, IsKeeping, IsPopEnd, PopHad, PoppingHad, PoppingTells, TellsPop, index_words, popping_left, pop_stage_left, table_words}
 use Rattle.unacked.specs.Steps.{answered_left, course_left, steps_left}
 use Rattle.serde_json.specs.View.{view as data_of}
 use Rattle.unacked.specs.Queues.{are_names, are_some}
@@ -75,7 +75,7 @@ same_call Over at words r = refl
 same_call Off at words r = refl
 same_call (Say w go) at words r = refl
 
-kept_left : (delivery : Delivery) (got : Course) (p : Progress PopStage PopEnd) → HasKept delivery got p → progress_left stage_left p ≡ course_left (index_words (data_of delivery.envelope)) (table_words (data_of delivery.envelope)) got
+kept_left : (delivery : Delivery) (got : Course) (p : Progress PopStage PopEnd) → HasKept delivery got p → progress_left pop_stage_left p ≡ course_left (index_words (data_of delivery.envelope)) (table_words (data_of delivery.envelope)) got
 kept_left delivery (course.Next step) (found.Next stage) k = by stage.at k where
   by : (at : Popping) → IsKeeping delivery step at → popping_left at ≡ steps_left (index_words (data_of delivery.envelope)) (table_words (data_of delivery.envelope)) step
   by (Asking queues) k = absurd k
@@ -91,7 +91,7 @@ kept_left delivery course.Refused found.Refused k = refl
 
 -- what the answer to a step of the transaction brought is left
 pub step_left : (delivery : Delivery) (step : Step) (got : Course) (p : Progress PopStage PopEnd) (at : Popping) (r : Value) → popping_left at ≡ steps_left (index_words (data_of delivery.envelope)) (table_words (data_of delivery.envelope)) step → HasKept delivery got p
-    → ((index : ℕ → Words) (table : Words) → course_left index table got ≡ answered_left index table step r) → (m : ℕ) → IsAnswered (popping_left at) (progress_left stage_left p) m r
+    → ((index : ℕ → Words) (table : Words) → course_left index table got ≡ answered_left index table step r) → (m : ℕ) → IsAnswered (popping_left at) (progress_left pop_stage_left p) m r
 step_left delivery step got p at r is k left m words =
     let d = data_of delivery.envelope in
     kept_left delivery got p k ∙ (left (index_words d) (table_words d) ∙ (same_call (steps_left (index_words d) (table_words d) step) m words r ∙ sym (ap (λ q. after_call q (call m words r)) is)))
@@ -101,8 +101,8 @@ pop_answers [] at words r h = absurd (no_some h)
 pop_answers (q ∷ qs) at words r h = refl
 
 -- what BRPOP's answer brought is left
-pub asked_left : (result : Result (Progress PopStage PopEnd) AllocError) (at : Popping) (queues : Queues) (r : Value) → at ≡ Asking queues → IfOk result (λ p. progress_left stage_left p ≡ on_popped plain_setting r)
-    → IfOk result (λ p. (m : ℕ) → IsAnswered (popping_left at) (progress_left stage_left p) m r)
+pub asked_left : (result : Result (Progress PopStage PopEnd) AllocError) (at : Popping) (queues : Queues) (r : Value) → at ≡ Asking queues → IfOk result (λ p. progress_left pop_stage_left p ≡ on_popped plain_setting r)
+    → IfOk result (λ p. (m : ℕ) → IsAnswered (popping_left at) (progress_left pop_stage_left p) m r)
 asked_left (Ok p) at queues r is h = λ m words. h ∙ pop_answers queues.names m words r queues.some ∙ sym (ap (λ q. after_call (popping_left q) (call m words r)) is)
 asked_left (Err e) at queues r is h = tt
 

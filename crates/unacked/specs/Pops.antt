@@ -50,12 +50,12 @@ abbrev pub popping_left : Popping → Script
 popping_left (Asking queues) = pop_script plain_setting queues.names
 popping_left (Keeping delivery step) = steps_left (index_words (data_of delivery.value.envelope)) (table_words (data_of delivery.value.envelope)) step
 
-abbrev pub stage_left : PopStage → Script
-stage_left stage = popping_left stage.at
+abbrev pub pop_stage_left : PopStage → Script
+pop_stage_left stage = popping_left stage.at
 
 -- what is left to say of a pop
 abbrev pub pop_left : BlockCore PopStage PopEnd → Script
-pop_left core = core_left stage_left core
+pop_left core = core_left pop_stage_left core
 
 -- ---- what is told of the calls
 
@@ -88,7 +88,7 @@ PopHad calls stage = PoppingHad calls stage.at
 
 -- the core of a pop over these queues had these calls so far
 abbrev pub HasPopping : ℕ → ℕ → List Bytes → List Call → BlockCore PopStage PopEnd → Type 0
-HasPopping s p names calls core = HasHad stage_left (λ plan calls stage. PopHad calls stage) (λ plan calls end. TellsPop calls end) s p (Pop names) calls core
+HasPopping s p names calls core = HasHad pop_stage_left (λ plan calls stage. PopHad calls stage) (λ plan calls end. TellsPop calls end) s p (Pop names) calls core
 
 -- ---- what an answer brings
 

@@ -33,11 +33,11 @@ pub struct EndStage {
 }
 
 impl Stage for EndStage {
-    ghost use Rattle.unacked.specs.Ends.{TellsEnd, end_says, stage_left};
+    ghost use Rattle.unacked.specs.Ends.{TellsEnd, end_says, end_stage_left};
 
     type End = Acked;
 
-    ghost left = { stage_left };
+    ghost left = { end_stage_left };
 
     ghost had = { λ plan calls stage. Unit {0} };
 
