@@ -1,6 +1,6 @@
 -- A core's trace goes on with each reply.
 use Rattle.std.proofs.Common.{◌≡◌, ℕ, ◌<◌, ◌^◌, List, [], ◌∷◌, ◌++◌, true, false, Some, None, Ok, Err, refl, Result, sym, subst, ap, ◌∙◌}
-use Rattle.std.specs.Prelude.{⊤}
+use Rattle.std.specs.Prelude.{⊤, IfSome}
 use Rattle.wire_values.specs.declared.value.Value.{Value}
 use Rattle.store_model.specs.Words.{Words}
 use Rattle.store_model.specs.declared.reply.Reply.{Reply}
@@ -18,7 +18,7 @@ use Rattle.block_laws.specs.Traces.{IsTrace}
 use Rattle.block_laws.proofs.Said.{plan_off}
 use Rattle.block_laws.proofs.Talks.{off_not}
 use Rattle.block_laws.proofs.Traces.{next_trace, trace_front}
-use Rattle.block_core.specs.Cores.{HasHad, HasHadOn, IsListed, IsWhole, StateTells, core_end, core_left, state_end, state_left}
+use Rattle.block_core.specs.Cores.{HasHad, HasHadOn, IsListed, StateTells, core_end, core_left, state_end, state_left}
 use Rattle.block_core.specs.Goings.{HasGone, IsRefused}
 use Rattle.block_core.specs.Stages.{TellsOn, progress_left}
 use Rattle.block_core.specs.declared.block.BlockCore.{BlockCore}
@@ -100,9 +100,9 @@ listed_on {S} {E} left had tell s n p plan calls x new progress reply result say
 
 -- where the end wasn't given yet, the calls of a lawful plan are a whole block of it
 pub whole_ended : {S E : Type 0} (left : S → Script) (had : Plan → List Call → S → Type 0) (tell : Plan → List Call → E → Type 0) (s n p : ℕ) (plan : Plan) (calls : List Call) (core : BlockCore S E) → IsLawfulPlan plain_setting s n plan → HasHad left had tell s p plan calls core
-    → IsWhole (IsPlanBlock plain_setting s n p plan calls) (core_end core)
+    → IfSome (core_end core) (λ end. IsPlanBlock plain_setting s n p plan calls)
 whole_ended {S} {E} left had tell s n p plan calls core lawful h = by core.state h.trace where
-  by : (q : State S E) → IsTrace (script_of plain_setting s p plan) calls (state_left left q) → IsWhole (IsPlanBlock plain_setting s n p plan calls) (state_end q)
+  by : (q : State S E) → IsTrace (script_of plain_setting s p plan) calls (state_left left q) → IfSome (state_end q) (λ end. IsPlanBlock plain_setting s n p plan calls)
   by (state.Saying stage) t = tt
   by (state.Over None) t = tt
   by (state.Over (Some end)) t = (trace_front plain_setting s n p plan lawful calls Over t).whole refl

@@ -79,17 +79,7 @@ IsListed IsBlock calls (Ok u) = (more : List Call) × IsBlock (calls ++ more)
 IsListed IsBlock calls (Err (Refused given)) = (more : List Call) → IsBlock (calls ++ more) → ⊥
 IsListed IsBlock calls (Err Memory) = Unit {0}
 
--- ---- ends
-
--- what is given as the end tells of the calls, after which nothing is left to say
-abbrev pub IsEnded : {E : Type 0} → (List Call → E → Type 0) → Script → List Call → Option E → Type 0
-IsEnded tells left calls None = Unit {0}
-IsEnded tells left calls (Some end) = (left ≡ Over) × tells calls end
-
--- where an end is given, this holds
-abbrev pub IsWhole : {E : Type 0} → Type 0 → Option E → Type 0
-IsWhole P None = Unit {0}
-IsWhole P (Some end) = P
+-- ---- as blocks
 
 -- the calls that a core of a lawful plan has had begin its block, and are a whole one where nothing is left to say
 abbrev pub BlocksBegin : Type 0

@@ -4,9 +4,9 @@ ghost use Rattle.store_model.specs.Words.{IsWithinLimits, Words as Said};
 ghost use Rattle.command_blocks.specs.Calls.{Call, call};
 ghost use Rattle.command_blocks.specs.Cores.{is_off, is_saying};
 ghost use Rattle.command_blocks.specs.EnvelopeTexts.{plain_setting};
-ghost use Rattle.command_blocks.specs.Scripts.{Plan, next_words, script_of};
+ghost use Rattle.command_blocks.specs.Scripts.{Over, Plan, next_words, script_of};
 ghost use Rattle.block_laws.specs.Rows.{IsLawfulPlan, IsPlanBlock};
-ghost use Rattle.block_core.specs.Cores.{HasHad, HasHadOn, HasTaken, IsEnded, IsListed, IsWhole, core_end, core_left, is_spent};
+ghost use Rattle.block_core.specs.Cores.{HasHad, HasHadOn, HasTaken, IsListed, core_end, core_left, is_spent};
 ghost use Rattle.block_core.specs.Goings.{HasGone, IsRefused, IsSpent};
 ghost use Rattle.block_core.specs.declared.fault.ReplyFault.TheVariants.{Memory};
 
@@ -137,11 +137,11 @@ impl<S: Stage> BlockCore<S, S::End> {
         ensures traced { (s p : ℕ) (plan : Plan) (calls : Listed Call)
             → HasHad S.left S.had S.tells s p plan calls self.old
             → HasHad S.left S.had S.tells s p plan calls self.new
-            × IsEnded (S.tells plan) (core_left S.left self.new) calls result }
+            × IfSome result (λ end. (core_left S.left self.new ≡ Over) × S.tells plan calls end) }
         // They are a whole block of a lawful plan.
         ensures whole { (s n p : ℕ) (plan : Plan) (calls : Listed Call) → IsLawfulPlan plain_setting s n plan
             → HasHad S.left S.had S.tells s p plan calls self.old
-            → IsWhole (IsPlanBlock plain_setting s n p plan calls) result }
+            → IfSome result (λ _. IsPlanBlock plain_setting s n p plan calls) }
     {
         match &mut self.state {
             State::Over(end) => end.take(),

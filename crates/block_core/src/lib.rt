@@ -4,9 +4,9 @@
 //! nothing more of it. What is proved here holds of each block.
 //!
 //! A stage tells of its end by a small type of its own, `Stage::End`, which has the ends of its block and no others. A
-//! client that holds a core of each kind is a `match` over them; its `end` makes a `command_blocks::BlockEnd` of each end
-//! by a `From<Popped> for BlockEnd` and its like, one for each block, with one arm for each end, and its `took` hands
-//! `CoreFault::from(fault)` on.
+//! client that holds a core of each kind matches over them. Its `took` answers `CoreFault::from(fault)`; its `end` makes
+//! a `BlockEnd` of each block's end, by a `From<PopEnd> for BlockEnd` that stands beside `PopEnd`, and its like: one arm
+//! for each end of the block, which moves what the end holds.
 #![tactic(auto)]
 
 mod block;

@@ -3,6 +3,7 @@ use block_core::{BlockCore, ReplyFault, Stage};
 use command_blocks::answer::is_status;
 use mini_store::Store;
 use std::alloc::{AllocError, Global};
+use std::test::Fail;
 use store_model::Reply;
 use wire_values::{Bytes, Value, Values, Words};
 
@@ -25,7 +26,7 @@ fn says<S: Stage>(
     core: &mut BlockCore<S, S::End>,
     at: u32,
     line: &str,
-) -> Result<bool, ReplyFault> {
+) -> Result<bool, Fail> {
     let at = u64::from(at);
     let Some(words) = core.next(alloc, at)? else {
         return Ok(false);
@@ -46,7 +47,7 @@ pub fn says_all<S: Stage>(
     store: &mut Store,
     core: &mut BlockCore<S, S::End>,
     rows: &[(u32, &str)],
-) -> Result<bool, ReplyFault> {
+) -> Result<bool, Fail> {
     for (at, line) in rows {
         if !goes_on(core) || !says(alloc, store, core, *at, line)? {
             return Ok(false);

@@ -1,6 +1,8 @@
 -- A message to the empty exchange goes to the one queue that its routing key names.
-use Rattle.std.proofs.Common.{◌≡◌, ℕ, ◌≤◌, List, [], ◌∷◌, length, Option, Some, true, sym, ap, ◌∙◌, option_map, if◌then◌else◌, arith, Ok, subst, codes}
+use Rattle.std.proofs.Common.{◌≡◌, ℕ, ◌≤◌, List, [], ◌∷◌, length, Option, Some, true, sym, ap, ◌∙◌, option_map, if◌then◌else◌, arith, Ok, Err, Result, subst, codes}
+use Rattle.std.specs.Prelude.{IfOk}
 use Rattle.std.specs.Result.{result_ok}
+use Rattle.std.specs.declared.alloc.AllocError.{AllocError}
 use Rattle.serde_json.specs.Data.{Data}
 use Rattle.serde_json.specs.Written.{compact_text}
 use Rattle.envelope.specs.Envelopes.{envelope_at, parts_in, priority_of}
@@ -54,3 +56,8 @@ text_short d b e is =
 -- the words of the push are within the limits of a command
 pub push_within : (words : Words) (k b : Bytes) (s : ℕ) (q : Bytes) → words ≡ codes "LPUSH" ∷ k ∷ b ∷ [] → k ≡ queue_key plain q s → is_name q ≡ true → IsShort b → IsWithinLimits words
 push_within words k b s q e is name short = subst IsWithinLimits (sym e) (three_within (codes "LPUSH") k b (omega arith) (subst IsShort (sym is) (key_short s q name)) short)
+
+-- and so are words that were made of them
+pub pushed_within : (result : Result Words AllocError) (d : Data) (k b : Bytes) → IfOk result (λ words. words ≡ codes "LPUSH" ∷ k ∷ b ∷ []) → k ≡ direct_key d → is_name (parts_in d).routing_key ≡ true → IsShort b → IfOk result (λ words. IsWithinLimits words)
+pushed_within (Ok words) d k b e is name short = push_within words k b (step_of plain (priority_of d)) (parts_in d).routing_key e is name short
+pushed_within (Err f) d k b e is name short = tt

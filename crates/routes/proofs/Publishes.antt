@@ -10,12 +10,12 @@ use Rattle.command_blocks.specs.EnvelopeTexts.{plain_setting}
 use Rattle.command_blocks.specs.Scripts.{Over, Plan, Declare, Undeclare, Publish, Pop, End, Return, Pass, if_told}
 use Rattle.block_core.specs.Stages.{TellsOn, progress_left}
 use Rattle.block_laws.specs.Rows.{IsPublication}
-use Rattle.routes.specs.Publishes.{GoesDirectly, PublishHad, TellsPublish, direct_key, pushed_by, stage_left}
+use Rattle.routes.specs.Publishes.{GoesDirectly, PublishHad, TellsPublish, direct_key, pushed_by, push_stage_left}
 use Rattle.routes.specs.declared.publish.PublishStage.{PublishStage}
 use Rattle.routes.proofs.Direct.{direct_keys}
 
 -- what an answer to the push brought is left
-pub pushed_left : (tag : Tag) (o : Option ℤ) → progress_left stage_left (pushed_by tag o) ≡ if_told (λ (z : ℤ). Over) o
+pub pushed_left : (tag : Tag) (o : Option ℤ) → progress_left push_stage_left (pushed_by tag o) ≡ if_told (λ (z : ℤ). Over) o
 pushed_left tag None = refl
 pushed_left tag (Some z) = refl
 

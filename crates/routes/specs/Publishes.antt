@@ -32,12 +32,12 @@ abbrev pub push_script : Data → Script
 push_script d = pushes (compact_text d) (direct_key d ∷ [])
 
 -- what is left at the stage of the push
-abbrev pub stage_left : PublishStage → Script
-stage_left stage = push_script (data_of stage.envelope)
+abbrev pub push_stage_left : PublishStage → Script
+push_stage_left stage = push_script (data_of stage.envelope)
 
 -- what is left to say of a publication
 abbrev pub publish_left : BlockCore PublishStage Sent → Script
-publish_left core = core_left stage_left core
+publish_left core = core_left push_stage_left core
 
 -- what a push's answer brings, by the integer that it tells: the message of this tag went to one queue
 abbrev pub pushed_by : Tag → Option ℤ → Progress PublishStage Sent
@@ -56,4 +56,4 @@ TellsPublish other calls end = ⊥
 
 -- the core of the publication of an envelope's text had these calls so far
 abbrev pub HasPublishing : ℕ → ℕ → Bytes → List Call → BlockCore PublishStage Sent → Type 0
-HasPublishing s p v calls core = HasHad stage_left PublishHad TellsPublish s p (Publish v) calls core
+HasPublishing s p v calls core = HasHad push_stage_left PublishHad TellsPublish s p (Publish v) calls core

@@ -1,21 +1,23 @@
 //! A publication: a message is pushed to the list of its queue.
-ghost use Rattle.std.specs.Prelude.{◌≡◌, ◌∷◌, [], ℕ, suc, codes, IfOk, Some, None};
+ghost use Rattle.std.specs.Prelude.{◌≡◌, ◌∷◌, [], ℕ, suc, true, codes, IfOk, Some, None};
 ghost use Rattle.store_model.specs.Words.{IsWithinLimits};
 ghost use Rattle.command_blocks.specs.Answers.{number_of};
 ghost use Rattle.command_blocks.specs.EnvelopeTexts.{plain_setting};
 ghost use Rattle.command_blocks.specs.Scripts.{Publish, publish_script};
 ghost use Rattle.block_core.specs.Cores.{core_end};
 ghost use Rattle.block_laws.specs.Rows.{IsLawfulPlan};
+ghost use Rattle.envelope.specs.Envelopes.{parts_in};
+ghost use Rattle.queue_keys.specs.Names.{is_name};
 ghost use Rattle.routes.specs.Publishes.{GoesDirectly, HasPublishing, direct_key, publish_left, pushed_by};
 ghost use Rattle.serde_json.specs.View.{view as data_of};
 ghost use Rattle.serde_json.specs.Written.{compact_text};
 
 use block_core::{BlockCore, Progress, Stage};
-use envelope::{Envelope, Tag, write};
 use command_blocks::answer::integer;
+use envelope::{Envelope, Tag, write};
 use queue_keys::{QueueName, queue_key, step_of};
-use wire_values::{Bytes, Value, Words};
 use std::alloc::{AllocError, Global};
+use wire_values::{Bytes, Value, Words};
 
 /// The publication of a message that goes to its queue directly, by the empty exchange.
 pub type PublishCore = BlockCore<PublishStage, Sent>;
@@ -35,11 +37,11 @@ pub struct PublishStage {
 
 impl Stage for PublishStage {
     ghost use Rattle.std.specs.Prelude.{refl};
-    ghost use Rattle.routes.specs.Publishes.{PublishHad, TellsPublish, stage_left};
+    ghost use Rattle.routes.specs.Publishes.{PublishHad, TellsPublish, push_stage_left};
 
     type End = Sent;
 
-    ghost left = { stage_left };
+    ghost left = { push_stage_left };
 
     ghost had = { PublishHad };
 
@@ -90,12 +92,42 @@ fn push_words(alloc: Global, e: &Envelope) -> Result<Words, AllocError>
         words ≡ codes "LPUSH" ∷ direct_key d ∷ compact_text d ∷ []) }
     ensures limits { IfOk result (λ words. IsWithinLimits words) }
 {
+    let key = list_key(alloc, e)?;
+    let text = write(alloc, e)?;
+    three_words(alloc, b"LPUSH", key, text)
+}
+
+/// The key of the list to which an envelope is pushed, whose routing key is the lawful name of a queue.
+fn list_key(alloc: Global, e: &Envelope) -> Result<Bytes, AllocError>
+    ensures key { IfOk result (λ key. key ≡ direct_key (data_of e.now)) }
+    ensures named { IfOk result (λ _. is_name (parts_in (data_of e.now)).routing_key ≡ true) }
+{
     let Ok(queue) = QueueName::new(alloc, e.routing_key()) else {
         return Err(AllocError);
     };
+    queue_key(alloc, &queue, step_of(e.priority()))
+}
+
+/// Three words.
+fn three_words(
+    alloc: Global,
+    first: &[u8],
+    second: Bytes,
+    third: Bytes,
+) -> Result<Words, AllocError>
+    ensures { IfOk result (λ words. words ≡ first.now ∷ second ∷ third ∷ []) }
+{
+    let mut words = one_word(alloc, first)?;
+    words.push(alloc, second)?;
+    words.push(alloc, third)?;
+    Ok(words)
+}
+
+/// One word.
+fn one_word(alloc: Global, word: &[u8]) -> Result<Words, AllocError>
+    ensures { IfOk result (λ words. words ≡ word.now ∷ []) }
+{
     let mut words = Words::new();
-    words.push(alloc, Bytes::from_slice(alloc, b"LPUSH")?)?;
-    words.push(alloc, queue_key(alloc, &queue, step_of(e.priority()))?)?;
-    words.push(alloc, write(alloc, e)?)?;
+    words.push(alloc, Bytes::from_slice(alloc, word)?)?;
     Ok(words)
 }

@@ -1,5 +1,5 @@
 -- What BRPOP's answer brings, by what was read of it.
-use Rattle.std.proofs.Common.{◌≡◌, ℕ, ◌≤◌, List, [], ◌∷◌, ◌++◌, length, true, false, Option, Some, option_map, option_and_then, refl, sym, ap, ◌∙◌, codes, decimal, arith, Result, Ok, Err, if◌then◌else◌}
+use Rattle.std.proofs.Common.{◌≡◌, ℕ, List, [], ◌∷◌, ◌++◌, true, false, Option, Some, option_map, option_and_then, refl, sym, ap, ◌∙◌, codes, decimal, arith, Result, Ok, Err, if◌then◌else◌}
 use Rattle.std.specs.declared.alloc.AllocError.{AllocError}
 use Rattle.std.specs.Prelude.{IfOk, insert, nat_le}
 use Rattle.std.specs.Result.{result_ok}
@@ -25,7 +25,8 @@ use Rattle.queue_keys.specs.Names.{Bytes}
 use Rattle.queue_keys.specs.QueueKeys.{pop_keys}
 use Rattle.command_blocks.specs.Scripts.{Over, if_told, kept_by, next_words, null_array_in, on_popped, pop_script}
 use Rattle.unacked.specs.Pops.{index_words, table_words, tag_in}
-use Rattle.unacked.specs.Queues.{AreSome}
+use Rattle.unacked.specs.Queues.{are_some}
+use Rattle.unacked.proofs.Names.{no_some}
 use Rattle.unacked.specs.Steps.{begin_left, steps_left}
 use Rattle.store_model.specs.Words.{Words}
 use Rattle.unacked.specs.declared.step.Step.{Step}
@@ -34,8 +35,8 @@ use Rattle.unacked.specs.declared.step.Step.TheVariants.{Begin, Index, Table}
 -- ---- BRPOP
 
 -- the words of a pop
-pub asks : (names : List Bytes) (at : ℕ) → AreSome names → next_words (pop_script plain_setting names) at ≡ Some (codes "BRPOP" ∷ pop_keys plain names ++ codes "1" ∷ [])
-asks [] at h = absurd h
+pub asks : (names : List Bytes) (at : ℕ) → are_some names ≡ true → next_words (pop_script plain_setting names) at ≡ Some (codes "BRPOP" ∷ pop_keys plain names ++ codes "1" ∷ [])
+asks [] at h = absurd (no_some h)
 asks (q ∷ qs) at h = refl
 
 -- after the null array a pop is over

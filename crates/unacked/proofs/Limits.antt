@@ -1,5 +1,5 @@
 -- The words of the commands are within the limits of a command.
-use Rattle.std.proofs.Common.{◌≡◌, ℕ, ◌+◌, ◌*◌, ◌<◌, ◌≤◌, ◌^◌, List, [], ◌∷◌, ◌++◌, length, true, sym, subst, codes, decimal, arith, length-append, Result, Ok, Err}
+use Rattle.std.proofs.Common.{◌≡◌, ℕ, ◌*◌, ◌<◌, ◌≤◌, ◌^◌, List, [], ◌∷◌, ◌++◌, length, true, sym, subst, codes, decimal, arith, length-append, Result, Ok, Err}
 use Rattle.std.specs.declared.alloc.AllocError.{AllocError}
 use Rattle.std.specs.Prelude.{All, IfOk, nat_le}
 use Rattle.std.proofs.lemmas.Bool.Decides.{nat_tests}

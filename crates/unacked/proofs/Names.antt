@@ -19,3 +19,6 @@ one_more_of qs i q lt at = grind (arith, common_steps)
 -- the names so far, with the next one
 pub names_more : (qs : List Bytes) (i : ℕ) (q : Bytes) → i < length qs → q ≡ get_or qs i q → are_names (take i qs) ≡ true → is_name q ≡ true → are_names (take (i + 1) qs) ≡ true
 names_more qs i q lt at e f = ap are_names (one_more_of qs i q lt at) ∙ are_names-append (take i qs) q e f
+
+pub no_some : false ≡ true → ⊥
+no_some e = cc

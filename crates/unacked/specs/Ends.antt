@@ -6,7 +6,7 @@ use Rattle.command_blocks.specs.Answers.{is_one, integers}
 use Rattle.command_blocks.specs.Calls.{Call}
 use Rattle.command_blocks.specs.Cores.{is_saying}
 use Rattle.command_blocks.specs.EnvelopeTexts.{plain_setting}
-use Rattle.command_blocks.specs.Scripts.{End, Plan, Script}
+use Rattle.command_blocks.specs.Scripts.{End, Script}
 use Rattle.block_core.specs.Cores.{HasHad, core_left}
 use Rattle.block_core.specs.declared.block.BlockCore.{BlockCore}
 use Rattle.unacked.specs.Steps.{steps_left}
@@ -24,12 +24,12 @@ abbrev pub table_words : ℕ → Words
 table_words tag = codes "HDEL" ∷ plain_setting.unacked ∷ tag_text tag ∷ []
 
 -- what is left at a stage
-abbrev pub stage_left : EndStage → Script
-stage_left stage = steps_left (index_words stage.tag.0) (table_words stage.tag.0) stage.step
+abbrev pub end_stage_left : EndStage → Script
+end_stage_left stage = steps_left (index_words stage.tag.0) (table_words stage.tag.0) stage.step
 
 -- what is left to say of an acknowledgement
 abbrev pub end_left : BlockCore EndStage Acked → Script
-end_left core = core_left stage_left core
+end_left core = core_left end_stage_left core
 
 -- the end of an acknowledgement tells of its calls, by the answer to the last, which is EXEC: two integers, and whether the second is 1
 abbrev pub TellsEnd : List Call → Acked → Type 0
@@ -37,7 +37,7 @@ TellsEnd calls end = (before : List Call) × (last : Call) × (x : ℤ) × (y : 
 
 -- the core of the acknowledgement of a tag had these calls so far
 abbrev pub HasEnding : ℕ → ℕ → ℕ → List Call → BlockCore EndStage Acked → Type 0
-HasEnding s p tag calls core = HasHad stage_left (λ plan calls stage. Unit {0}) (λ plan calls end. TellsEnd calls end) s p (End (tag_text tag)) calls core
+HasEnding s p tag calls core = HasHad end_stage_left (λ plan calls stage. Unit {0}) (λ plan calls end. TellsEnd calls end) s p (End (tag_text tag)) calls core
 
 -- at each step a command is next
 pub end_says : (tag : ℕ) (step : Step) → is_saying (steps_left (index_words tag) (table_words tag) step) ≡ true

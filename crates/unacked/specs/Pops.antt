@@ -15,12 +15,12 @@ use Rattle.command_blocks.specs.Calls.{Call}
 use Rattle.command_blocks.specs.Cores.{is_saying}
 use Rattle.command_blocks.specs.EnvelopeTexts.{plain_setting}
 use Rattle.queue_keys.specs.Names.{Bytes}
-use Rattle.command_blocks.specs.Scripts.{Plan, Pop, Script, pop_script}
+use Rattle.command_blocks.specs.Scripts.{Pop, Script, pop_script}
 use Rattle.block_core.specs.Cores.{HasHad, core_left}
 use Rattle.block_core.specs.declared.block.BlockCore.{BlockCore}
 use Rattle.block_core.specs.declared.stage.Progress.{Progress}
 use Rattle.block_core.specs.declared.stage.Progress.TheVariants as progress
-use Rattle.unacked.specs.Queues.{AreSome}
+use Rattle.unacked.specs.Queues.{are_some}
 use Rattle.unacked.specs.Steps.{steps_left}
 use Rattle.unacked.specs.declared.pop.Delivery.{Delivery}
 use Rattle.unacked.specs.declared.pop.PopEnd.{PopEnd}
@@ -50,12 +50,12 @@ abbrev pub popping_left : Popping → Script
 popping_left (Asking queues) = pop_script plain_setting queues.names
 popping_left (Keeping delivery step) = steps_left (index_words (data_of delivery.value.envelope)) (table_words (data_of delivery.value.envelope)) step
 
-abbrev pub stage_left : PopStage → Script
-stage_left stage = popping_left stage.at
+abbrev pub pop_stage_left : PopStage → Script
+pop_stage_left stage = popping_left stage.at
 
 -- what is left to say of a pop
 abbrev pub pop_left : BlockCore PopStage PopEnd → Script
-pop_left core = core_left stage_left core
+pop_left core = core_left pop_stage_left core
 
 -- ---- what is told of the calls
 
@@ -88,7 +88,7 @@ PopHad calls stage = PoppingHad calls stage.at
 
 -- the core of a pop over these queues had these calls so far
 abbrev pub HasPopping : ℕ → ℕ → List Bytes → List Call → BlockCore PopStage PopEnd → Type 0
-HasPopping s p names calls core = HasHad stage_left (λ plan calls stage. PopHad calls stage) (λ plan calls end. TellsPop calls end) s p (Pop names) calls core
+HasPopping s p names calls core = HasHad pop_stage_left (λ plan calls stage. PopHad calls stage) (λ plan calls end. TellsPop calls end) s p (Pop names) calls core
 
 -- ---- what an answer brings
 
@@ -128,8 +128,8 @@ steps_say d Index = refl
 steps_say d Table = refl
 steps_say d Run = refl
 
-names_say : (names : List Bytes) → AreSome names → is_saying (pop_script plain_setting names) ≡ true
-names_say [] h = absurd h
+names_say : (names : List Bytes) → are_some names ≡ true → is_saying (pop_script plain_setting names) ≡ true
+names_say [] h = h
 names_say (q ∷ qs) h = refl
 
 pub popping_says : (at : Popping) → is_saying (popping_left at) ≡ true

@@ -13,8 +13,8 @@ use crate::step::{Course, Step};
 use crate::words::{one_word, three_words};
 use block_core::{BlockCore, Progress, Stage};
 use envelope::Tag;
-use wire_values::{Value, Words};
 use std::alloc::{AllocError, Global};
+use wire_values::{Value, Words};
 
 /// The acknowledgement of a message by its tag, one transaction on the table and its index.
 pub type EndCore = BlockCore<EndStage, Acked>;
@@ -33,11 +33,11 @@ pub struct EndStage {
 }
 
 impl Stage for EndStage {
-    ghost use Rattle.unacked.specs.Ends.{TellsEnd, end_says, stage_left};
+    ghost use Rattle.unacked.specs.Ends.{TellsEnd, end_says, end_stage_left};
 
     type End = Acked;
 
-    ghost left = { stage_left };
+    ghost left = { end_stage_left };
 
     ghost had = { λ plan calls stage. Unit {0} };
 

@@ -9,18 +9,18 @@ ghost use Rattle.serde_json.specs.View.{view as data_of};
 ghost use Rattle.block_core.specs.Cores.{core_end};
 ghost use Rattle.block_core.specs.Stages.{progress_left};
 ghost use Rattle.block_laws.specs.Rows.{IsLawfulPlan};
-ghost use Rattle.unacked.specs.Pops.{FoundTells, HasKept, HasPopping, index_words, pop_left, stage_left, table_words};
+ghost use Rattle.unacked.specs.Pops.{FoundTells, HasKept, HasPopping, index_words, pop_left, pop_stage_left, table_words};
 ghost use Rattle.unacked.specs.Steps.{steps_left};
 
 use crate::queues::Queues;
 use crate::step::{Course, Step};
 use crate::words::{decimal_text, four_words, one_word};
 use block_core::{BlockCore, Progress, Stage};
-use envelope::{Envelope, EnvelopeFault, read, write_entry};
 use command_blocks::answer::{is_null_array, pair};
+use envelope::{Envelope, EnvelopeFault, read, write_entry};
 use queue_keys::{QueueName, pop_keys};
-use wire_values::{Bytes, List, Value, Words};
 use std::alloc::{AllocError, Global};
+use wire_values::{Bytes, List, Value, Words};
 
 /// A pop of some queues, which BRPOP begins; a message that it gives goes into the table and its index by one
 /// transaction.
@@ -60,11 +60,11 @@ pub(crate) enum Popping {
 }
 
 impl Stage for PopStage {
-    ghost use Rattle.unacked.specs.Pops.{PopHad, TellsPop, popping_says, stage_left};
+    ghost use Rattle.unacked.specs.Pops.{PopHad, TellsPop, popping_says, pop_stage_left};
 
     type End = PopEnd;
 
-    ghost left = { stage_left };
+    ghost left = { pop_stage_left };
 
     ghost had = { λ plan calls stage. PopHad calls stage };
 
@@ -120,7 +120,7 @@ fn kept(delivery: Box<Delivery>, course: Course) -> Progress<PopStage, PopEnd>
 
 /// What an answer to BRPOP brings.
 fn popped(alloc: Global, answer: &Value) -> Result<Progress<PopStage, PopEnd>, AllocError>
-    ensures left { IfOk result (λ progress. progress_left stage_left progress ≡ on_popped plain_setting answer.now) }
+    ensures left { IfOk result (λ progress. progress_left pop_stage_left progress ≡ on_popped plain_setting answer.now) }
     ensures tells { IfOk result (λ progress. FoundTells progress answer.now) }
 {
     if is_null_array(answer) {
@@ -138,7 +138,7 @@ fn delivered(
     key: &[u8],
     element: &[u8],
 ) -> Result<Progress<PopStage, PopEnd>, AllocError>
-    ensures left { IfOk result (λ progress. progress_left stage_left progress
+    ensures left { IfOk result (λ progress. progress_left pop_stage_left progress
         ≡ kept_by plain_setting element.now (tag_of_bytes element.now)) }
     ensures tells { IfOk result (λ progress. FoundTells progress (pair key.now element.now)) }
 {

@@ -1,6 +1,6 @@
 //! The queues of a pop.
 ghost use Rattle.std.specs.Prelude.{◌≡◌, ◌≤◌, length, true};
-ghost use Rattle.unacked.specs.Queues.{AreSome, are_names};
+ghost use Rattle.unacked.specs.Queues.{are_names, are_some};
 
 use queue_keys::QueueName;
 use wire_values::List;
@@ -10,7 +10,7 @@ use wire_values::List;
 pub(crate) struct Queues {
     pub(crate) names: List<QueueName>,
     ghost lawful: { are_names names ≡ true },
-    ghost some: { AreSome names },
+    ghost some: { are_some names ≡ true },
     ghost few: { length names ≤ 1023 },
 }
 

@@ -1,4 +1,4 @@
-use Rattle.std.proofs.Common.{refl, sym}
+use Rattle.std.proofs.Common.{◌∙◌, refl, sym}
 use Rattle.serde_json.specs.View.{view as data_of}
 use Rattle.serde_json.specs.Written.{compact_text}
 use Rattle.command_blocks.specs.Scripts.{Publish}
@@ -7,7 +7,7 @@ use Rattle.routes.proofs.Publishes.{lawful_push}
 use Rattle.routes.proofs.publish.publish_core.Goals as goal
 
 pub returns-clause-left : goal.returns-clause-left
-returns-clause-left c = sym (direct_script (data_of c.args.envelope) c.requires)
+returns-clause-left c = c.new.ensures.left ∙ sym (direct_script (data_of c.args.envelope) c.requires)
 
 pub returns-clause-lawful : goal.returns-clause-lawful
 returns-clause-lawful c = lawful_push (data_of c.args.envelope) c.requires
