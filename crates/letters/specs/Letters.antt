@@ -1,8 +1,6 @@
 -- What a text spells: an envelope, or else an entry of the table.
-use Rattle.std.specs.Prelude.{◌≡◌, ℕ, List, Option, None, Some, Result, Ok, Err}
-use Rattle.std.specs.FinMap.{FinMap, get}
+use Rattle.std.specs.Prelude.{ℕ, List, Option, None, Some, Result, Ok, Err}
 use Rattle.serde_json.specs.Data.{Data}
-use Rattle.wire_values.specs.Order.{bytes_cmp}
 use Rattle.envelope.specs.Entries.{Entry, entry_at}
 use Rattle.envelope.specs.Envelopes.{envelope_at, parts_in}
 use Rattle.envelope.specs.Marks.{is_marked}
@@ -31,7 +29,3 @@ envelope_or (Err fault) rest = rest
 -- what a text spells, none where it is neither
 unfoldable pub letter_of : List ℕ → Option Letter
 letter_of b = envelope_or (envelope_at b) (entry_or_none (entry_at b))
-
--- each text of a table spells what it has there
-abbrev pub AreRight : FinMap bytes_cmp Letter → Type 0
-AreRight m = (b : List ℕ) (l : Letter) → get m b ≡ Some l → letter_of b ≡ Some l

@@ -1,51 +1,54 @@
 //! Texts with what they spell.
-ghost use Rattle.letters.specs.Letters.{AreRight};
+ghost use Rattle.letters.specs.Letters.{letter_of};
+ghost use Rattle.std.proofs.Props.{props};
+ghost use Rattle.std.specs.Prelude.{◌≡◌, Some};
 
 use crate::Letter;
 use envelope::{Envelope, write_entry};
-use wire_values::Bytes;
 use std::alloc::{AllocError, Global};
-use store_tables::Table;
+use std::collections::BTreeMap;
+use wire_values::Bytes;
+
+/// How many bytes at its end a text is told by.
+const TAIL: usize = 128;
+
+/// A text with what it spells.
+#[derive(Debug, Drop)]
+struct Note {
+    text: Bytes,
+    letter: Letter,
+    ghost right: { letter_of text ≡ Some letter } by { Prim.hlevel props },
+}
 
 /// Texts of envelopes and of entries, each with what it spells.
 ///
 /// Who writes or reads an envelope notes it here; who meets its text, or the text of its entry, later on finds what
-/// that spells, and reads no JSON. A text that isn't found is still to be read.
+/// that spells, and reads no JSON. A text that isn't found is still to be read. Of two texts of the same mark the later
+/// one is kept.
 #[derive(Debug, Drop)]
 pub struct Letters {
-    kept: Table<Letter>,
-    // Each text spells what is kept of it.
-    ghost right: { ∥ AreRight kept ∥₁ },
+    kept: BTreeMap<u64, Note>,
 }
 
 impl Letters {
-    ghost use Rattle.std.specs.Prelude.{◌≡◌, IfOk, IfSome, Ok, Some};
+    ghost use Rattle.std.specs.Prelude.{IfOk, IfSome, Ok};
     ghost use Rattle.envelope.specs.Entries.{entry_at, entry_for};
     ghost use Rattle.envelope.specs.Envelopes.{envelope_at};
-    ghost use Rattle.letters.specs.Letters.{letter_of};
     ghost use Rattle.serde_json.specs.View.{view as data_of};
 
     /// No texts; takes no memory.
     pub fn new(alloc: Global) -> Letters {
         Letters {
-            kept: Table::new(alloc),
+            kept: BTreeMap::new(alloc),
         }
     }
 
-    /// What the bytes spell, where they are known.
-    pub fn known(&self, alloc: Global, bytes: &[u8]) -> Result<Option<Letter>, AllocError>
-        ensures { IfOk result (λ found. IfSome found (λ letter. letter_of bytes.now ≡ Some letter)) }
+    /// What the bytes spell, where they are known. Takes no memory.
+    pub fn known(&self, bytes: &[u8]) -> Option<Letter>
+        ensures { IfSome result (λ letter. letter_of bytes.now ≡ Some letter) }
     {
-        let text = Bytes::from_slice(alloc, bytes)?;
-        Ok(self.found(&text))
-    }
-
-    /// What the text spells, where it is known.
-    fn found(&self, text: &Bytes) -> Option<Letter>
-        ensures { IfSome result (λ letter. letter_of text.now ≡ Some letter) }
-    {
-        match self.kept.get(text) {
-            Some(letter) => Some(*letter),
+        match self.kept.get(&mark_of(bytes)) {
+            Some(note) => note.letter_if(bytes),
             None => None,
         }
     }
@@ -76,7 +79,32 @@ impl Letters {
     fn put(&mut self, text: Bytes, letter: Letter) -> Result<(), AllocError>
         requires { letter_of text ≡ Some letter }
     {
-        self.kept.insert(text, letter)?;
+        let mark = mark_of(text.as_slice());
+        let _ = self.kept.insert(mark, Note { text, letter })?;
         Ok(())
     }
+}
+
+impl Note {
+    ghost use Rattle.std.specs.Prelude.{IfSome};
+
+    /// What the bytes spell, where they are this text.
+    fn letter_if(&self, bytes: &[u8]) -> Option<Letter>
+        ensures { IfSome result (λ letter. letter_of bytes.now ≡ Some letter) }
+    {
+        if self.text.as_slice() == bytes {
+            return Some(self.letter);
+        }
+        None
+    }
+}
+
+/// A number that tells most texts apart, by their lengths and their ends, where envelopes have their tags.
+fn mark_of(bytes: &[u8]) -> u64 {
+    let tail = &bytes[bytes.len().saturating_sub(TAIL)..];
+    let mut mark = bytes.len() as u64;
+    for byte in tail {
+        mark = (mark ^ u64::from(*byte)).wrapping_mul(0x0100_0000_01b3);
+    }
+    mark
 }

@@ -140,7 +140,7 @@ pub(crate) fn message_of(
 ) -> Result<Option<u128>, AllocError>
     ensures { IfOk result (λ n. n ≡ number (plain_setting.tag_of bytes.now)) }
 {
-    match letters.known(alloc, bytes)? {
+    match letters.known(bytes) {
         Some(letter) => Ok(number_in(letter)),
         None => read_message(alloc, letters, bytes),
     }

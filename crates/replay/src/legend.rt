@@ -57,7 +57,7 @@ fn shape_beside(alloc: Global, letters: &Letters, bytes: &[u8]) -> Result<Shape,
     ensures { IfOk result (λ shape. shape ≡ shape_of bytes.now) }
 {
     if may_open(true, bytes) || may_open(false, bytes) {
-        if let Some(letter) = letters.known(alloc, bytes)? {
+        if let Some(letter) = letters.known(bytes) {
             return Ok(letter_shape(letter));
         }
     }
