@@ -7,11 +7,13 @@ ghost use Rattle.store_model.specs.Texts.{until};
 ghost use Rattle.std.specs.FinMap.{entries};
 ghost use Rattle.std.specs.Prelude.{◌≡◌, ◌<◌, ◌^◌, [], IfOk, OnOk};
 
-use crate::conns::Connections;
 use std::alloc::{AllocError, Global};
+use store_conns::Connections;
+use store_keys::Keyspace;
 use store_keys::effect::{Effect, error, number, status};
-use store_keys::{Keyspace, hashes, lists, sets, sorted_sets, texts};
+use store_lists::{lists, texts};
 use store_model::{Command, Fault};
+use store_sets::{hashes, sets, sorted_sets};
 use wire_values::{Bytes, Value};
 
 /// The answer to a faulty spelling.
