@@ -1,6 +1,6 @@
 //! The keys and the connections, and what a command of a connection does to them.
-ghost use Rattle.store_model.specs.Commands.{is_queued};
-ghost use Rattle.store_model.specs.Connections.{Conns, cleared, conn, joined, posted, touched, with_queue, without};
+ghost use Rattle.store_model.specs.Commands.{is_queued, run};
+ghost use Rattle.store_model.specs.Connections.{Conns, around, cleared, conn, joined, posted, touched, with_queue, without};
 ghost use Rattle.store_model.specs.Keys.{Keys};
 ghost use Rattle.store_model.specs.Replies.{aborted, channel_answer, done, full, not_inside, number, queued};
 ghost use Rattle.store_model.specs.Store.{State, answer_to, apply_of, discard, empty_state, executed, finds, gone_of, heard_plain, inside, is_heard, multi, plain, quiet, ready_of, refused, run_all, run_one, run_queue, serve, settled, set_conn, spoken, subscribe, to_queue, unsubscribe, unwatch, watch};
@@ -14,11 +14,11 @@ use std::alloc::{AllocError, Global};
 use std::marker::Model;
 use std::mem;
 use store_conns::Connections;
+use store_integers::natural;
 use store_keys::Keyspace;
 use store_keys::effect::{error, number, pair, push_bulk, status};
 use store_model::{Command, Conn, Queue, Reply};
 use store_tables::Deque;
-use store_words::integer::natural;
 use store_words::{command_of, upper_byte};
 use wire_values::{Bytes, Value, Values, Words};
 
@@ -53,11 +53,30 @@ fn run_all(
     let mut altered = Deque::new(alloc);
     let mut answers = Items::new(alloc);
     while let Some(command) = commands.pop_front() {
-        let effect = run(keys, conns, alloc, at, command)?;
-        altered.append(effect.altered)?;
-        answers.push(effect.answer)?;
+        run_next(keys, conns, alloc, at, command, &mut altered, &mut answers)?;
     }
     Ok((altered, answers))
+}
+
+// One command more, with the keys that it altered and its answer.
+fn run_next(
+    keys: &mut Keyspace,
+    conns: &mut Connections,
+    alloc: Global,
+    at: u64,
+    command: Command,
+    altered: &mut Deque<Bytes>,
+    answers: &mut Values,
+) -> Result<(), AllocError>
+    requires { at < 2 ^ 40 }
+    ensures keys { OnOk result (keys.new ≡ (run (around at conns.old) keys.old command).keys) }
+    ensures altered { OnOk result (altered.new ≡ altered.old ++ (run (around at conns.old) keys.old command).altered) }
+    ensures answers { OnOk result (answers.new ≡ answers.old ++ (run (around at conns.old) keys.old command).answer ∷ []) }
+    ensures posted { OnOk result (conns.new ≡ posted command conns.old) }
+{
+    let effect = run(keys, conns, alloc, at, command)?;
+    altered.append(effect.altered)?;
+    Ok(answers.push(effect.answer)?)
 }
 
 // The connection with this queue.
@@ -369,7 +388,7 @@ impl Database {
             Command::Exec => self.execute(alloc, at, number),
             Command::Discard => self.discard(alloc, number),
             Command::Faulty(fault, _) => {
-                let answer = fault_answer(alloc, fault)?;
+                let answer = fault_answer(alloc, &fault)?;
                 self.refuse(alloc, number, answer)
             }
             other => self.enqueue(alloc, number, other),

@@ -154,8 +154,8 @@ impl Connections {
     ) -> Result<(), AllocError>
         ensures { OnOk result (self.new ≡ map.insert self.old number (with_command command (conn self.old number))) }
     {
-        let known = self.take(alloc, number);
-        let known = with_command(known, command)?;
+        let mut known = self.take(alloc, number);
+        push_to(&mut known.queue, command)?;
         self.set(number, known)
     }
 
@@ -350,29 +350,15 @@ fn with_broken(known: Conn) -> Conn
     }
 }
 
-fn longer(queue: Option<Queue>, command: Command) -> Result<Option<Queue>, AllocError>
-    ensures { IfOk result (λ q. q ≡ longer_queue command queue) }
+// Adds a command to a queue, if there is one.
+fn push_to(queue: &mut Option<Queue>, command: Command) -> Result<(), AllocError>
+    ensures { OnOk result (queue.new ≡ longer_queue command queue.old) }
 {
     let Some(queue) = queue else {
-        return Ok(None);
+        mem::drop(command);
+        return Ok(());
     };
-    let mut commands = queue.commands;
-    commands.push(command)?;
-    let broken = queue.broken;
-    Ok(Some(Queue { commands, broken }))
-}
-
-// The connection with a command more in its queue.
-fn with_command(known: Conn, command: Command) -> Result<Conn, AllocError>
-    ensures { IfOk result (λ c. c ≡ with_command command known) }
-{
-    Ok(Conn {
-        queue: longer(known.queue, command)?,
-        watched: known.watched,
-        marked: known.marked,
-        channels: known.channels,
-        pending: known.pending,
-    })
+    queue.commands.push(command)
 }
 
 // The connection with no messages pending, and the messages.

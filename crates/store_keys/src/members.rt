@@ -62,7 +62,7 @@ fn put_left(
     ensures { OnOk result (keys.new ≡ kept keys.old key.now value left) }
 {
     if left == 0 {
-        keys.remove(key);
+        keys.delete(key);
         return Ok(());
     }
     put_at(keys, alloc, key, value)

@@ -109,7 +109,7 @@ fn shorten(
     ensures { OnOk result (keys.new ≡ shortened keys.old key.now items) }
 {
     if items.is_empty() {
-        keys.remove(key);
+        keys.delete(key);
         return Ok(());
     }
     put_at(keys, alloc, key, Stored::Items(items))
@@ -125,9 +125,21 @@ pub fn rpop(keys: &mut Keyspace, alloc: Global, key: Bytes) -> Result<Effect, Al
     let Some(last) = items.pop_back() else {
         return Ok(Effect::none(alloc, Value::NullBulk));
     };
+    pop_bulk(keys, alloc, key, items, last)
+}
+
+// RPOP took the last element of a key, and these are left.
+fn pop_bulk(
+    keys: &mut Keyspace,
+    alloc: Global,
+    key: Bytes,
+    items: Deque<Bytes>,
+    last: Bytes,
+) -> Result<Effect, AllocError>
+    ensures { IfOk result (λ e. out keys.new e.altered e.answer ≡ out (shortened keys.old key items) (key ∷ []) (Value.Bulk last)) }
+{
     shorten(keys, alloc, &key, items)?;
-    let effect = Effect::one(alloc, &key, Value::Bulk(last))?;
-    Ok(effect)
+    Effect::one(alloc, &key, Value::Bulk(last))
 }
 
 // BRPOP at one key; none where it has no element, and the later keys decide.
@@ -142,12 +154,25 @@ fn pop_from(keys: &mut Keyspace, alloc: Global, key: Bytes) -> Result<Option<Eff
     let Some(last) = items.pop_back() else {
         return Ok(None);
     };
-    shorten(keys, alloc, &key, items)?;
-    Ok(Some(last_of(alloc, key, last)?))
+    Ok(Some(pop_pair(keys, alloc, key, items, last)?))
 }
 
-// BRPOP took the last element of a key.
-fn last_of(alloc: Global, key: Bytes, last: Bytes) -> Result<Effect, AllocError>
+// BRPOP took the last element of a key, and these are left.
+fn pop_pair(
+    keys: &mut Keyspace,
+    alloc: Global,
+    key: Bytes,
+    items: Deque<Bytes>,
+    last: Bytes,
+) -> Result<Effect, AllocError>
+    ensures { IfOk result (λ e. out keys.new e.altered e.answer ≡ out (shortened keys.old key items) (key ∷ []) (pair key last)) }
+{
+    shorten(keys, alloc, &key, items)?;
+    pair_effect(alloc, key, last)
+}
+
+// One key was altered, and the array of it and an element is answered.
+fn pair_effect(alloc: Global, key: Bytes, last: Bytes) -> Result<Effect, AllocError>
     ensures { IfOk result (λ e. e ≡ record { altered = key ∷ []; answer = pair key last }) }
 {
     let name = key.copy(alloc)?;

@@ -4,7 +4,7 @@ ghost use Rattle.store_model.specs.Keys.{dropped, expire, out, value_at};
 ghost use Rattle.store_model.specs.Replies.{done, number};
 ghost use Rattle.store_model.specs.Texts.{set_text, text_answer};
 ghost use Rattle.std.specs.FinMap.{get};
-ghost use Rattle.std.specs.Prelude.{◌≡◌, ◌+◌, ◌<◌, ◌^◌, [], ◌∷◌, IfOk, OnOk, is_some, length};
+ghost use Rattle.std.specs.Prelude.{◌≡◌, ◌+◌, ◌<◌, ◌^◌, [], ◌∷◌, IfOk, OnOk, false, is_some, length};
 
 use std::alloc::{AllocError, Global};
 use store_keys::Keyspace;
@@ -44,6 +44,19 @@ pub fn set(
             return Ok(Effect::none(alloc, Value::NullBulk));
         }
     }
+    put_text(keys, alloc, key, text, expiry)
+}
+
+// A text is put under a key, with the moment from which it is gone.
+fn put_text(
+    keys: &mut Keyspace,
+    alloc: Global,
+    key: Bytes,
+    text: Bytes,
+    expiry: Option<u64>,
+) -> Result<Effect, AllocError>
+    ensures { IfOk result (λ e. out keys.new e.altered e.answer ≡ set_text keys.old key text expiry false) }
+{
     let effect = done(alloc, &key)?;
     let value = Stored::Text(text);
     keys.insert(key, Held { value, expiry })?;
@@ -68,7 +81,7 @@ fn drop_all(
 {
     let mut gone = Deque::new(alloc);
     while let Some(key) = names.pop_front() {
-        if keys.remove(&key).is_some() {
+        if keys.delete(&key) {
             gone.push(key)?;
         }
     }

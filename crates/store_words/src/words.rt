@@ -1,10 +1,10 @@
 //! How commands are spelled as words.
 ghost use Rattle.store_model.specs.Integers.{integer_of, natural_of, seconds_of};
 ghost use Rattle.store_model.specs.Words.{IsWithinLimits, bare, brpop_of, command_of, connection_command, faulty, hash_command, key_command, lasting, list_command, named, range_of, select_of, expire_of, zadd_of, set_command, set_of, sorted_set_command, transaction_command, upper_byte, with_one, with_rest, with_some, with_three, with_two, zrevrangebyscore_of};
-ghost use Rattle.std.specs.Prelude.{All, ◌≡◌, ◌≤◌, ◌↔◌, length, Bool, IsTrue, List, [], ◌∷◌, IfOk, MatchOption, None, Some, map as mapped, ℕ};
+ghost use Rattle.std.specs.Prelude.{All, ◌≡◌, ◌≤◌, ◌↔◌, length, Bool, IsTrue, List, [], ◌∷◌, IfOk, MatchOption, None, Some, false, map as mapped, true, ℕ};
 
-use crate::integer::{integer, natural, seconds};
 use std::alloc::{AllocError, Global};
+use store_integers::{integer, natural, seconds};
 use store_model::{Command, Fault};
 use store_tables::Deque;
 use wire_values::{Bytes, Words};
@@ -115,29 +115,62 @@ fn set_lasting(
     }
 }
 
+// SET with NX.
+fn set_new(alloc: Global, key: &Bytes, text: &Bytes, option: &Bytes) -> Result<Command, AllocError>
+    ensures { IfOk result (λ command. command ≡ set_of (key.now ∷ text.now ∷ option.now ∷ [])) }
+{
+    if option.as_slice() != b"NX".as_slice() {
+        return Ok(faulty(Fault::Syntax));
+    }
+    set_text(alloc, key, text, true, None)
+}
+
+// SET with EX and seconds.
+fn set_expiring(
+    alloc: Global,
+    key: &Bytes,
+    text: &Bytes,
+    option: &Bytes,
+    life: &Bytes,
+) -> Result<Command, AllocError>
+    ensures { IfOk result (λ command. command ≡ set_of (key.now ∷ text.now ∷ option.now ∷ life.now ∷ [])) }
+{
+    if option.as_slice() != b"EX".as_slice() {
+        return Ok(faulty(Fault::Syntax));
+    }
+    set_lasting(alloc, key, text, false, life)
+}
+
+// SET with NX, EX and seconds.
+fn set_new_expiring(
+    alloc: Global,
+    key: &Bytes,
+    text: &Bytes,
+    first: &Bytes,
+    second: &Bytes,
+    life: &Bytes,
+) -> Result<Command, AllocError>
+    ensures { IfOk result (λ command. command ≡ set_of (key.now ∷ text.now ∷ first.now ∷ second.now ∷ life.now ∷ [])) }
+{
+    if first.as_slice() != b"NX".as_slice() {
+        return Ok(faulty(Fault::Syntax));
+    }
+    if second.as_slice() != b"EX".as_slice() {
+        return Ok(faulty(Fault::Syntax));
+    }
+    set_lasting(alloc, key, text, true, life)
+}
+
 // SET with NX, EX and seconds, or both.
 fn set_of(alloc: Global, args: &[Bytes]) -> Result<Command, AllocError>
     ensures { IfOk result (λ command. command ≡ set_of args.now) }
 {
     match args {
         [key, text] => set_text(alloc, key, text, false, None),
-        [key, text, option] => {
-            if option.as_slice() != b"NX".as_slice() {
-                return Ok(faulty(Fault::Syntax));
-            }
-            set_text(alloc, key, text, true, None)
-        }
-        [key, text, option, life] => {
-            if option.as_slice() != b"EX".as_slice() {
-                return Ok(faulty(Fault::Syntax));
-            }
-            set_lasting(alloc, key, text, false, life)
-        }
+        [key, text, option] => set_new(alloc, key, text, option),
+        [key, text, option, life] => set_expiring(alloc, key, text, option, life),
         [key, text, first, second, life] => {
-            if first.as_slice() != b"NX".as_slice() || second.as_slice() != b"EX".as_slice() {
-                return Ok(faulty(Fault::Syntax));
-            }
-            set_lasting(alloc, key, text, true, life)
+            set_new_expiring(alloc, key, text, first, second, life)
         }
         [] | [_] | [_, _, _, _, _, _, ..] => Ok(faulty(Fault::Arity)),
     }

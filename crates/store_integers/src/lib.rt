@@ -1,4 +1,6 @@
-//! Integers in their one spelling.
+//! Integers in their one spelling, as commands have them among their words.
+#![tactic(auto)]
+
 ghost use Rattle.store_model.specs.Integers.{digits_onto, from_zero, integer_of, magnitude_of, natural_of, negative_integer, plain_integer, seconds_of, within_seconds};
 ghost use Rattle.std.specs.Prelude.{◌≡◌};
 
