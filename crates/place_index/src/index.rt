@@ -20,7 +20,7 @@ use std::alloc::{AllocError, Global};
 use wire_values::List;
 
 /// What a history tells of its messages.
-#[derive(Debug, Drop)]
+#[derive(Drop)]
 pub(crate) struct Index {
     /// The messages that were pushed directly, in order.
     pub(crate) accepted: List<u128>,
@@ -56,10 +56,7 @@ fn tallies(
 }
 
 /// The messages in the hands of clients, and those in the hands of clients that are gone.
-fn held(
-    alloc: Global,
-    seats: &Numbered<Seat>,
-) -> Result<(Tagged<u32>, Tagged<u32>), AllocError>
+fn held(alloc: Global, seats: &Numbered<Seat>) -> Result<(Tagged<u32>, Tagged<u32>), AllocError>
     ensures there { IfOk result (λ r. (t : ℕ) → get r.0 t ≡ first_of t (hands false (entries seats.now))) }
     ensures gone { IfOk result (λ r. (t : ℕ) → get r.1 t ≡ first_of t (hands true (entries seats.now))) }
 {

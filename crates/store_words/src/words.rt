@@ -152,10 +152,8 @@ fn set_new_expiring(
 ) -> Result<Command, AllocError>
     ensures { IfOk result (λ command. command ≡ set_of (key.now ∷ text.now ∷ first.now ∷ second.now ∷ life.now ∷ [])) }
 {
-    if first.as_slice() != b"NX".as_slice() {
-        return Ok(faulty(Fault::Syntax));
-    }
-    if second.as_slice() != b"EX".as_slice() {
+    let is_lawful = first.as_slice() == b"NX".as_slice() && second.as_slice() == b"EX".as_slice();
+    if !is_lawful {
         return Ok(faulty(Fault::Syntax));
     }
     set_lasting(alloc, key, text, true, life)
