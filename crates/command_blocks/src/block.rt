@@ -6,6 +6,7 @@ ghost use Rattle.command_blocks.specs.declared.block.CoreFault.TheVariants.{Memo
 use envelope::{Envelope, EnvelopeFault, Tag};
 use queue_keys::NameFault;
 use std::alloc::{AllocError, Global};
+use std::fmt;
 use store_model::Reply;
 use wire_values::{Bytes, copy_values};
 
@@ -19,7 +20,7 @@ pub enum Side {
 }
 
 /// How a block of commands ended.
-#[derive(Debug, Drop)]
+#[derive(Drop)]
 pub enum BlockEnd {
     /// A binding was added or removed.
     Declared,
@@ -51,8 +52,29 @@ pub enum BlockEnd {
     Told(Reply),
 }
 
+impl fmt::Debug for BlockEnd {
+    fn fmt<W: fmt::Write>(&self, f: &mut fmt::Formatter<W>) -> fmt::Result {
+        f.write_str(match self {
+            BlockEnd::Declared => "Declared",
+            BlockEnd::Sent { .. } => "Sent",
+            BlockEnd::NoQueue(_) => "NoQueue",
+            BlockEnd::Empty => "Empty",
+            BlockEnd::Popped { .. } => "Popped",
+            BlockEnd::Unreadable => "Unreadable",
+            BlockEnd::Acked { .. } => "Acked",
+            BlockEnd::Moved => "Moved",
+            BlockEnd::Gone => "Gone",
+            BlockEnd::Stayed => "Stayed",
+            BlockEnd::Contended(_) => "Contended",
+            BlockEnd::Done { .. } => "Done",
+            BlockEnd::Held => "Held",
+            BlockEnd::Told(_) => "Told",
+        })
+    }
+}
+
 /// Why a block can't begin or go on.
-#[derive(Debug, Drop)]
+#[derive(Drop)]
 pub enum CoreFault {
     /// The message can't be sealed.
     Draft(EnvelopeFault),
@@ -66,6 +88,19 @@ pub enum CoreFault {
     Refused(Reply),
     /// Want of memory.
     Memory,
+}
+
+impl fmt::Debug for CoreFault {
+    fn fmt<W: fmt::Write>(&self, f: &mut fmt::Formatter<W>) -> fmt::Result {
+        f.write_str(match self {
+            CoreFault::Draft(_) => "Draft",
+            CoreFault::Name(_) => "Name",
+            CoreFault::NoTag => "NoTag",
+            CoreFault::BadNeutral => "BadNeutral",
+            CoreFault::Refused(_) => "Refused",
+            CoreFault::Memory => "Memory",
+        })
+    }
 }
 
 impl CoreFault {

@@ -1,24 +1,24 @@
 //! The keys and the connections, and what a command of a connection does to them.
-ghost use Rattle.store_model.specs.Commands.{is_queued};
-ghost use Rattle.store_model.specs.Connections.{Conns, cleared, conn, joined, posted, touched, with_queue, without};
+ghost use Rattle.store_model.specs.Commands.{is_queued, run};
+ghost use Rattle.store_model.specs.Connections.{Conns, around, cleared, conn, joined, posted, touched, with_queue, without};
 ghost use Rattle.store_model.specs.Keys.{Keys};
-ghost use Rattle.store_model.specs.Replies.{aborted, channel_answer, done, full, not_inside, queued};
+ghost use Rattle.store_model.specs.Replies.{aborted, channel_answer, done, full, not_inside, number, queued};
 ghost use Rattle.store_model.specs.Store.{State, answer_to, apply_of, discard, empty_state, executed, finds, gone_of, heard_plain, inside, is_heard, multi, plain, quiet, ready_of, refused, run_all, run_one, run_queue, serve, settled, set_conn, spoken, subscribe, to_queue, unsubscribe, unwatch, watch};
 ghost use Rattle.store_model.specs.Words.{brpop_of, command_of, upper_byte};
 ghost use Rattle.std.specs.FinMap.{insert, remove};
 ghost use Rattle.std.specs.Prelude.{◌≡◌, ◌<◌, ◌^◌, [], ◌∷◌, ◌++◌, ℕ, IfOk, IsTrue, None, OnOk, Some, bytes_eq, codes, false, is_some, length, map as mapped, nat_lt, true};
 
-use crate::conns::Connections;
 use crate::run::{fault_answer, is_queued, run};
 use sqlite_items::Items;
 use std::alloc::{AllocError, Global};
 use std::marker::Model;
 use std::mem;
+use store_conns::Connections;
+use store_integers::natural;
 use store_keys::Keyspace;
-use store_keys::effect::{error, number, pair, status};
+use store_keys::effect::{error, number, pair, push_bulk, status};
 use store_model::{Command, Conn, Queue, Reply};
 use store_tables::Deque;
-use store_words::integer::natural;
 use store_words::{command_of, upper_byte};
 use wire_values::{Bytes, Value, Values, Words};
 
@@ -53,11 +53,30 @@ fn run_all(
     let mut altered = Deque::new(alloc);
     let mut answers = Items::new(alloc);
     while let Some(command) = commands.pop_front() {
-        let effect = run(keys, conns, alloc, at, command)?;
-        altered.append(effect.altered)?;
-        answers.push(effect.answer)?;
+        run_next(keys, conns, alloc, at, command, &mut altered, &mut answers)?;
     }
     Ok((altered, answers))
+}
+
+// One command more, with the keys that it altered and its answer.
+fn run_next(
+    keys: &mut Keyspace,
+    conns: &mut Connections,
+    alloc: Global,
+    at: u64,
+    command: Command,
+    altered: &mut Deque<Bytes>,
+    answers: &mut Values,
+) -> Result<(), AllocError>
+    requires { at < 2 ^ 40 }
+    ensures keys { OnOk result (keys.new ≡ (run (around at conns.old) keys.old command).keys) }
+    ensures altered { OnOk result (altered.new ≡ altered.old ++ (run (around at conns.old) keys.old command).altered) }
+    ensures answers { OnOk result (answers.new ≡ answers.old ++ (run (around at conns.old) keys.old command).answer ∷ []) }
+    ensures posted { OnOk result (conns.new ≡ posted command conns.old) }
+{
+    let effect = run(keys, conns, alloc, at, command)?;
+    altered.append(effect.altered)?;
+    Ok(answers.push(effect.answer)?)
 }
 
 // The connection with this queue.
@@ -145,10 +164,17 @@ fn channel_answer(
     ensures { IfOk result (λ v. v ≡ channel_answer word.now channel count) }
 {
     let mut parts = Items::new(alloc);
-    parts.push(Value::Bulk(Bytes::from_slice(alloc, word)?))?;
+    push_bulk(alloc, &mut parts, word)?;
     parts.push(Value::Bulk(channel))?;
-    parts.push(number(count)?)?;
+    push_number(&mut parts, count)?;
     Ok(Value::Array(parts))
+}
+
+fn push_number(parts: &mut Values, count: usize) -> Result<(), AllocError>
+    ensures { OnOk result (parts.new ≡ parts.old ++ number count ∷ []) }
+{
+    let count = number(count)?;
+    Ok(parts.push(count)?)
 }
 
 impl Database {
@@ -191,7 +217,7 @@ impl Database {
         ensures { IfOk result (λ v. (self.new, v) ≡ subscribe self.old number (conn self.old.conns number) channel) }
     {
         let mut known = self.conns.take(alloc, number);
-        known.channels = join(alloc, known.channels, &channel)?;
+        join(alloc, &mut known.channels, &channel)?;
         let count = known.channels.len();
         self.conns.set(number, known)?;
         let answer = channel_answer(alloc, b"subscribe".as_slice(), channel, count)?;
@@ -237,19 +263,15 @@ impl Database {
     }
 }
 
-// The channels with this one.
-fn join(
-    alloc: Global,
-    mut channels: Deque<Bytes>,
-    channel: &Bytes,
-) -> Result<Deque<Bytes>, AllocError>
-    ensures { IfOk result (λ all. all ≡ joined channel.now channels) }
+// Adds a channel to those that there are.
+fn join(alloc: Global, channels: &mut Deque<Bytes>, channel: &Bytes) -> Result<(), AllocError>
+    ensures { OnOk result (channels.new ≡ joined channel.now channels.old) }
 {
     if channels.has(channel) {
-        return Ok(channels);
+        return Ok(());
     }
-    channels.push(channel.copy(alloc)?)?;
-    Ok(channels)
+    let channel = channel.copy(alloc)?;
+    channels.push(channel)
 }
 
 impl Database {
@@ -366,7 +388,7 @@ impl Database {
             Command::Exec => self.execute(alloc, at, number),
             Command::Discard => self.discard(alloc, number),
             Command::Faulty(fault, _) => {
-                let answer = fault_answer(alloc, fault)?;
+                let answer = fault_answer(alloc, &fault)?;
                 self.refuse(alloc, number, answer)
             }
             other => self.enqueue(alloc, number, other),

@@ -1,22 +1,25 @@
 //! What each command does to the keys.
-ghost use Rattle.store_model.specs.Commands.{is_queued, run, select_answer};
+ghost use Rattle.store_model.specs.Commands.{Around, is_queued, run, select_answer};
 ghost use Rattle.store_model.specs.Connections.{around, delivered, hearing, posted};
 ghost use Rattle.store_model.specs.Keys.{out};
 ghost use Rattle.store_model.specs.Replies.{fault_text, number};
 ghost use Rattle.store_model.specs.Texts.{until};
+ghost use Rattle.mini_store.specs.RunParts.{is_on_tables, only_looks};
 ghost use Rattle.std.specs.FinMap.{entries};
-ghost use Rattle.std.specs.Prelude.{◌≡◌, ◌<◌, ◌^◌, [], IfOk, OnOk};
+ghost use Rattle.std.specs.Prelude.{◌≡◌, ◌<◌, ◌^◌, [], IfOk, OnOk, true};
 
-use crate::conns::Connections;
 use std::alloc::{AllocError, Global};
+use store_conns::Connections;
+use store_keys::Keyspace;
 use store_keys::effect::{Effect, error, number, status};
-use store_keys::{Keyspace, hashes, lists, sets, sorted_sets, texts};
+use store_lists::{lists, texts};
 use store_model::{Command, Fault};
+use store_sets::{hashes, sets, sorted_sets};
 use wire_values::{Bytes, Value};
 
 /// The answer to a faulty spelling.
-pub fn fault_answer(alloc: Global, fault: Fault) -> Result<Value, AllocError>
-    ensures { IfOk result (λ v. v ≡ Value.Error (fault_text fault)) }
+pub fn fault_answer(alloc: Global, fault: &Fault) -> Result<Value, AllocError>
+    ensures { IfOk result (λ v. v ≡ Value.Error (fault_text fault.now)) }
 {
     match fault {
         Fault::Name => error(alloc, b"ERR command".as_slice()),
@@ -85,12 +88,6 @@ pub fn is_queued(command: &Command) -> bool
     }
 }
 
-fn looked(alloc: Global, answer: Value) -> Result<Effect, AllocError>
-    ensures { IfOk result (λ e. (e.altered ≡ []) × (e.answer ≡ answer)) }
-{
-    Ok(Effect::none(alloc, answer))
-}
-
 /// Runs a command: what it does to the keys, and to the messages that connections have pending.
 pub fn run(
     keys: &mut Keyspace,
@@ -104,9 +101,6 @@ pub fn run(
     ensures posted { OnOk result (conns.new ≡ posted command conns.old) }
 {
     match command {
-        Command::Ping => looked(alloc, status(alloc, b"PONG".as_slice())?),
-        Command::Select(number) => looked(alloc, select_answer(alloc, number)?),
-        Command::Get(key) => looked(alloc, texts::get(keys, alloc, &key)?),
         Command::Set(key, text, absent, life) => {
             texts::set(keys, alloc, key, text, until(at, life), absent)
         }
@@ -116,32 +110,72 @@ pub fn run(
         Command::Rpush(key, values) => lists::rpush(keys, alloc, key, values),
         Command::Rpop(key) => lists::rpop(keys, alloc, key),
         Command::Brpop(names) => lists::brpop(keys, alloc, names),
-        Command::Llen(key) => looked(alloc, lists::len(keys, alloc, &key)?),
-        Command::Hlen(key) => looked(alloc, hashes::len(keys, alloc, &key)?),
-        Command::Zcard(key) => looked(alloc, sorted_sets::len(keys, alloc, &key)?),
+        Command::Publish(channel, text) => publish(conns, alloc, &channel, &text),
+        other => run_on_tables(keys, alloc, other),
+    }
+}
+
+// Runs a command on a set, a hash or a sorted set, or one that only looks.
+fn run_on_tables(keys: &mut Keyspace, alloc: Global, command: Command) -> Result<Effect, AllocError>
+    ensures { is_on_tables command ≡ true → (a : Around) → IfOk result (λ e. out keys.new e.altered e.answer ≡ run a keys.old command) }
+{
+    match command {
         Command::Sadd(key, names) => sets::sadd(keys, alloc, key, names),
         Command::Srem(key, names) => sets::srem(keys, alloc, key, names),
-        Command::Smembers(key) => looked(alloc, sets::members(keys, alloc, &key)?),
         Command::Hset(key, field, text) => hashes::hset(keys, alloc, key, field, text),
-        Command::Hget(key, field) => looked(alloc, hashes::hget(keys, alloc, &key, &field)?),
         Command::Hdel(key, names) => hashes::hdel(keys, alloc, key, names),
         Command::Zadd(key, score, name) => sorted_sets::zadd(keys, alloc, key, score, name),
         Command::Zrem(key, names) => sorted_sets::zrem(keys, alloc, key, names),
+        other => run_to_look(keys, alloc, other),
+    }
+}
+
+// Runs a command that only looks.
+fn run_to_look(keys: &Keyspace, alloc: Global, command: Command) -> Result<Effect, AllocError>
+    ensures { only_looks command ≡ true → (a : Around) → IfOk result (λ e. out keys.now e.altered e.answer ≡ run a keys.now command) }
+{
+    let answer = look(keys, alloc, &command)?;
+    Ok(Effect::none(alloc, answer))
+}
+
+// The answer to a command that only looks.
+fn look(keys: &Keyspace, alloc: Global, command: &Command) -> Result<Value, AllocError>
+    ensures { only_looks command.now ≡ true → (a : Around) → IfOk result (λ v. out keys.now [] v ≡ run a keys.now command.now) }
+{
+    match command {
+        Command::Ping => status(alloc, b"PONG".as_slice()),
+        Command::Select(number) => select_answer(alloc, *number),
+        Command::Get(key) => texts::get(keys, alloc, key),
+        Command::Llen(key) => lists::len(keys, alloc, key),
+        Command::Hlen(key) => hashes::len(keys, alloc, key),
+        Command::Zcard(key) => sorted_sets::len(keys, alloc, key),
+        Command::Smembers(key) => sets::members(keys, alloc, key),
+        Command::Hget(key, field) => hashes::hget(keys, alloc, key, field),
         Command::Zrevrangebyscore(key, high, low, skip, most) => {
-            looked(
-                alloc,
-                sorted_sets::range(keys, alloc, &key, high, low, skip, most)?,
-            )
+            sorted_sets::range(keys, alloc, key, *high, *low, *skip, *most)
         }
-        Command::Publish(channel, text) => publish(conns, alloc, &channel, &text),
-        Command::Faulty(fault, _) => looked(alloc, fault_answer(alloc, fault)?),
+        Command::Faulty(fault, _) => fault_answer(alloc, fault),
         Command::Watch(_)
         | Command::Unwatch
         | Command::Multi
         | Command::Exec
         | Command::Discard
         | Command::Subscribe(_)
-        | Command::Unsubscribe(_) => looked(alloc, error(alloc, b"ERR outside".as_slice())?),
+        | Command::Unsubscribe(_) => error(alloc, b"ERR outside".as_slice()),
+        Command::Set(_, _, _, _)
+        | Command::Del(_)
+        | Command::Expire(_, _)
+        | Command::Lpush(_, _)
+        | Command::Rpush(_, _)
+        | Command::Rpop(_)
+        | Command::Brpop(_)
+        | Command::Sadd(_, _)
+        | Command::Srem(_, _)
+        | Command::Hset(_, _, _)
+        | Command::Hdel(_, _)
+        | Command::Zadd(_, _, _)
+        | Command::Zrem(_, _)
+        | Command::Publish(_, _) => error(alloc, b"ERR outside".as_slice()),
     }
 }
 

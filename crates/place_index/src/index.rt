@@ -1,10 +1,18 @@
 //! What a history tells of its messages, to be looked up by the numbers of their tags.
-ghost use Rattle.std.specs.Prelude.{◌≡◌, IfOk};
+ghost use Rattle.std.specs.Prelude.{◌≡◌, ℕ, IfOk, false, true};
+ghost use Rattle.std.specs.FinMap.{entries, get};
+ghost use Rattle.command_blocks.specs.EnvelopeTexts.{plain_setting};
+ghost use Rattle.place_model.specs.Histories.{after};
+ghost use Rattle.place_model.specs.Shown.{history_of};
+ghost use Rattle.place_index.specs.Gathered.{first_of, hands, times, told_by};
+ghost use Rattle.place_index.specs.Tallies.{tally};
 
 use crate::kept::is_kept;
+use crate::numbered::Numbered;
+use crate::seat::Seat;
 use crate::standing::{Standing, told_by};
 use crate::tagged::{Tagged, first_told, tallied};
-use crate::walk::gathered;
+use crate::walk::{Walk, gathered};
 use letters::Letters;
 use mini_store::Store;
 use place_model::{History, Place};
@@ -12,7 +20,7 @@ use std::alloc::{AllocError, Global};
 use wire_values::List;
 
 /// What a history tells of its messages.
-#[derive(Debug, Drop)]
+#[derive(Drop)]
 pub(crate) struct Index {
     /// The messages that were pushed directly, in order.
     pub(crate) accepted: List<u128>,
@@ -32,10 +40,34 @@ pub(crate) struct Index {
     pub(crate) store: Store,
 }
 
+/// The messages that were pushed, ended and copied, each with whether it was so more than once.
+fn tallies(
+    alloc: Global,
+    walk: &Walk,
+) -> Result<(Tagged<bool>, Tagged<bool>, Tagged<bool>), AllocError>
+    ensures pushes { IfOk result (λ r. (t : ℕ) → get r.0 t ≡ tally (times t walk.now.pushes)) }
+    ensures ended { IfOk result (λ r. (t : ℕ) → get r.1 t ≡ tally (times t walk.now.ended)) }
+    ensures copied { IfOk result (λ r. (t : ℕ) → get r.2 t ≡ tally (times t walk.now.copied)) }
+{
+    let pushes = tallied(alloc, walk.pushes.as_slice())?;
+    let ended = tallied(alloc, walk.ended.as_slice())?;
+    let copied = tallied(alloc, walk.copied.as_slice())?;
+    Ok((pushes, ended, copied))
+}
+
+/// The messages in the hands of clients, and those in the hands of clients that are gone.
+fn held(alloc: Global, seats: &Numbered<Seat>) -> Result<(Tagged<u32>, Tagged<u32>), AllocError>
+    ensures there { IfOk result (λ r. (t : ℕ) → get r.0 t ≡ first_of t (hands false (entries seats.now))) }
+    ensures gone { IfOk result (λ r. (t : ℕ) → get r.1 t ≡ first_of t (hands true (entries seats.now))) }
+{
+    let there = first_told(alloc, seats.hands(alloc, false)?)?;
+    let gone = first_told(alloc, seats.hands(alloc, true)?)?;
+    Ok((there, gone))
+}
+
 impl Index {
     ghost use Rattle.place_model.specs.Histories.{after};
     ghost use Rattle.place_index.specs.Indexed.{IsIndexOf, place_in, single_in};
-    ghost use Rattle.place_model.specs.Shown.{history_of};
 
     /// What a history tells that leaves this store.
     pub(crate) fn of(
@@ -48,12 +80,9 @@ impl Index {
         ensures { IfOk result (λ index. IsIndexOf (history_of history.now) index) }
     {
         let walk = gathered(alloc, letters, history)?;
+        let (pushes, ended, copied) = tallies(alloc, &walk)?;
+        let (hands, losses) = held(alloc, &walk.seats)?;
         let standing = first_told(alloc, told_by(alloc, letters, store.keys())?)?;
-        let hands = first_told(alloc, walk.seats.hands(alloc, false)?)?;
-        let losses = first_told(alloc, walk.seats.hands(alloc, true)?)?;
-        let pushes = tallied(alloc, walk.pushes.as_slice())?;
-        let ended = tallied(alloc, walk.ended.as_slice())?;
-        let copied = tallied(alloc, walk.copied.as_slice())?;
         Ok(Index {
             accepted: walk.accepted,
             pushes,

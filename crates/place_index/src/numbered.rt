@@ -7,7 +7,7 @@ use std::collections::BTreeMap;
 use std::marker::Model;
 
 /// A table from connections to values, seen by contracts as a finite map in the order of connections.
-#[derive(Debug, Drop)]
+#[derive(Drop)]
 pub(crate) struct Numbered<V> {
     pub(crate) kept: BTreeMap<u32, V>,
 }

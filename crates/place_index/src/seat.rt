@@ -2,7 +2,7 @@
 use wire_values::List;
 
 /// What a command of a transaction does to a message, by the number of its delivery tag.
-#[derive(Clone, Copy, Debug)]
+#[derive(Clone, Copy)]
 pub(crate) enum Act {
     /// It pushes the message to a queue.
     Push(u128),
@@ -13,7 +13,7 @@ pub(crate) enum Act {
 }
 
 /// What else of a command matters to the places of messages.
-#[derive(Clone, Copy, Debug)]
+#[derive(Clone, Copy)]
 pub(crate) enum Kind {
     /// LPUSH.
     Pushes,
@@ -28,7 +28,7 @@ pub(crate) enum Kind {
 }
 
 /// What is kept of a client.
-#[derive(Debug, Drop)]
+#[derive(Drop)]
 pub(crate) struct Seat {
     /// The message in its hand.
     pub(crate) hand: Option<u128>,

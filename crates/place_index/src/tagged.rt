@@ -11,7 +11,7 @@ use std::marker::Model;
 use wire_values::List;
 
 /// A table from the numbers of delivery tags to values, seen by contracts as a finite map in the order of numbers.
-#[derive(Debug, Drop)]
+#[derive(Drop)]
 pub(crate) struct Tagged<V> {
     kept: BTreeMap<u128, V>,
 }

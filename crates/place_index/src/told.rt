@@ -18,7 +18,7 @@ use store_words::command_of;
 use wire_values::{Bytes, Words};
 
 /// What a command tells.
-#[derive(Clone, Copy, Debug)]
+#[derive(Clone, Copy)]
 pub(crate) struct Told {
     pub(crate) kind: Kind,
     pub(crate) act: Act,
@@ -43,35 +43,34 @@ fn of_command(
 ) -> Result<Told, AllocError>
     ensures { IfOk result (λ told. told ≡ record { kind = kind_of command; act = act_of plain_setting command }) }
 {
+    let kind = kind_of(&command);
+    let act = act_of(alloc, letters, command)?;
+    Ok(Told { kind, act })
+}
+
+/// What a command does to a message.
+fn act_of(alloc: Global, letters: &mut Letters, command: Command) -> Result<Act, AllocError>
+    ensures { IfOk result (λ act. act ≡ act_of plain_setting command) }
+{
     match command {
-        Command::Lpush(key, elements) => Ok(Told {
-            kind: Kind::Pushes,
-            act: push_one(alloc, letters, &key, elements)?,
-        }),
-        Command::Rpush(key, elements) => Ok(Told {
-            kind: Kind::Others,
-            act: push_one(alloc, letters, &key, elements)?,
-        }),
-        Command::Hdel(key, fields) => Ok(Told {
-            kind: Kind::Others,
-            act: take_one(&key, fields),
-        }),
-        Command::Brpop(_) => Ok(Told {
-            kind: Kind::Pops,
-            act: Act::Nothing,
-        }),
-        Command::Multi => Ok(Told {
-            kind: Kind::Begins,
-            act: Act::Nothing,
-        }),
-        Command::Exec => Ok(Told {
-            kind: Kind::Runs,
-            act: Act::Nothing,
-        }),
-        _ => Ok(Told {
-            kind: Kind::Others,
-            act: Act::Nothing,
-        }),
+        Command::Lpush(key, elements) | Command::Rpush(key, elements) => {
+            push_one(alloc, letters, &key, elements)
+        }
+        Command::Hdel(key, fields) => Ok(take_one(&key, fields)),
+        _ => Ok(Act::Nothing),
+    }
+}
+
+/// What else of a command matters.
+fn kind_of(command: &Command) -> Kind
+    ensures { result ≡ kind_of command.now }
+{
+    match command {
+        Command::Lpush(_, _) => Kind::Pushes,
+        Command::Brpop(_) => Kind::Pops,
+        Command::Multi => Kind::Begins,
+        Command::Exec => Kind::Runs,
+        _ => Kind::Others,
     }
 }
 

@@ -17,7 +17,7 @@ use std::alloc::{AllocError, Global};
 use wire_values::{List, Value};
 
 /// What was gathered, by the numbers of delivery tags.
-#[derive(Debug, Drop)]
+#[derive(Drop)]
 pub(crate) struct Walk {
     /// The clients.
     pub(crate) seats: Numbered<Seat>,

@@ -1,5 +1,6 @@
 //! What a worker notes of its messages.
 use envelope::Tag;
+use std::fmt;
 use wire_values::Bytes;
 
 /// How a task ended.
@@ -14,7 +15,7 @@ pub enum Outcome {
 }
 
 /// A note of a worker on a message, by the message's delivery tag.
-#[derive(Debug, Drop)]
+#[derive(Drop)]
 pub enum Heard {
     /// Its task was taken to be run.
     Took(Tag),
@@ -30,4 +31,18 @@ pub enum Heard {
     Held { tag: Tag, eta: i64 },
     /// What was popped is no envelope.
     Unreadable,
+}
+
+impl fmt::Debug for Heard {
+    fn fmt<W: fmt::Write>(&self, f: &mut fmt::Formatter<W>) -> fmt::Result {
+        f.write_str(match self {
+            Heard::Took(_) => "Took",
+            Heard::Finished { .. } => "Finished",
+            Heard::Expired { .. } => "Expired",
+            Heard::Revoked(_) => "Revoked",
+            Heard::Rejected(_) => "Rejected",
+            Heard::Held { .. } => "Held",
+            Heard::Unreadable => "Unreadable",
+        })
+    }
 }

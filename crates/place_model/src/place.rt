@@ -1,8 +1,9 @@
 //! Where a message is.
+use std::fmt;
 use wire_values::Bytes;
 
 /// The one place of a message, by its delivery tag.
-#[derive(Debug, Drop)]
+#[derive(Drop)]
 pub enum Place {
     /// In the list of a queue at a priority step.
     List { queue: Bytes, step: u8 },
@@ -18,4 +19,18 @@ pub enum Place {
     Copies,
     /// Never accepted.
     Never,
+}
+
+impl fmt::Debug for Place {
+    fn fmt<W: fmt::Write>(&self, f: &mut fmt::Formatter<W>) -> fmt::Result {
+        f.write_str(match self {
+            Place::List { .. } => "List",
+            Place::Unacked => "Unacked",
+            Place::Hand(_) => "Hand",
+            Place::Ended => "Ended",
+            Place::Lost(_) => "Lost",
+            Place::Copies => "Copies",
+            Place::Never => "Never",
+        })
+    }
 }

@@ -4,11 +4,12 @@ ghost use Rattle.queue_keys.specs.Names.{has_end, has_front, index_name, is_free
 ghost use Rattle.queue_keys.specs.NameFaults.{name_fault, told};
 
 use std::alloc::{AllocError, Global};
+use std::fmt;
 use std::marker::Model;
 use wire_values::Bytes;
 
 /// The first reason why a text is no queue's name, or want of memory.
-#[derive(Clone, Copy, Debug, PartialEq, Eq)]
+#[derive(Clone, Copy, PartialEq, Eq)]
 pub enum NameFault {
     /// No bytes.
     Empty,
@@ -22,6 +23,18 @@ pub enum NameFault {
     Reserved,
     /// Want of memory.
     Memory,
+}
+
+impl fmt::Debug for NameFault {
+    fn fmt<W: fmt::Write>(&self, f: &mut fmt::Formatter<W>) -> fmt::Result {
+        f.write_str(match self {
+            NameFault::Empty => "Empty",
+            NameFault::Long => "Long",
+            NameFault::Byte(_) => "Byte",
+            NameFault::Reserved => "Reserved",
+            NameFault::Memory => "Memory",
+        })
+    }
 }
 
 impl From<AllocError> for NameFault {

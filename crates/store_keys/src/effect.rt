@@ -1,11 +1,11 @@
 //! What a command did to the keys, and common answers.
-ghost use Rattle.store_model.specs.Replies.{bulks, number, pair};
-ghost use Rattle.std.specs.Prelude.{◌≡◌, [], ◌∷◌, IfOk};
+ghost use Rattle.store_model.specs.Replies.{bulks, number, pair, wrong_type};
+ghost use Rattle.std.specs.Prelude.{◌≡◌, ◌++◌, [], ◌∷◌, IfOk, OnOk};
 
 use sqlite_items::Items;
 use std::alloc::{AllocError, Global};
 use store_tables::Deque;
-use wire_values::{Bytes, Value};
+use wire_values::{Bytes, Value, Values};
 
 /// The keys that a command altered, and its answer.
 #[derive(Debug, Drop)]
@@ -29,10 +29,43 @@ impl Effect {
     pub fn one(alloc: Global, key: &Bytes, answer: Value) -> Result<Self, AllocError>
         ensures { IfOk result (λ e. e ≡ record { altered = key.now ∷ []; answer = answer }) }
     {
-        let mut altered = Deque::new(alloc);
-        altered.push(key.copy(alloc)?)?;
+        let altered = just(alloc, key)?;
         Ok(Effect { altered, answer })
     }
+}
+
+// The one key.
+fn just(alloc: Global, key: &Bytes) -> Result<Deque<Bytes>, AllocError>
+    ensures { IfOk result (λ keys. keys ≡ key.now ∷ []) }
+{
+    let key = key.copy(alloc)?;
+    let mut keys = Deque::new(alloc);
+    keys.push(key)?;
+    Ok(keys)
+}
+
+/// The key holds another kind of value: no key was altered.
+pub fn wrong_type(alloc: Global) -> Result<Effect, AllocError>
+    ensures { IfOk result (λ e. e ≡ record { altered = []; answer = wrong_type }) }
+{
+    let answer = error(alloc, b"WRONGTYPE".as_slice())?;
+    Ok(Effect::none(alloc, answer))
+}
+
+/// No key was altered, and nothing is counted.
+pub fn nothing(alloc: Global) -> Result<Effect, AllocError>
+    ensures { IfOk result (λ e. e ≡ record { altered = []; answer = number 0 }) }
+{
+    let answer = number(0)?;
+    Ok(Effect::none(alloc, answer))
+}
+
+/// One key was altered, and so much is counted.
+pub fn counted(alloc: Global, key: &Bytes, count: usize) -> Result<Effect, AllocError>
+    ensures { IfOk result (λ e. e ≡ record { altered = key.now ∷ []; answer = number count }) }
+{
+    let answer = number(count)?;
+    Effect::one(alloc, key, answer)
 }
 
 /// A simple string.
@@ -67,6 +100,14 @@ pub fn pair(alloc: Global, key: Bytes, element: Bytes) -> Result<Value, AllocErr
     both.push(Value::Bulk(key))?;
     both.push(Value::Bulk(element))?;
     Ok(Value::Array(both))
+}
+
+/// Adds a copy of a text as a bulk.
+pub fn push_bulk(alloc: Global, parts: &mut Values, text: &[u8]) -> Result<(), AllocError>
+    ensures { OnOk result (parts.new ≡ parts.old ++ Value.Bulk text.now ∷ []) }
+{
+    let text = Bytes::from_slice(alloc, text)?;
+    Ok(parts.push(Value::Bulk(text))?)
 }
 
 /// An array of bulks.

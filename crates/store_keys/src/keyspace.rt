@@ -106,6 +106,14 @@ impl Keyspace {
         self.kept.remove(key)
     }
 
+    /// Drops a key with what it holds, and tells whether it was there.
+    pub fn delete(&mut self, key: &Bytes) -> bool
+        ensures there { result ≡ is_some (map.get self.old key.now) }
+        ensures deleted { self.new ≡ map.remove self.old key.now }
+    {
+        self.remove(key).is_some()
+    }
+
     /// Puts a value under a key, and keeps the key's expiry.
     pub fn put(&mut self, key: Bytes, value: Stored) -> Result<(), AllocError>
         ensures { OnOk result (self.new ≡ put self.old key value) }

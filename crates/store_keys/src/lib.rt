@@ -1,13 +1,9 @@
-//! What commands do to the keys of a store, one file for each kind of value.
+//! The keys of a store with what they hold, and what the commands on each kind of value share.
 #![tactic(auto)]
 
 pub mod effect;
-pub mod hashes;
 mod keyspace;
-pub mod lists;
-mod members;
-pub mod sets;
-pub mod sorted_sets;
-pub mod texts;
+pub mod members;
+pub mod puts;
 
 pub use keyspace::Keyspace;

@@ -1,11 +1,11 @@
 //! What the commands that take members or fields out share.
 ghost use Rattle.store_model.specs.Keys.{is_long, kept, out, put, taken_out};
 ghost use Rattle.store_model.specs.Replies.{number};
-ghost use Rattle.std.specs.List.{list_any};
-ghost use Rattle.std.specs.Prelude.{◌≡◌, ◌<◌, [], ◌∷◌, IfOk, if◌then◌else◌, nat_eq};
+ghost use Rattle.std.specs.Prelude.{◌≡◌, ◌<◌, [], ◌∷◌, IfOk, OnOk, if◌then◌else◌, nat_eq};
 
-use crate::effect::{Effect, number};
+use crate::effect::{Effect, counted};
 use crate::keyspace::Keyspace;
+use crate::puts::{put_at, put_same};
 use std::alloc::{AllocError, Global};
 use store_model::Stored;
 use store_tables::{Deque, Table};
@@ -45,14 +45,25 @@ pub fn finish(
     ensures some { 0 < taken → IfOk result (λ e. out keys.new e.altered e.answer ≡ out (kept keys.old key value left) (key ∷ []) (number taken)) }
 {
     if taken == 0 {
-        keys.restore(key, value, left)?;
-        return Ok(Effect::none(alloc, number(0)?));
+        return put_same(keys, alloc, key, value, left);
     }
-    let effect = Effect::one(alloc, &key, number(taken)?)?;
+    put_left(keys, alloc, &key, value, left)?;
+    counted(alloc, &key, taken)
+}
+
+// Puts a value under its key where anything is left of it, and takes the key out where nothing is.
+fn put_left(
+    keys: &mut Keyspace,
+    alloc: Global,
+    key: &Bytes,
+    value: Stored,
+    left: usize,
+) -> Result<(), AllocError>
+    ensures { OnOk result (keys.new ≡ kept keys.old key.now value left) }
+{
     if left == 0 {
-        keys.remove(&key);
-        return Ok(effect);
+        keys.delete(key);
+        return Ok(());
     }
-    keys.put(key, value)?;
-    Ok(effect)
+    put_at(keys, alloc, key, value)
 }

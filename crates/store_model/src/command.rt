@@ -1,4 +1,5 @@
 //! Commands with their arguments.
+use std::fmt;
 use store_tables::Deque;
 use wire_values::Bytes;
 
@@ -16,7 +17,7 @@ pub enum Fault {
 }
 
 /// A command of Redis with its arguments, named as there.
-#[derive(Debug, Drop)]
+#[derive(Drop)]
 pub enum Command {
     Ping,
     /// The number of a database.
@@ -75,4 +76,10 @@ pub enum Command {
     Unsubscribe(Bytes),
     /// Words that spell no command, and whether they have the name of one that a subscribed connection may use.
     Faulty(Fault, bool),
+}
+
+impl fmt::Debug for Command {
+    fn fmt<W: fmt::Write>(&self, f: &mut fmt::Formatter<W>) -> fmt::Result {
+        f.write_str("Command")
+    }
 }

@@ -1,9 +1,10 @@
 //! What a key holds.
+use std::fmt;
 use store_tables::{Deque, Table};
 use wire_values::Bytes;
 
 /// A value of one of the five kinds.
-#[derive(Debug, Drop)]
+#[derive(Drop)]
 pub enum Stored {
     /// A text.
     Text(Bytes),
@@ -15,6 +16,12 @@ pub enum Stored {
     Hash(Table<Bytes>),
     /// The members of a sorted set with their scores.
     Scores(Table<i64>),
+}
+
+impl fmt::Debug for Stored {
+    fn fmt<W: fmt::Write>(&self, f: &mut fmt::Formatter<W>) -> fmt::Result {
+        f.write_str("Stored")
+    }
 }
 
 /// A value, and the moment in seconds from which it is gone.

@@ -1,10 +1,10 @@
 //! How commands are spelled as words.
-ghost use Rattle.store_model.specs.Integers.{integer_of, natural_of};
+ghost use Rattle.store_model.specs.Integers.{integer_of, natural_of, seconds_of};
 ghost use Rattle.store_model.specs.Words.{IsWithinLimits, bare, brpop_of, command_of, connection_command, faulty, hash_command, key_command, lasting, list_command, named, range_of, select_of, expire_of, zadd_of, set_command, set_of, sorted_set_command, transaction_command, upper_byte, with_one, with_rest, with_some, with_three, with_two, zrevrangebyscore_of};
-ghost use Rattle.std.specs.Prelude.{All, ◌≡◌, ◌≤◌, ◌↔◌, length, Bool, IsTrue, List, [], ◌∷◌, IfOk, MatchOption, map as mapped, ℕ};
+ghost use Rattle.std.specs.Prelude.{All, ◌≡◌, ◌≤◌, ◌↔◌, length, Bool, IsTrue, List, [], ◌∷◌, IfOk, MatchOption, None, Some, false, map as mapped, true, ℕ};
 
-use crate::integer::{integer, natural, seconds};
 use std::alloc::{AllocError, Global};
+use store_integers::{integer, natural, seconds};
 use store_model::{Command, Fault};
 use store_tables::Deque;
 use wire_values::{Bytes, Words};
@@ -60,43 +60,6 @@ fn one(alloc: Global, args: &[Bytes]) -> Result<Option<Bytes>, AllocError>
     Ok(Some(word))
 }
 
-// The two arguments, if there are just two.
-fn two(alloc: Global, args: &[Bytes]) -> Result<Option<(Bytes, Bytes)>, AllocError>
-    ensures { IfOk result (λ r. (f : List ℕ → List ℕ → Command) → MatchOption r (with_two f args.now ≡ faulty Fault.Arity) (λ x. with_two f args.now ≡ f x.0 x.1)) }
-{
-    let mut words = Deque::copied(alloc, args)?;
-    let Some(first) = words.pop_front() else {
-        return Ok(None);
-    };
-    let Some(second) = words.pop_front() else {
-        return Ok(None);
-    };
-    if !words.is_empty() {
-        return Ok(None);
-    }
-    Ok(Some((first, second)))
-}
-
-// The three arguments, if there are just three.
-fn three(alloc: Global, args: &[Bytes]) -> Result<Option<(Bytes, Bytes, Bytes)>, AllocError>
-    ensures { IfOk result (λ r. (f : List ℕ → List ℕ → List ℕ → Command) → MatchOption r (with_three f args.now ≡ faulty Fault.Arity) (λ x. with_three f args.now ≡ f x.0 x.1 x.2)) }
-{
-    let mut words = Deque::copied(alloc, args)?;
-    let Some(first) = words.pop_front() else {
-        return Ok(None);
-    };
-    let Some(second) = words.pop_front() else {
-        return Ok(None);
-    };
-    let Some(third) = words.pop_front() else {
-        return Ok(None);
-    };
-    if !words.is_empty() {
-        return Ok(None);
-    }
-    Ok(Some((first, second, third)))
-}
-
 // The arguments, if there are any.
 fn some(alloc: Global, args: &[Bytes]) -> Result<Option<Deque<Bytes>>, AllocError>
     ensures { IfOk result (λ r. (f : List (List ℕ) → Command) → MatchOption r (with_some f args.now ≡ faulty Fault.Arity) (λ x. with_some f args.now ≡ f x)) }
@@ -121,22 +84,79 @@ fn rest(alloc: Global, args: &[Bytes]) -> Result<Option<(Bytes, Deque<Bytes>)>, 
     Ok(Some((first, words)))
 }
 
-fn select_of(number: Option<i64>) -> Command
-    ensures { result ≡ select_of number }
+// SET of a copied key and text.
+fn set_text(
+    alloc: Global,
+    key: &Bytes,
+    text: &Bytes,
+    absent: bool,
+    life: Option<u32>,
+) -> Result<Command, AllocError>
+    ensures { IfOk result (λ command. command ≡ Command.Set key.now text.now absent life) }
 {
-    match number {
-        Some(number) => Command::Select(number),
-        None => faulty(Fault::Integer),
+    let key = key.copy(alloc)?;
+    let text = text.copy(alloc)?;
+    Ok(Command::Set(key, text, absent, life))
+}
+
+// SET for as many seconds as the word spells.
+fn set_lasting(
+    alloc: Global,
+    key: &Bytes,
+    text: &Bytes,
+    absent: bool,
+    life: &Bytes,
+) -> Result<Command, AllocError>
+    ensures { IfOk result (λ command. command ≡ lasting key.now text.now absent (seconds_of life.now)) }
+{
+    match seconds(life.as_slice()) {
+        Some(life) => set_text(alloc, key, text, absent, Some(life)),
+        None => Ok(faulty(Fault::Integer)),
     }
 }
 
-fn lasting(key: Bytes, text: Bytes, absent: bool, life: Option<u32>) -> Command
-    ensures { result ≡ lasting key text absent life }
+// SET with NX.
+fn set_new(alloc: Global, key: &Bytes, text: &Bytes, option: &Bytes) -> Result<Command, AllocError>
+    ensures { IfOk result (λ command. command ≡ set_of (key.now ∷ text.now ∷ option.now ∷ [])) }
 {
-    match life {
-        Some(seconds) => Command::Set(key, text, absent, Some(seconds)),
-        None => faulty(Fault::Integer),
+    if option.as_slice() != b"NX".as_slice() {
+        return Ok(faulty(Fault::Syntax));
     }
+    set_text(alloc, key, text, true, None)
+}
+
+// SET with EX and seconds.
+fn set_expiring(
+    alloc: Global,
+    key: &Bytes,
+    text: &Bytes,
+    option: &Bytes,
+    life: &Bytes,
+) -> Result<Command, AllocError>
+    ensures { IfOk result (λ command. command ≡ set_of (key.now ∷ text.now ∷ option.now ∷ life.now ∷ [])) }
+{
+    if option.as_slice() != b"EX".as_slice() {
+        return Ok(faulty(Fault::Syntax));
+    }
+    set_lasting(alloc, key, text, false, life)
+}
+
+// SET with NX, EX and seconds.
+fn set_new_expiring(
+    alloc: Global,
+    key: &Bytes,
+    text: &Bytes,
+    first: &Bytes,
+    second: &Bytes,
+    life: &Bytes,
+) -> Result<Command, AllocError>
+    ensures { IfOk result (λ command. command ≡ set_of (key.now ∷ text.now ∷ first.now ∷ second.now ∷ life.now ∷ [])) }
+{
+    let is_lawful = first.as_slice() == b"NX".as_slice() && second.as_slice() == b"EX".as_slice();
+    if !is_lawful {
+        return Ok(faulty(Fault::Syntax));
+    }
+    set_lasting(alloc, key, text, true, life)
 }
 
 // SET with NX, EX and seconds, or both.
@@ -144,45 +164,26 @@ fn set_of(alloc: Global, args: &[Bytes]) -> Result<Command, AllocError>
     ensures { IfOk result (λ command. command ≡ set_of args.now) }
 {
     match args {
-        [key, text] => Ok(Command::Set(key.copy(alloc)?, text.copy(alloc)?, false, None)),
-        [key, text, option] => {
-            if option.as_slice() != b"NX".as_slice() {
-                return Ok(faulty(Fault::Syntax));
-            }
-            Ok(Command::Set(key.copy(alloc)?, text.copy(alloc)?, true, None))
-        }
-        [key, text, option, life] => {
-            if option.as_slice() != b"EX".as_slice() {
-                return Ok(faulty(Fault::Syntax));
-            }
-            Ok(lasting(
-                key.copy(alloc)?,
-                text.copy(alloc)?,
-                false,
-                seconds(life.as_slice()),
-            ))
-        }
+        [key, text] => set_text(alloc, key, text, false, None),
+        [key, text, option] => set_new(alloc, key, text, option),
+        [key, text, option, life] => set_expiring(alloc, key, text, option, life),
         [key, text, first, second, life] => {
-            if first.as_slice() != b"NX".as_slice() || second.as_slice() != b"EX".as_slice() {
-                return Ok(faulty(Fault::Syntax));
-            }
-            Ok(lasting(
-                key.copy(alloc)?,
-                text.copy(alloc)?,
-                true,
-                seconds(life.as_slice()),
-            ))
+            set_new_expiring(alloc, key, text, first, second, life)
         }
         [] | [_] | [_, _, _, _, _, _, ..] => Ok(faulty(Fault::Arity)),
     }
 }
 
-fn expire_of(key: Bytes, life: Option<u32>) -> Command
-    ensures { result ≡ expire_of key life }
+// EXPIRE with a key and seconds.
+fn expire_of(alloc: Global, args: &[Bytes]) -> Result<Command, AllocError>
+    ensures { IfOk result (λ command. command ≡ with_two (λ k s. expire_of k (seconds_of s)) args.now) }
 {
-    match life {
-        Some(seconds) => Command::Expire(key, seconds),
-        None => faulty(Fault::Integer),
+    match args {
+        [key, life] => match seconds(life.as_slice()) {
+            Some(seconds) => Ok(Command::Expire(key.copy(alloc)?, seconds)),
+            None => Ok(faulty(Fault::Integer)),
+        },
+        [] | [_] | [_, _, _, ..] => Ok(faulty(Fault::Arity)),
     }
 }
 
@@ -203,12 +204,20 @@ fn brpop_of(alloc: Global, args: &[Bytes]) -> Result<Command, AllocError>
     Ok(Command::Brpop(keys))
 }
 
-fn zadd_of(key: Bytes, member: Bytes, score: Option<i64>) -> Command
-    ensures { result ≡ zadd_of key member score }
+// ZADD with a key, a score and a member.
+fn zadd_of(alloc: Global, args: &[Bytes]) -> Result<Command, AllocError>
+    ensures { IfOk result (λ command. command ≡ with_three (λ k s x. zadd_of k x (integer_of s)) args.now) }
 {
-    match score {
-        Some(score) => Command::Zadd(key, score, member),
-        None => faulty(Fault::Integer),
+    match args {
+        [key, score, member] => match integer(score.as_slice()) {
+            Some(score) => {
+                let key = key.copy(alloc)?;
+                let member = member.copy(alloc)?;
+                Ok(Command::Zadd(key, score, member))
+            }
+            None => Ok(faulty(Fault::Integer)),
+        },
+        [] | [_] | [_, _] | [_, _, _, _, ..] => Ok(faulty(Fault::Arity)),
     }
 }
 
@@ -275,122 +284,239 @@ fn limited(
     Ok(range_of(key, high, low, skip, most))
 }
 
+// GET with a key.
+fn get_of(alloc: Global, args: &[Bytes]) -> Result<Command, AllocError>
+    ensures { IfOk result (λ command. command ≡ with_one false Command.Get args.now) }
+{
+    let Some(key) = one(alloc, args)? else {
+        return Ok(faulty(Fault::Arity));
+    };
+    Ok(Command::Get(key))
+}
+
+// DEL with its keys.
+fn del_of(alloc: Global, args: &[Bytes]) -> Result<Command, AllocError>
+    ensures { IfOk result (λ command. command ≡ with_some Command.Del args.now) }
+{
+    let Some(keys) = some(alloc, args)? else {
+        return Ok(faulty(Fault::Arity));
+    };
+    Ok(Command::Del(keys))
+}
+
 // Commands on texts and on keys of any kind.
-fn key_command(alloc: Global, name: &[u8], args: &[Bytes]) -> Result<Option<Command>, AllocError>
-    ensures { IfOk result (λ command. command ≡ key_command name.now args.now) }
+fn key_command(alloc: Global, name: &[u8], args: &[Bytes]) -> Option<Result<Command, AllocError>>
+    ensures { MatchOption result (None ≡ key_command name.now args.now) (λ read. IfOk read (λ command. Some command ≡ key_command name.now args.now)) }
 {
     if name == b"GET".as_slice() {
-        let Some(key) = one(alloc, args)? else {
-            return Ok(Some(faulty(Fault::Arity)));
-        };
-        return Ok(Some(Command::Get(key)));
+        return Some(get_of(alloc, args));
     }
     if name == b"SET".as_slice() {
-        return Ok(Some(set_of(alloc, args)?));
+        return Some(set_of(alloc, args));
     }
     if name == b"DEL".as_slice() {
-        let Some(keys) = some(alloc, args)? else {
-            return Ok(Some(faulty(Fault::Arity)));
-        };
-        return Ok(Some(Command::Del(keys)));
+        return Some(del_of(alloc, args));
     }
     if name == b"EXPIRE".as_slice() {
-        let Some((key, life)) = two(alloc, args)? else {
-            return Ok(Some(faulty(Fault::Arity)));
-        };
-        return Ok(Some(expire_of(key, seconds(life.as_slice()))));
+        return Some(expire_of(alloc, args));
     }
-    Ok(None)
+    None
+}
+
+// LPUSH with a key and the elements.
+fn lpush_of(alloc: Global, args: &[Bytes]) -> Result<Command, AllocError>
+    ensures { IfOk result (λ command. command ≡ with_rest Command.Lpush args.now) }
+{
+    let Some((key, others)) = rest(alloc, args)? else {
+        return Ok(faulty(Fault::Arity));
+    };
+    Ok(Command::Lpush(key, others))
+}
+
+// RPUSH with a key and the elements.
+fn rpush_of(alloc: Global, args: &[Bytes]) -> Result<Command, AllocError>
+    ensures { IfOk result (λ command. command ≡ with_rest Command.Rpush args.now) }
+{
+    let Some((key, others)) = rest(alloc, args)? else {
+        return Ok(faulty(Fault::Arity));
+    };
+    Ok(Command::Rpush(key, others))
+}
+
+// RPOP with a key.
+fn rpop_of(alloc: Global, args: &[Bytes]) -> Result<Command, AllocError>
+    ensures { IfOk result (λ command. command ≡ with_one false Command.Rpop args.now) }
+{
+    let Some(key) = one(alloc, args)? else {
+        return Ok(faulty(Fault::Arity));
+    };
+    Ok(Command::Rpop(key))
+}
+
+// LLEN with a key.
+fn llen_of(alloc: Global, args: &[Bytes]) -> Result<Command, AllocError>
+    ensures { IfOk result (λ command. command ≡ with_one false Command.Llen args.now) }
+{
+    let Some(key) = one(alloc, args)? else {
+        return Ok(faulty(Fault::Arity));
+    };
+    Ok(Command::Llen(key))
 }
 
 // Commands on lists.
-fn list_command(alloc: Global, name: &[u8], args: &[Bytes]) -> Result<Option<Command>, AllocError>
-    ensures { IfOk result (λ command. command ≡ list_command name.now args.now) }
+fn list_command(alloc: Global, name: &[u8], args: &[Bytes]) -> Option<Result<Command, AllocError>>
+    ensures { MatchOption result (None ≡ list_command name.now args.now) (λ read. IfOk read (λ command. Some command ≡ list_command name.now args.now)) }
 {
     if name == b"LPUSH".as_slice() {
-        let Some((key, values)) = rest(alloc, args)? else {
-            return Ok(Some(faulty(Fault::Arity)));
-        };
-        return Ok(Some(Command::Lpush(key, values)));
+        return Some(lpush_of(alloc, args));
     }
     if name == b"RPUSH".as_slice() {
-        let Some((key, values)) = rest(alloc, args)? else {
-            return Ok(Some(faulty(Fault::Arity)));
-        };
-        return Ok(Some(Command::Rpush(key, values)));
+        return Some(rpush_of(alloc, args));
     }
     if name == b"RPOP".as_slice() {
-        let Some(key) = one(alloc, args)? else {
-            return Ok(Some(faulty(Fault::Arity)));
-        };
-        return Ok(Some(Command::Rpop(key)));
+        return Some(rpop_of(alloc, args));
     }
     if name == b"BRPOP".as_slice() {
-        return Ok(Some(brpop_of(alloc, args)?));
+        return Some(brpop_of(alloc, args));
     }
     if name == b"LLEN".as_slice() {
-        let Some(key) = one(alloc, args)? else {
-            return Ok(Some(faulty(Fault::Arity)));
-        };
-        return Ok(Some(Command::Llen(key)));
+        return Some(llen_of(alloc, args));
     }
-    Ok(None)
+    None
+}
+
+// SADD with a key and the members.
+fn sadd_of(alloc: Global, args: &[Bytes]) -> Result<Command, AllocError>
+    ensures { IfOk result (λ command. command ≡ with_rest Command.Sadd args.now) }
+{
+    let Some((key, others)) = rest(alloc, args)? else {
+        return Ok(faulty(Fault::Arity));
+    };
+    Ok(Command::Sadd(key, others))
+}
+
+// SREM with a key and the members.
+fn srem_of(alloc: Global, args: &[Bytes]) -> Result<Command, AllocError>
+    ensures { IfOk result (λ command. command ≡ with_rest Command.Srem args.now) }
+{
+    let Some((key, others)) = rest(alloc, args)? else {
+        return Ok(faulty(Fault::Arity));
+    };
+    Ok(Command::Srem(key, others))
+}
+
+// SMEMBERS with a key.
+fn smembers_of(alloc: Global, args: &[Bytes]) -> Result<Command, AllocError>
+    ensures { IfOk result (λ command. command ≡ with_one false Command.Smembers args.now) }
+{
+    let Some(key) = one(alloc, args)? else {
+        return Ok(faulty(Fault::Arity));
+    };
+    Ok(Command::Smembers(key))
 }
 
 // Commands on sets.
-fn set_command(alloc: Global, name: &[u8], args: &[Bytes]) -> Result<Option<Command>, AllocError>
-    ensures { IfOk result (λ command. command ≡ set_command name.now args.now) }
+fn set_command(alloc: Global, name: &[u8], args: &[Bytes]) -> Option<Result<Command, AllocError>>
+    ensures { MatchOption result (None ≡ set_command name.now args.now) (λ read. IfOk read (λ command. Some command ≡ set_command name.now args.now)) }
 {
     if name == b"SADD".as_slice() {
-        let Some((key, members)) = rest(alloc, args)? else {
-            return Ok(Some(faulty(Fault::Arity)));
-        };
-        return Ok(Some(Command::Sadd(key, members)));
+        return Some(sadd_of(alloc, args));
     }
     if name == b"SREM".as_slice() {
-        let Some((key, members)) = rest(alloc, args)? else {
-            return Ok(Some(faulty(Fault::Arity)));
-        };
-        return Ok(Some(Command::Srem(key, members)));
+        return Some(srem_of(alloc, args));
     }
     if name == b"SMEMBERS".as_slice() {
-        let Some(key) = one(alloc, args)? else {
-            return Ok(Some(faulty(Fault::Arity)));
-        };
-        return Ok(Some(Command::Smembers(key)));
+        return Some(smembers_of(alloc, args));
     }
-    Ok(None)
+    None
+}
+
+// HSET with a key, a field and its value.
+fn hset_of(alloc: Global, args: &[Bytes]) -> Result<Command, AllocError>
+    ensures { IfOk result (λ command. command ≡ with_three Command.Hset args.now) }
+{
+    match args {
+        [key, field, value] => {
+            let key = key.copy(alloc)?;
+            let field = field.copy(alloc)?;
+            let value = value.copy(alloc)?;
+            Ok(Command::Hset(key, field, value))
+        }
+        [] | [_] | [_, _] | [_, _, _, _, ..] => Ok(faulty(Fault::Arity)),
+    }
+}
+
+// HGET with a key and a field.
+fn hget_of(alloc: Global, args: &[Bytes]) -> Result<Command, AllocError>
+    ensures { IfOk result (λ command. command ≡ with_two Command.Hget args.now) }
+{
+    match args {
+        [first, second] => {
+            let first = first.copy(alloc)?;
+            let second = second.copy(alloc)?;
+            Ok(Command::Hget(first, second))
+        }
+        [] | [_] | [_, _, _, ..] => Ok(faulty(Fault::Arity)),
+    }
+}
+
+// HDEL with a key and the fields.
+fn hdel_of(alloc: Global, args: &[Bytes]) -> Result<Command, AllocError>
+    ensures { IfOk result (λ command. command ≡ with_rest Command.Hdel args.now) }
+{
+    let Some((key, others)) = rest(alloc, args)? else {
+        return Ok(faulty(Fault::Arity));
+    };
+    Ok(Command::Hdel(key, others))
+}
+
+// HLEN with a key.
+fn hlen_of(alloc: Global, args: &[Bytes]) -> Result<Command, AllocError>
+    ensures { IfOk result (λ command. command ≡ with_one false Command.Hlen args.now) }
+{
+    let Some(key) = one(alloc, args)? else {
+        return Ok(faulty(Fault::Arity));
+    };
+    Ok(Command::Hlen(key))
 }
 
 // Commands on hashes.
-fn hash_command(alloc: Global, name: &[u8], args: &[Bytes]) -> Result<Option<Command>, AllocError>
-    ensures { IfOk result (λ command. command ≡ hash_command name.now args.now) }
+fn hash_command(alloc: Global, name: &[u8], args: &[Bytes]) -> Option<Result<Command, AllocError>>
+    ensures { MatchOption result (None ≡ hash_command name.now args.now) (λ read. IfOk read (λ command. Some command ≡ hash_command name.now args.now)) }
 {
     if name == b"HSET".as_slice() {
-        let Some((key, field, value)) = three(alloc, args)? else {
-            return Ok(Some(faulty(Fault::Arity)));
-        };
-        return Ok(Some(Command::Hset(key, field, value)));
+        return Some(hset_of(alloc, args));
     }
     if name == b"HGET".as_slice() {
-        let Some((key, field)) = two(alloc, args)? else {
-            return Ok(Some(faulty(Fault::Arity)));
-        };
-        return Ok(Some(Command::Hget(key, field)));
+        return Some(hget_of(alloc, args));
     }
     if name == b"HDEL".as_slice() {
-        let Some((key, fields)) = rest(alloc, args)? else {
-            return Ok(Some(faulty(Fault::Arity)));
-        };
-        return Ok(Some(Command::Hdel(key, fields)));
+        return Some(hdel_of(alloc, args));
     }
     if name == b"HLEN".as_slice() {
-        let Some(key) = one(alloc, args)? else {
-            return Ok(Some(faulty(Fault::Arity)));
-        };
-        return Ok(Some(Command::Hlen(key)));
+        return Some(hlen_of(alloc, args));
     }
-    Ok(None)
+    None
+}
+
+// ZREM with a key and the members.
+fn zrem_of(alloc: Global, args: &[Bytes]) -> Result<Command, AllocError>
+    ensures { IfOk result (λ command. command ≡ with_rest Command.Zrem args.now) }
+{
+    let Some((key, others)) = rest(alloc, args)? else {
+        return Ok(faulty(Fault::Arity));
+    };
+    Ok(Command::Zrem(key, others))
+}
+
+// ZCARD with a key.
+fn zcard_of(alloc: Global, args: &[Bytes]) -> Result<Command, AllocError>
+    ensures { IfOk result (λ command. command ≡ with_one false Command.Zcard args.now) }
+{
+    let Some(key) = one(alloc, args)? else {
+        return Ok(faulty(Fault::Arity));
+    };
+    Ok(Command::Zcard(key))
 }
 
 // Commands on sorted sets.
@@ -398,31 +524,32 @@ fn sorted_set_command(
     alloc: Global,
     name: &[u8],
     args: &[Bytes],
-) -> Result<Option<Command>, AllocError>
-    ensures { IfOk result (λ command. command ≡ sorted_set_command name.now args.now) }
+) -> Option<Result<Command, AllocError>>
+    ensures { MatchOption result (None ≡ sorted_set_command name.now args.now) (λ read. IfOk read (λ command. Some command ≡ sorted_set_command name.now args.now)) }
 {
     if name == b"ZADD".as_slice() {
-        let Some((key, score, member)) = three(alloc, args)? else {
-            return Ok(Some(faulty(Fault::Arity)));
-        };
-        return Ok(Some(zadd_of(key, member, integer(score.as_slice()))));
+        return Some(zadd_of(alloc, args));
     }
     if name == b"ZREM".as_slice() {
-        let Some((key, members)) = rest(alloc, args)? else {
-            return Ok(Some(faulty(Fault::Arity)));
-        };
-        return Ok(Some(Command::Zrem(key, members)));
+        return Some(zrem_of(alloc, args));
     }
     if name == b"ZCARD".as_slice() {
-        let Some(key) = one(alloc, args)? else {
-            return Ok(Some(faulty(Fault::Arity)));
-        };
-        return Ok(Some(Command::Zcard(key)));
+        return Some(zcard_of(alloc, args));
     }
     if name == b"ZREVRANGEBYSCORE".as_slice() {
-        return Ok(Some(zrevrangebyscore_of(alloc, args)?));
+        return Some(zrevrangebyscore_of(alloc, args));
     }
-    Ok(None)
+    None
+}
+
+// WATCH with its keys.
+fn watch_of(alloc: Global, args: &[Bytes]) -> Result<Command, AllocError>
+    ensures { IfOk result (λ command. command ≡ with_some Command.Watch args.now) }
+{
+    let Some(keys) = some(alloc, args)? else {
+        return Ok(faulty(Fault::Arity));
+    };
+    Ok(Command::Watch(keys))
 }
 
 // Commands of transactions.
@@ -430,40 +557,84 @@ fn transaction_command(
     alloc: Global,
     name: &[u8],
     args: &[Bytes],
-) -> Result<Option<Command>, AllocError>
-    ensures { IfOk result (λ command. command ≡ transaction_command name.now args.now) }
+) -> Option<Result<Command, AllocError>>
+    ensures { MatchOption result (None ≡ transaction_command name.now args.now) (λ read. IfOk read (λ command. Some command ≡ transaction_command name.now args.now)) }
 {
     if name == b"WATCH".as_slice() {
-        let Some(keys) = some(alloc, args)? else {
-            return Ok(Some(faulty(Fault::Arity)));
-        };
-        return Ok(Some(Command::Watch(keys)));
+        return Some(watch_of(alloc, args));
     }
     if name == b"UNWATCH".as_slice() {
         if !args.is_empty() {
-            return Ok(Some(Command::Faulty(Fault::Arity, false)));
+            return Some(Ok(Command::Faulty(Fault::Arity, false)));
         }
-        return Ok(Some(Command::Unwatch));
+        return Some(Ok(Command::Unwatch));
     }
     if name == b"MULTI".as_slice() {
         if !args.is_empty() {
-            return Ok(Some(Command::Faulty(Fault::Arity, false)));
+            return Some(Ok(Command::Faulty(Fault::Arity, false)));
         }
-        return Ok(Some(Command::Multi));
+        return Some(Ok(Command::Multi));
     }
     if name == b"EXEC".as_slice() {
         if !args.is_empty() {
-            return Ok(Some(Command::Faulty(Fault::Arity, false)));
+            return Some(Ok(Command::Faulty(Fault::Arity, false)));
         }
-        return Ok(Some(Command::Exec));
+        return Some(Ok(Command::Exec));
     }
     if name == b"DISCARD".as_slice() {
         if !args.is_empty() {
-            return Ok(Some(Command::Faulty(Fault::Arity, false)));
+            return Some(Ok(Command::Faulty(Fault::Arity, false)));
         }
-        return Ok(Some(Command::Discard));
+        return Some(Ok(Command::Discard));
     }
-    Ok(None)
+    None
+}
+
+// SELECT with a number.
+fn select_of(args: &[Bytes]) -> Command
+    ensures { result ≡ with_one false (λ n. select_of (integer_of n)) args.now }
+{
+    match args {
+        [number] => match integer(number.as_slice()) {
+            Some(number) => Command::Select(number),
+            None => faulty(Fault::Integer),
+        },
+        [] | [_, _, ..] => faulty(Fault::Arity),
+    }
+}
+
+// PUBLISH with a channel and a message.
+fn publish_of(alloc: Global, args: &[Bytes]) -> Result<Command, AllocError>
+    ensures { IfOk result (λ command. command ≡ with_two Command.Publish args.now) }
+{
+    match args {
+        [first, second] => {
+            let first = first.copy(alloc)?;
+            let second = second.copy(alloc)?;
+            Ok(Command::Publish(first, second))
+        }
+        [] | [_] | [_, _, _, ..] => Ok(faulty(Fault::Arity)),
+    }
+}
+
+// SUBSCRIBE with a channel.
+fn subscribe_of(alloc: Global, args: &[Bytes]) -> Result<Command, AllocError>
+    ensures { IfOk result (λ command. command ≡ with_one true Command.Subscribe args.now) }
+{
+    let Some(channel) = one(alloc, args)? else {
+        return Ok(Command::Faulty(Fault::Arity, true));
+    };
+    Ok(Command::Subscribe(channel))
+}
+
+// UNSUBSCRIBE with a channel.
+fn unsubscribe_of(alloc: Global, args: &[Bytes]) -> Result<Command, AllocError>
+    ensures { IfOk result (λ command. command ≡ with_one true Command.Unsubscribe args.now) }
+{
+    let Some(channel) = one(alloc, args)? else {
+        return Ok(Command::Faulty(Fault::Arity, true));
+    };
+    Ok(Command::Unsubscribe(channel))
 }
 
 // Commands on the connection and on channels.
@@ -471,66 +642,54 @@ fn connection_command(
     alloc: Global,
     name: &[u8],
     args: &[Bytes],
-) -> Result<Option<Command>, AllocError>
-    ensures { IfOk result (λ command. command ≡ connection_command name.now args.now) }
+) -> Option<Result<Command, AllocError>>
+    ensures { MatchOption result (None ≡ connection_command name.now args.now) (λ read. IfOk read (λ command. Some command ≡ connection_command name.now args.now)) }
 {
     if name == b"PING".as_slice() {
         if !args.is_empty() {
-            return Ok(Some(Command::Faulty(Fault::Arity, true)));
+            return Some(Ok(Command::Faulty(Fault::Arity, true)));
         }
-        return Ok(Some(Command::Ping));
+        return Some(Ok(Command::Ping));
     }
     if name == b"SELECT".as_slice() {
-        let Some(number) = one(alloc, args)? else {
-            return Ok(Some(faulty(Fault::Arity)));
-        };
-        return Ok(Some(select_of(integer(number.as_slice()))));
+        return Some(Ok(select_of(args)));
     }
     if name == b"PUBLISH".as_slice() {
-        let Some((channel, message)) = two(alloc, args)? else {
-            return Ok(Some(faulty(Fault::Arity)));
-        };
-        return Ok(Some(Command::Publish(channel, message)));
+        return Some(publish_of(alloc, args));
     }
     if name == b"SUBSCRIBE".as_slice() {
-        let Some(channel) = one(alloc, args)? else {
-            return Ok(Some(Command::Faulty(Fault::Arity, true)));
-        };
-        return Ok(Some(Command::Subscribe(channel)));
+        return Some(subscribe_of(alloc, args));
     }
     if name == b"UNSUBSCRIBE".as_slice() {
-        let Some(channel) = one(alloc, args)? else {
-            return Ok(Some(Command::Faulty(Fault::Arity, true)));
-        };
-        return Ok(Some(Command::Unsubscribe(channel)));
+        return Some(unsubscribe_of(alloc, args));
     }
-    Ok(None)
+    None
 }
 
 // The command of this name, in capital letters, with these arguments.
 fn named(alloc: Global, name: &[u8], args: &[Bytes]) -> Result<Command, AllocError>
     ensures { IfOk result (λ command. command ≡ named name.now args.now) }
 {
-    if let Some(command) = key_command(alloc, name, args)? {
-        return Ok(command);
+    if let Some(read) = key_command(alloc, name, args) {
+        return read;
     }
-    if let Some(command) = list_command(alloc, name, args)? {
-        return Ok(command);
+    if let Some(read) = list_command(alloc, name, args) {
+        return read;
     }
-    if let Some(command) = set_command(alloc, name, args)? {
-        return Ok(command);
+    if let Some(read) = set_command(alloc, name, args) {
+        return read;
     }
-    if let Some(command) = hash_command(alloc, name, args)? {
-        return Ok(command);
+    if let Some(read) = hash_command(alloc, name, args) {
+        return read;
     }
-    if let Some(command) = sorted_set_command(alloc, name, args)? {
-        return Ok(command);
+    if let Some(read) = sorted_set_command(alloc, name, args) {
+        return read;
     }
-    if let Some(command) = transaction_command(alloc, name, args)? {
-        return Ok(command);
+    if let Some(read) = transaction_command(alloc, name, args) {
+        return read;
     }
-    if let Some(command) = connection_command(alloc, name, args)? {
-        return Ok(command);
+    if let Some(read) = connection_command(alloc, name, args) {
+        return read;
     }
     Ok(faulty(Fault::Name))
 }

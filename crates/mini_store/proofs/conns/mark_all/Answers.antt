@@ -1,7 +1,0 @@
-use Rattle.std.proofs.Common.{rules}
-use Rattle.std.proofs.lemmas.Map.Made.{map_same_pairs}
-use Rattle.store_model.specs.Connections.{touch}
-use Rattle.mini_store.proofs.conns.mark_all.Goals as goal
-
-pub returns-clause-each : goal.returns-clause-each
-returns-clause-each c = map_same_pairs _ (touch c.args.keys.now) _ (λ k v b w f' t. search rules) c.args.kept.now.entries c.retain.new.self.entries c.retain.ensures.filtered

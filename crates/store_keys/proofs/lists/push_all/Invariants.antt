@@ -1,9 +1,0 @@
-use Rattle.std.proofs.Common.{◌≡◌, length}
-use Rattle.store_model.specs.Lists.{pushed}
-use Rattle.store_keys.proofs.lists.push_all.Given as goal
-
-abbrev pub invariant-loop-value : goal.invariant-loop-value
-invariant-loop-value l = pushed l.values l.items ≡ pushed l.fn.values l.fn.items
-
-abbrev pub decreases-loop-value : goal.decreases-loop-value
-decreases-loop-value l = length l.values
