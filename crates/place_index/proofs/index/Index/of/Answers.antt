@@ -1,6 +1,8 @@
 use Rattle.std.proofs.Common.{ap, ◌∙◌, true, false}
 use Rattle.std.specs.FinMap.{entries}
-use Rattle.place_index.specs.Gathered.{first_of, hands, times}
+use Rattle.store_model.specs.Store.{State}
+use Rattle.command_blocks.specs.EnvelopeTexts.{plain_setting}
+use Rattle.place_index.specs.Gathered.{first_of, hands, times, told_by}
 use Rattle.place_index.specs.Tallies.{tally}
 use Rattle.place_index.specs.declared.walk.Walk.{Walk}
 use Rattle.place_index.proofs.index.Index.of.Goals as goal
