@@ -15,6 +15,3 @@ mod transaction;
 mod walk;
 
 pub use placing::{place_of, places};
-
-#[cfg(test)]
-mod tests;

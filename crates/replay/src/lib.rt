@@ -12,6 +12,3 @@ pub use history_report::report;
 pub use legend::Celery;
 pub use report_lines::report_of;
 pub use schedule_world::{LineFault, RunFault, World, run_schedule};
-
-#[cfg(test)]
-mod tests;
