@@ -1,8 +1,9 @@
 #!/usr/bin/env python3
 """Runs `celery_node replay` and the model in `model.py` over random schedules, and compares texts and statuses.
 
-Run by hand, after ./celery_node has built the program: python3 bench/random_runs.py [--count N] [--seconds N]
-A schedule depends on its seed alone. The first difference is printed with its seed and the status is then 1.
+Run by hand, after ./celery_node has built the program: python3 model/random_runs.py [--count N] [--seconds N]
+First each schedule of examples/ is run, and both are compared with the report beside it. A random schedule depends on its
+seed alone. The first difference is printed with its seed and the status is then 1.
 """
 
 import argparse
@@ -18,6 +19,7 @@ import model
 
 ROOT = os.path.dirname(os.path.dirname(os.path.abspath(__file__)))
 PROGRAM = os.path.join(ROOT, "crates", "celery_node", "out", "celery_node")
+EXAMPLES = os.path.join(ROOT, "examples")
 
 NUMBERS = [
     b"0", b"1", b"2", b"9", b"10", b"100", b"255", b"256", b"4096", b"4097", b"1099511627775", b"1099511627776",
@@ -288,6 +290,18 @@ def ran(program, data):
     return done.returncode, done.stdout
 
 
+def differing_example(program):
+    """The name of an example for which the program or the model writes another report than the one beside it, if there is one."""
+    for name in sorted(it[: -len(".schedule")] for it in os.listdir(EXAMPLES) if it.endswith(".schedule")):
+        with open(os.path.join(EXAMPLES, name + ".schedule"), "rb") as schedule:
+            data = schedule.read()
+        with open(os.path.join(EXAMPLES, name + ".report"), "rb") as report:
+            wanted = 0, report.read()
+        if not wanted == model.replay(data) == ran(program, data):
+            return name
+    return None
+
+
 def differs(program, seed, full):
     """Whether program and model differ over the schedule of a seed, and what to print; else what both ended with."""
     data = full_schedule(seed) if full else Maker(seed).schedule()
@@ -307,6 +321,9 @@ def main():
     words.add_argument("--full", action="store_true", help="histories filled up instead; each takes half a minute")
     words.add_argument("--jobs", type=int, default=2, help="how many runs side by side")
     given = words.parse_args()
+    wrong_example = differing_example(given.program)
+    if wrong_example:
+        sys.exit("examples/%s: the report beside it is another one" % wrong_example)
     end = time.monotonic() + given.seconds
     seen = Counter()
     with ThreadPoolExecutor(given.jobs) as pool:

@@ -2,7 +2,7 @@
 """An independent model of `celery_node replay`, which `random_runs.py` compares with the program byte by byte.
 
 It is written from the formats alone, not from the program's code or its definitions.
-As a command it does what the program does: python3 bench/model.py < SCHEDULE
+As a command it does what the program does: python3 model/model.py < SCHEDULE
 """
 
 import base64
