@@ -1,5 +1,6 @@
-//! A source and a sink over std's readers and writers. They tell their counts, and nothing of content.
-ghost use Rattle.std.specs.Prelude.{None, ◌≡◌};
+//! A source and a sink over std's readers and writers. They tell their counts, and of content what the reader or the
+//! writer tells.
+ghost use Rattle.std.specs.Prelude.{◌≡◌};
 
 use crate::counts::raise;
 use crate::{Failed, Sink, Source};
@@ -16,6 +17,7 @@ pub struct StdSource<R> {
 impl<R: Read> StdSource<R> {
     /// A source that has not failed.
     pub fn new(inner: R) -> Self
+        ensures left { ⟦<StdSource<R> as Source>⟧.left result ≡ R.remaining inner }
         ensures faults { ⟦<StdSource<R> as Source>⟧.read_faults result ≡ 0 }
         ensures ends { ⟦<StdSource<R> as Source>⟧.ends result ≡ 0 }
     {
@@ -28,7 +30,7 @@ impl<R: Read> StdSource<R> {
 }
 
 impl<R: Read> Source for StdSource<R> {
-    ghost left = { λ s. None };
+    ghost left = { λ s. R.remaining s.inner };
 
     ghost read_faults = { λ s. s.faults };
 
@@ -60,14 +62,15 @@ pub struct StdSink<W> {
 impl<W: Write> StdSink<W> {
     /// A sink that has not failed.
     pub fn new(inner: W) -> Self
-        ensures { ⟦<StdSink<W> as Sink>⟧.write_faults result ≡ 0 }
+        ensures taken { ⟦<StdSink<W> as Sink>⟧.taken result ≡ W.contents inner }
+        ensures faults { ⟦<StdSink<W> as Sink>⟧.write_faults result ≡ 0 }
     {
         StdSink { inner, faults: 0 }
     }
 }
 
 impl<W: Write> Sink for StdSink<W> {
-    ghost taken = { λ s. None };
+    ghost taken = { λ s. W.contents s.inner };
 
     ghost write_faults = { λ s. s.faults };
 
