@@ -22,6 +22,3 @@ pub use reading::{of_tree, read};
 pub use sealing::{Draft, seal};
 pub use seed::Seed;
 pub use tag::Tag;
-
-#[cfg(test)]
-mod tests;

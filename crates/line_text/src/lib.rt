@@ -9,8 +9,6 @@ mod line;
 mod number;
 mod reason;
 mod short;
-#[cfg(test)]
-mod tests;
 mod word;
 
 pub use form::{quoted, quoted_words, value_form};

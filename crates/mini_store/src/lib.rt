@@ -6,7 +6,5 @@ mod conns;
 mod database;
 mod run;
 mod store;
-#[cfg(test)]
-mod tests;
 
 pub use store::Store;

@@ -16,6 +16,3 @@ mod walk;
 
 pub use placing::{place_of, places, places_beside};
 pub use stored::store_after;
-
-#[cfg(test)]
-mod tests;

@@ -12,6 +12,3 @@ pub use history_report::{report, report_ran};
 pub use legend::{Celery, Lettered};
 pub use report_lines::report_of;
 pub use schedule_world::{LineFault, Ran, RunFault, World, run_schedule, run_whole};
-
-#[cfg(test)]
-mod tests;

@@ -15,8 +15,6 @@ mod past;
 mod plan;
 mod run;
 mod task;
-#[cfg(test)]
-mod tests;
 mod word;
 mod world;
 

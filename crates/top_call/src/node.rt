@@ -130,6 +130,3 @@ fn write_text<K: Sink>(out: &mut K, ended: Ended, text: &[u8]) -> Ended
         },
     }
 }
-
-#[cfg(test)]
-mod tests;

@@ -10,6 +10,3 @@ mod value;
 pub use bytes::Bytes;
 pub use list::List;
 pub use value::{Value, Values, Words, copy_values, copy_words};
-
-#[cfg(test)]
-mod tests;

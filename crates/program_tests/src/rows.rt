@@ -1,0 +1,4 @@
+//! The rows.
+pub mod bad_lines;
+pub mod limits;
+pub mod reports;

@@ -1,0 +1,17 @@
+//! Tests of the small pieces: values, links, lines and envelopes, each by rows of what is given and what comes of it.
+#![tactic(auto)]
+
+#[cfg(test)]
+mod compared;
+#[cfg(test)]
+mod envelopes;
+#[cfg(test)]
+mod faults;
+#[cfg(test)]
+mod lines;
+#[cfg(test)]
+mod links;
+#[cfg(test)]
+mod samples;
+#[cfg(test)]
+mod values;

@@ -1,6 +1,0 @@
--- It goes down the slice.
-use Rattle.std.proofs.Common.{length}
-use Rattle.worked_rows.proofs.lawful.+is_gone.Given as goal
-
-abbrev pub decreases-is_gone : goal.decreases-is_gone
-decreases-is_gone l = length l.entries.now

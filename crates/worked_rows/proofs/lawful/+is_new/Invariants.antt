@@ -1,6 +1,0 @@
--- It goes down the slice.
-use Rattle.std.proofs.Common.{length}
-use Rattle.worked_rows.proofs.lawful.+is_new.Given as goal
-
-abbrev pub decreases-is_new : goal.decreases-is_new
-decreases-is_new l = length l.clients.now
