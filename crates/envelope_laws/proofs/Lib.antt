@@ -1,4 +1,6 @@
 pub mod Members
+pub mod Octets
+pub mod Relations
 pub mod Names
 pub mod Tags
 pub mod Written
