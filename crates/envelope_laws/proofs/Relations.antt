@@ -1,5 +1,5 @@
 -- What is read as an envelope or an entry is one, member by member, and each one is read.
-use Rattle.std.proofs.Common.{◌≡◌, ◌≤◌, ℕ, List, length, Bool, true, false, ◌&&◌, codes, if◌then◌else◌, Option, Some, None, option_map, option_and_then, Result, Ok, Err, IsUtf8, bytes_eq, refl, sym, ap, subst, ◌∙◌, arith}
+use Rattle.std.proofs.Common.{◌≡◌, ◌≤◌, ℕ, List, length, Bool, true, false, codes, if◌then◌else◌, Option, Some, None, option_and_then, Result, Ok, Err, IsUtf8, refl, ap, subst, ◌∙◌, arith}
 use Rattle.std.specs.Prelude.{nat_le}
 use Rattle.std.specs.Result.{result_ok}
 use Rattle.std.specs.Str.{is_utf8}
@@ -12,13 +12,12 @@ use Rattle.base64.specs.GeneralPurpose.{IsBytes, decode_of, decoded_of, encode_o
 use Rattle.base64.specs.declared.decode.DecodeError.{DecodeError}
 use Rattle.base64.proofs.EngineFacts.{decode_of-encode_of, decode_of_strict}
 use Rattle.serde_json.specs.Data.{Data}
-use Rattle.serde_json.specs.Read.{read}
-use Rattle.envelope.specs.Envelopes.{Parts, are_short, content_of, envelope_at, if_text, max_name, parts_in, parts_of, parts_or_none, said_by}
-use Rattle.envelope.specs.Members.{is_word, text_at}
-use Rattle.envelope.specs.Relations.{HasMembers, IsEnvelope, IsInfo, IsProperties, IsTree}
+use Rattle.envelope.specs.Envelopes.{Parts, content_of, envelope_at, if_text, max_name, parts_in, parts_or_none, said_by}
+use Rattle.envelope.specs.Members.{is_word}
+use Rattle.envelope.specs.Relations.{HasMembers, IsEnvelope, IsProperties, IsTree}
 use Rattle.envelope.proofs.BodyTexts.{envelope_from_read}
 use Rattle.envelope.proofs.EntryTexts.{short_names}
-use Rattle.envelope.proofs.Said.{IsPlain, envelope_is, said_from, said_is}
+use Rattle.envelope.proofs.Said.{envelope_is, said_from, said_is}
 use Rattle.envelope.proofs.SealedTrees.{content_back}
 use Rattle.envelope.proofs.Told.{IsPropertiesTold, IsTold, told_by, told_from}
 use Rattle.json_texts.specs.Trees.{HasTexts}
@@ -58,10 +57,10 @@ body_told c text = content_back c (decode_of-encode_of standard c refl (utf8_byt
     by true e = refl
     by false e = cc
 
-short_is : (s : List ℕ) → nat_le (length s) max_name ≡ true → length s ≤ max_name
+pub short_is : (s : List ℕ) → nat_le (length s) max_name ≡ true → length s ≤ max_name
 short_is s e = grind (arith, nat_tests)
 
-is_short : (s : List ℕ) → length s ≤ max_name → nat_le (length s) max_name ≡ true
+pub is_short : (s : List ℕ) → length s ≤ max_name → nat_le (length s) max_name ≡ true
 is_short s e = grind (arith, nat_tests)
 
 -- ---- trees
