@@ -1,6 +1,7 @@
 -- What wasn't accepted has no place and no copy.
-use Rattle.std.proofs.Common.{◌+◌, ◌++◌, Bool, List, None, Option, Some, [], ap, arith, cond, false, if◌then◌else◌, inl, inr, is_some, nat_cmp, refl, subst, sym, true, ℕ, ℤ, Ordering, ◌∙◌, ◌∷◌, ◌≡◌, ◌≢◌, ◌⊎◌}
+use Rattle.std.proofs.Common.{◌+◌, ◌++◌, Bool, List, None, Option, Some, [], ap, arith, cond, false, if◌then◌else◌, inl, inr, is_some, nat_cmp, refl, subst, suc, sym, true, zero, ℕ, ℤ, Ordering, ◌∙◌, ◌∷◌, ◌≡◌, ◌≢◌, ◌⊎◌}
 use Rattle.std.proofs.lemmas.Cmp.{nat_cmp_total}
+use Rattle.std.specs.Cmp.{IsTotalOrder}
 use Rattle.std.specs.FinMap.{FinMap, IsAntisymmetric, empty, entries, get, get-empty, insert, nat_cmp-IsAntisymmetric}
 use Rattle.wire_values.specs.Order.{bytes_cmp}
 use Rattle.wire_values.specs.declared.value.Value.{Value}
@@ -23,7 +24,7 @@ use Rattle.command_blocks.specs.Calls.{Call}
 use Rattle.command_blocks.specs.Setting.{is_queue}
 use Rattle.command_blocks.specs.declared.block.Side.{Side}
 use Rattle.command_blocks.specs.declared.block.Side.TheVariants.{Left, Right}
-use Rattle.place_model.specs.Counts.{copy_count, copy_one, copy_weight, count, direct_pushes, entry_at, field_of, in_held, in_value, is_field, list_count, one_if_more, place_count, push_weight, start_count, sum_of, table_count, tagged, total}
+use Rattle.place_model.specs.Counts.{IsAccepted, copy_count, copy_one, copy_weight, count, direct_pushes, entry_at, field_of, in_held, in_value, is_field, list_count, one_if_more, place_count, push_weight, start_count, sum_of, table_count, tagged, total}
 use Rattle.place_model.specs.Histories.{AllMayCome, Client, History, IsHistoryPrefix, MayCome, World, after, after_entries, and_then, next, start_from}
 use Rattle.place_model.specs.Identity.{HasEnvelope, In_a_list, In_the_table, IsPublished, IsPush, PushedIn}
 use Rattle.place_model.specs.Returns.{push_command, push_commands, take_out}
@@ -190,9 +191,21 @@ no_place σ h p t sound pre none =
     let inv = inv_of σ h p sound pre in
     (uncopied, inv.placed t (omega (arith, none)) uncopied ∙ none)
 
+-- the same, of a tag that isn't accepted
+pub unaccepted : {N : Type 0} (σ : Full) (h p : History N) (t : Bytes) → IsSound σ.names h → IsHistoryPrefix p h → (IsAccepted σ.names p t → ⊥)
+    → (place_count σ.names (after p) t ≡ 0) × (copy_count σ.names (after p) t ≡ 0)
+unaccepted σ h p t sound pre not =
+    let none : start_count σ.names p.start t + direct_pushes σ.names (after p) t ≡ 0 = go (start_count σ.names p.start t + direct_pushes σ.names (after p) t) refl in
+    let r = no_place σ h p t sound pre none in
+    (r.1, r.0)
+  where
+    go : (n : ℕ) → start_count σ.names p.start t + direct_pushes σ.names (after p) t ≡ n → start_count σ.names p.start t + direct_pushes σ.names (after p) t ≡ 0
+    go zero i = i
+    go (suc k) i = absurd (not (omega (arith, i)))
+
 -- ---- what no envelope of a store tells stands nowhere in it
 
-total_zero : {K X : Type 0} (R : K → K → Ordering) (o : IsTotal R) (anti : IsAntisymmetric R) (f : K → X → ℕ) (m : FinMap R X) → ((q : K) → weight f q (get m q) ≡ 0) → total f (entries m) ≡ 0
+total_zero : {K X : Type 0} (R : K → K → Ordering) (o : IsTotalOrder R) (anti : IsAntisymmetric R) (f : K → X → ℕ) (m : FinMap R X) → ((q : K) → weight f q (get m q) ≡ 0) → total f (entries m) ≡ 0
 total_zero {X = X} R o anti f m none =
     total-same R o anti f m empty (λ q. none q ∙ sym (ap (weight f q) (get-empty {X = X} R q))) ∙ total-empty R o anti f
 
