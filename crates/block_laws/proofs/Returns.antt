@@ -141,19 +141,19 @@ pass_good σ token v =
 module _ (σ : Setting) (token : Bytes) where
   -- returns, as far as they go, and the release
   abbrev ReturnsTo : List Bytes → List Call → Type 0
-  ReturnsTo ts xs = (l : List Call) × (ys : List Call) × (l ++ ys ≡ xs) × (((ends : List ReturnEnd) × IsReturns σ ts (Done ends) l) ⊎ IsReturns σ ts Stuck l) × Talks (release_script σ token) ys
+  ReturnsTo ts xs = (l : List Call) × (ys : List Call) × (l ++ ys ≡ xs) × (((ends : List ReturnEnd) × IsReturns σ ts (Done ends) l) ⊎ ((b : Bytes) × IsReturns σ ts (Stuck b) l)) × Talks (release_script σ token) ys
 
   returned : (t : Bytes) (ts : List Bytes) (end : ReturnEnd) (l ys : List Call) → IsTries σ Right t 0 end l → goes_on end ≡ true → ReturnsTo ts ys → ReturnsTo (t ∷ ts) (l ++ ys)
   returned t ts end l ys tries on more = (l ++ more.0, more.1, append_assoc l more.0 more.1 ∙ ap (λ z. l ++ z) more.2, by more.3, more.4) where
-    by : ((ends : List ReturnEnd) × IsReturns σ ts (Done ends) more.0) ⊎ IsReturns σ ts Stuck more.0 → ((ends : List ReturnEnd) × IsReturns σ (t ∷ ts) (Done ends) (l ++ more.0)) ⊎ IsReturns σ (t ∷ ts) Stuck (l ++ more.0)
+    by : ((ends : List ReturnEnd) × IsReturns σ ts (Done ends) more.0) ⊎ ((b : Bytes) × IsReturns σ ts (Stuck b) more.0) → ((ends : List ReturnEnd) × IsReturns σ (t ∷ ts) (Done ends) (l ++ more.0)) ⊎ ((b : Bytes) × IsReturns σ (t ∷ ts) (Stuck b) (l ++ more.0))
     by (inl h) = inl (end ∷ h.0, Returned t ts end h.0 l more.0 tries on h.1)
-    by (inr h) = inr (Returned_until t ts end l more.0 tries on h)
+    by (inr h) = inr (h.0, Returned_until t ts end h.0 l more.0 tries on h.1)
 
   -- the returns of one tag, and then those of the others
   turn_talk : (t : Bytes) (ts : List Bytes) → ((ys : List Call) → Talks (returns_script σ token ts) ys → ReturnsTo ts ys) → (end : ReturnEnd) (l ys : List Call) → IsTries σ Right t 0 end l → Follows (returns_script σ token ts) (release_script σ token) end ys
       → ReturnsTo (t ∷ ts) (l ++ ys)
   turn_talk t ts others end l ys tries (inl f) = returned t ts end l ys tries f.0 (others ys f.1)
-  turn_talk t ts others end l ys tries (inr f) = (l, ys, refl, inr (Ended_early t ts l (subst (λ e. IsTries σ Right t 0 e l) f.0 tries)), f.1)
+  turn_talk t ts others end l ys tries (inr f) = (l, ys, refl, inr (t, Ended_early t ts l (subst (λ e. IsTries σ Right t 0 e l) f.0 tries)), f.1)
 
   returns_talk : (ts : List Bytes) (xs : List Call) → Talks (returns_script σ token ts) xs → ReturnsTo ts xs
   returns_talk [] xs talk = ([], xs, refl, inl ([], All_returned), talk)
@@ -174,10 +174,10 @@ module _ (σ : Setting) (token : Bytes) where
         after : Script
         after = Say (λ at. due_words σ at v) (on_texts go)
 
-        by : (a b : ℕ) (ms : List Bytes) (l ys : List Call) → ((ends : List ReturnEnd) × IsReturns σ (tags_among σ ms) (Done ends) l) ⊎ IsReturns σ (tags_among σ ms) Stuck l → IsRelease σ token ys
+        by : (a b : ℕ) (ms : List Bytes) (l ys : List Call) → ((ends : List ReturnEnd) × IsReturns σ (tags_among σ ms) (Done ends) l) ⊎ ((b : Bytes) × IsReturns σ (tags_among σ ms) (Stuck b) l) → IsRelease σ token ys
             → P (call a (lock_words σ token) done ∷ call b (due_words σ b v) (bulks ms) ∷ l ++ ys)
         by a b ms l ys (inl h) release = (Done h.0, Ran a b ms (Done h.0) l ys h.1 release)
-        by a b ms l ys (inr h) release = (Stuck, Ran a b ms Stuck l ys h release)
+        by a b ms l ys (inr h) release = (Stuck h.0, Ran a b ms (Stuck h.0) l ys h.1 release)
 
         returned_talk : (a b : ℕ) (ms : List Bytes) (ys : List Call) → ReturnsTo (tags_among σ ms) ys → P (call a (lock_words σ token) done ∷ call b (due_words σ b v) (bulks ms) ∷ ys)
         returned_talk a b ms ys h = subst (λ l. P (call a (lock_words σ token) done ∷ call b (due_words σ b v) (bulks ms) ∷ l)) h.2 (by a b ms h.0 h.1 h.3 (release_talk σ token h.1 h.4))

@@ -14,7 +14,7 @@ use Rattle.command_blocks.specs.declared.block.Side.TheVariants.{Right}
 -- how a pass ends
 pub data PassEnd : Type 0 where
   Held : PassEnd  -- another pass has the mutex
-  Stuck : PassEnd  -- a return was contended
+  Stuck : Bytes → PassEnd  -- the return of this tag was contended
   Done : List ReturnEnd → PassEnd  -- with the ends of its returns, in order
 
 -- the returns of these tags, with their ends, as far as they go
@@ -22,9 +22,9 @@ pub data IsReturns (σ : Setting) : List Bytes → PassEnd → List Call → Typ
   All_returned : IsReturns σ [] (Done []) []
   Returned : (t : Bytes) (ts : List Bytes) (end : ReturnEnd) (ends : List ReturnEnd) (l l' : List Call)
       → IsTries σ Right t 0 end l → goes_on end ≡ true → IsReturns σ ts (Done ends) l' → IsReturns σ (t ∷ ts) (Done (end ∷ ends)) (l ++ l')
-  Returned_until : (t : Bytes) (ts : List Bytes) (end : ReturnEnd) (l l' : List Call)
-      → IsTries σ Right t 0 end l → goes_on end ≡ true → IsReturns σ ts Stuck l' → IsReturns σ (t ∷ ts) Stuck (l ++ l')
-  Ended_early : (t : Bytes) (ts : List Bytes) (l : List Call) → IsTries σ Right t 0 Contended l → IsReturns σ (t ∷ ts) Stuck l
+  Returned_until : (t : Bytes) (ts : List Bytes) (end : ReturnEnd) (stuck : Bytes) (l l' : List Call)
+      → IsTries σ Right t 0 end l → goes_on end ≡ true → IsReturns σ ts (Stuck stuck) l' → IsReturns σ (t ∷ ts) (Stuck stuck) (l ++ l')
+  Ended_early : (t : Bytes) (ts : List Bytes) (l : List Call) → IsTries σ Right t 0 Contended l → IsReturns σ (t ∷ ts) (Stuck t) l
 
 -- how a pass lets go of the mutex: its own, or another's or none
 pub data IsRelease (σ : Setting) (token : Bytes) : List Call → Type 0 where

@@ -12,7 +12,7 @@ use Rattle.serde_json.specs.Written.{has_float, items_have_float, compact_text}
 use Rattle.serde_json.proofs.OnLiterals.{serde_json_on_literals}
 use Rattle.envelope.specs.Bodies.{if_plain, marked_text, body_of, entry_text, entry_of, exchange_or, routing_key_or, parts_at, tree_in, body_in, carried}
 use Rattle.envelope.specs.Entries.{Entry, entry_at, entry_data, entry_in, of_items, max_entry}
-use Rattle.envelope.specs.Envelopes.{Parts, said_by, parts_or_none, parts_in, json_at, envelope_of, envelope_at, tree_at, IsEnvelope, are_short, max_levels, max_bytes}
+use Rattle.envelope.specs.Envelopes.{Parts, said_by, parts_or_none, parts_in, json_at, envelope_of, envelope_at, tree_at, are_short, max_levels, max_bytes}
 use Rattle.envelope.specs.Marks.{marked}
 use Rattle.envelope.specs.Reading.{needed, wanted}
 use Rattle.envelope.specs.Sorted.{Sorted, SortedItems}
@@ -21,7 +21,7 @@ use Rattle.envelope.specs.declared.fault.EnvelopeFault.TheVariants.{TooLong, Not
 use Rattle.envelope.proofs.EnvelopeTags.{ok_is, envelope_said, read_said}
 use Rattle.envelope.proofs.Kept.{depth-marked, float-marked}
 use Rattle.envelope.proofs.MarkedTrees.{sorted-marked, marked_twice}
-use Rattle.envelope.proofs.Said.{IsPlain, bind_ok, wanted_is, needed_is, said_is, envelope_is}
+use Rattle.envelope.proofs.Said.{IsPlain, bind_ok, wanted_is, needed_is, said_is}
 use Rattle.envelope.proofs.SortedTrees.{read_sorted}
 use Rattle.envelope.proofs.TextsBack.{read-compact_text}
 
@@ -160,11 +160,15 @@ tree_known b d e =
     let short : length b ≤ max_bytes = let x = wanted_is TooLong _ a.0 a.1 in grind (arith, nat_tests) in
     (short, j.0, j.1)
 
-pub envelope_from_read : (d : Data) (b : List ℕ) → envelope_at b ≡ Ok d → IsEnvelope d b
+-- the bytes are read as a tree that says something
+pub record IsEnvelopeRead (d : Data) (b : List ℕ) : Type 0 where
+  pub short : length b ≤ max_bytes
+  pub utf8 : IsUtf8 b
+  pub text : read b ≡ Some d
+  pub said : said_by d ≡ Ok (parts_in d)
+
+pub envelope_from_read : (d : Data) (b : List ℕ) → envelope_at b ≡ Ok d → IsEnvelopeRead d b
 envelope_from_read d b e =
     let s = read_said b d e in
     let t = tree_known b d s.0 in
     record { short = t.0; utf8 = t.1; text = t.2; said = s.1.1 ∙ ap (λ r. Ok (parts_or_none r)) (sym s.1.1) }
-
-pub read_from_envelope : (d : Data) (b : List ℕ) → IsEnvelope d b → envelope_at b ≡ Ok d
-read_from_envelope d b h = envelope_is d (parts_in d) b h.said h.utf8 h.text h.short

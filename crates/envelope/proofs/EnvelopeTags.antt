@@ -65,7 +65,7 @@ spelled_is s m n e = go (bytes_eq s (tag_text m)) refl e
     go true t f = (bytes_eq-Decides s (tag_text m)).0 t ∙ ap tag_text (some_parts m n f)
     go false t f = cc
 
-text_is : (s : List ℕ) (n : ℕ) → tag_of_text s ≡ Some n → s ≡ tag_text n
+pub text_is : (s : List ℕ) (n : ℕ) → tag_of_text s ≡ Some n → s ≡ tag_text n
 text_is s n e = go (parsed s) e
   where
     go : (o : Option (List ℕ)) → option_and_then (λ u. if_spelled s (from_be_bytes w128 u)) o ≡ Some n → s ≡ tag_text n

@@ -45,7 +45,7 @@ member_other k q f (member l e ms) n =
       | Greater ↦ λ i. ap (λ o. match_ordering (slice_cmp nat_cmp k l) o (Some e) o) (member_other k q f ms n)
     ] refl
 
-get_same : (k : List ℕ) (f : Data → Data) (d : Data) → get k (with_member k f d) ≡ option_map f (get k d)
+pub get_same : (k : List ℕ) (f : Data → Data) (d : Data) → get k (with_member k f d) ≡ option_map f (get k d)
 get_same k f null = refl
 get_same k f (boolean b) = refl
 get_same k f (number n) = refl
@@ -53,7 +53,7 @@ get_same k f (string s) = refl
 get_same k f (array ds) = refl
 get_same k f (object ms) = member_same k f ms
 
-get_other : (k q : List ℕ) (f : Data → Data) (d : Data) → (k ≡ q → ⊥) → get k (with_member q f d) ≡ get k d
+pub get_other : (k q : List ℕ) (f : Data → Data) (d : Data) → (k ≡ q → ⊥) → get k (with_member q f d) ≡ get k d
 get_other k q f null n = refl
 get_other k q f (boolean b) n = refl
 get_other k q f (number m) n = refl
@@ -63,7 +63,7 @@ get_other k q f (object ms) n = member_other k q f ms n
 
 -- ---- what stands at a name in a marked object
 
-get_marked : (k : List ℕ) (d : Data) → (k ≡ codes "redelivered" → ⊥) → get k (marked_object d) ≡ get k d
+pub get_marked : (k : List ℕ) (d : Data) → (k ≡ codes "redelivered" → ⊥) → get k (marked_object d) ≡ get k d
 get_marked k null n = refl
 get_marked k (boolean b) n = refl
 get_marked k (number m) n = refl
@@ -102,7 +102,7 @@ properties_marked : (d : Data) → get (codes "properties") (marked d) ≡ optio
 unfolding on_info on_headers
 properties_marked d = get_same (codes "properties") on_info (on_headers d) ∙ ap (option_map on_info) (get_other (codes "properties") (codes "headers") marked_object d (off (codes "properties") (codes "headers") refl))
 
-object_headers : (d h : Data) → object_at (codes "headers") d ≡ Some h → object_at (codes "headers") (marked d) ≡ Some (marked_object h)
+pub object_headers : (d h : Data) → object_at (codes "headers") d ≡ Some h → object_at (codes "headers") (marked d) ≡ Some (marked_object h)
 object_headers d h e = ap (option_and_then if_object) (headers_marked d) ∙ object_map (put (codes "redelivered") (boolean true)) (get (codes "headers") d) ∙ ap (option_map marked_object) e
 
 object_properties : (d q : Data) → object_at (codes "properties") d ≡ Some q → object_at (codes "properties") (marked d) ≡ Some (on_info q)
@@ -162,7 +162,7 @@ said_marked d p e =
 
 -- ---- it is marked
 
-object_is : (o : Option Data) (h : Data) → option_and_then if_object o ≡ Some h → o ≡ Some h
+pub object_is : (o : Option Data) (h : Data) → option_and_then if_object o ≡ Some h → o ≡ Some h
 object_is None h e = cc
 object_is (Some null) h e = cc
 object_is (Some (boolean b)) h e = cc

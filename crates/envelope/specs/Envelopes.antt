@@ -1,5 +1,5 @@
 -- Which trees and bytes are envelopes, and what an envelope says (Kombu's virtual transport, Celery's message protocol).
-use Rattle.std.specs.Prelude.{◌≡◌, ◌≤◌, ℕ, min, Bool, List, [], length, codes, not, nat_le, if◌then◌else◌, Option, Some, None, option_and_then, Result, Ok, Err, ◌&&◌, IsUtf8}
+use Rattle.std.specs.Prelude.{ℕ, min, Bool, List, [], length, codes, not, nat_le, if◌then◌else◌, Option, Some, None, option_and_then, Result, Ok, Err, ◌&&◌}
 use Rattle.std.specs.Str.{is_utf8}
 use Rattle.serde_json.specs.Data.{Num, unsigned, negative, float, Data, depth}
 use Rattle.serde_json.specs.Find.{get, as_number}
@@ -130,10 +130,3 @@ unfoldable pub envelope_at : List ℕ → Result Data EnvelopeFault
 envelope_at b = do
   d ← tree_at b
   envelope_of d
-
--- the bytes are a JSON text of the tree d, and the tree is an envelope's
-pub record IsEnvelope (d : Data) (b : List ℕ) : Type 0 where
-  pub short : length b ≤ max_bytes
-  pub utf8 : IsUtf8 b
-  pub text : read b ≡ Some d
-  pub said : said_by d ≡ Ok (parts_in d)

@@ -1,10 +1,10 @@
 -- Laws of trees, envelopes, entries and tags.
-use Rattle.std.specs.Prelude.{◌≡◌, ◌≤◌, ◌<◌, ◌^◌, ◌↔◌, ℕ, true, false, List, Some, Ok}
+use Rattle.std.specs.Prelude.{◌≡◌, ◌≤◌, ◌<◌, ◌^◌, ℕ, true, false, List, Some, Ok}
 use Rattle.serde_json.specs.Data.{Data, depth}
 use Rattle.serde_json.specs.Read.{read, max_depth}
 use Rattle.serde_json.specs.Written.{has_float, compact_text}
 use Rattle.envelope.specs.Bodies.{body_in, body_of, carried, entry_of, tag_of_bytes}
-use Rattle.envelope.specs.Envelopes.{Parts, IsEnvelope, envelope_at, priority_of, said_by}
+use Rattle.envelope.specs.Envelopes.{Parts, priority_of, said_by}
 use Rattle.envelope.specs.Marks.{is_marked, marked}
 use Rattle.envelope.specs.Sorted.{Sorted}
 use Rattle.envelope.specs.Tags.{is_tag, tag}
@@ -16,10 +16,6 @@ ReadsSorted = (text : List ℕ) (d : Data) → read text ≡ Some d → Sorted d
 -- the compact text of a sorted tree without floats is read back as that tree
 abbrev pub ReadsBack : Type 0
 ReadsBack = (d : Data) → Sorted d → has_float d ≡ false → depth d ≤ max_depth → read (compact_text d) ≡ Some d
-
--- reading bytes gives the envelope's tree exactly where the bytes are an envelope
-abbrev pub ReadsEnvelopes : Type 0
-ReadsEnvelopes = (d : Data) (b : List ℕ) → (envelope_at b ≡ Ok d) ↔ IsEnvelope d b
 
 -- marks that are set are set, and a marked tree stays sorted
 abbrev pub MarksStay : Type 0

@@ -5,6 +5,7 @@ pub mod Laws
 pub mod Marks
 pub mod Members
 pub mod Reading
+pub mod Relations
 pub mod Sealed
 pub mod Shown
 pub mod ShownEntry

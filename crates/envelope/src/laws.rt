@@ -1,16 +1,10 @@
 //! Laws of trees, envelopes, entries and tags that need no call. Each body is empty: the clauses are the laws.
-ghost use Rattle.envelope.specs.Laws.{BodiesComeOut, BodiesGoIn, MarksSay, MarksStay, ReadsBack, ReadsEnvelopes, ReadsSorted, TagsOfEnvelopes, TagsSpelled, TagsTold};
+ghost use Rattle.envelope.specs.Laws.{BodiesComeOut, BodiesGoIn, MarksSay, MarksStay, ReadsBack, ReadsSorted, TagsOfEnvelopes, TagsSpelled, TagsTold};
 
 /// What was read is sorted, and a sorted tree's compact text is read back as that tree.
 pub fn texts_read_back()
     ensures sorted { ReadsSorted }
     ensures back { ReadsBack }
-{}
-
-/// Reading gives an envelope's tree exactly where the bytes are a JSON text of that tree and the tree is an
-/// envelope's.
-pub fn envelopes_read()
-    ensures { ReadsEnvelopes }
 {}
 
 /// Marks that are set are set, and marks change nothing that an envelope says.

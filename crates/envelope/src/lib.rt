@@ -16,7 +16,7 @@ pub mod walk;
 pub use entry::{UnackedEntry, read_entry, write_entry};
 pub use envelope::{Envelope, Tree, write};
 pub use fault::{EnvelopeFault, Field};
-pub use laws::{bodies_stay, envelopes_read, marks_stay, tags_tell, texts_read_back};
+pub use laws::{bodies_stay, marks_stay, tags_tell, texts_read_back};
 pub use marks::redelivered;
 pub use reading::{of_tree, read};
 pub use sealing::{Draft, seal};

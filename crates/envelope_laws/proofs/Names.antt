@@ -13,7 +13,7 @@ use Rattle.json_texts.proofs.Trees.{reads_texts}
 use Rattle.envelope_laws.specs.Names.{is_short_text}
 use Rattle.envelope_laws.proofs.Members.{object_at-texts, text_at-texts}
 
-names_utf8 : (d : Data) (p : Parts) → HasTexts d → said_by d ≡ Ok p → IsUtf8 p.exchange × IsUtf8 p.routing_key
+pub names_utf8 : (d : Data) (p : Parts) → HasTexts d → said_by d ≡ Ok p → IsUtf8 p.exchange × IsUtf8 p.routing_key
 names_utf8 d p h e =
     let t = told_by d p (said_is d p e).parts in
     let properties = object_at-texts (codes "properties") d t.properties h t.properties_is in

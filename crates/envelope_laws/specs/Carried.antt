@@ -1,7 +1,9 @@
 -- What comes out of an entry of the table of messages that are not acknowledged.
 use Rattle.std.specs.Prelude.{◌≡◌, ℕ, true, List, Some, Ok}
-use Rattle.envelope.specs.Bodies.{carried, tag_of_bytes}
-use Rattle.envelope.specs.Entries.{Entry, entry_at}
+use Rattle.serde_json.specs.Data.{Data}
+use Rattle.serde_json.specs.Written.{compact_text}
+use Rattle.envelope.specs.Bodies.{carried, entry_of, tag_of_bytes}
+use Rattle.envelope.specs.Entries.{Entry, entry_at, entry_data, entry_for}
 use Rattle.envelope.specs.Envelopes.{envelope_at, parts_in, priority_of}
 use Rattle.envelope.specs.Marks.{is_marked, marked}
 use Rattle.envelope.specs.Tags.{tag_text}
@@ -17,3 +19,8 @@ pub record IsCarried (e : Entry) (v : List ℕ) : Type 0 where
 -- what an entry carries is its envelope, marked
 abbrev pub EntriesCarryEnvelopes : Type 0
 EntriesCarryEnvelopes = (u v : List ℕ) → carried u ≡ Some v → (e : Entry) × (entry_at u ≡ Ok e) × IsCarried e v
+
+-- the entry of an envelope is the compact text of its array, is read as that entry, and carries the envelope with both marks set
+abbrev pub EnvelopesGoIn : Type 0
+EnvelopesGoIn = (v : List ℕ) (d : Data) → envelope_at v ≡ Ok d
+    → (entry_of v ≡ compact_text (entry_data (entry_for d))) × (entry_at (entry_of v) ≡ Ok (entry_for d)) × (carried (entry_of v) ≡ Some (compact_text (marked d)))

@@ -1,2 +1,5 @@
 pub mod Names
 pub mod Carried
+pub mod Marks
+pub mod Relations
+pub mod Sealed

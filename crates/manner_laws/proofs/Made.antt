@@ -128,19 +128,19 @@ Good σ s (Release_foreign n p) l = ForeignRest σ s n p l
 no_returns : (σ : Setting) (ts : List Bytes) (end : PassEnd) (l : List Call) → IsReturns σ ts end l → ts ≡ [] → l ≡ []
 no_returns σ ts end l All_returned e = refl
 no_returns σ ts end l (Returned t us x xs k k' h on more) e = absurd (cc e)
-no_returns σ ts end l (Returned_until t us x k k' h on more) e = absurd (cc e)
+no_returns σ ts end l (Returned_until t us x b k k' h on more) e = absurd (cc e)
 no_returns σ ts end l (Ended_early t us k h) e = absurd (cc e)
 
 not_held : (σ : Setting) (ts : List Bytes) (end : PassEnd) (l : List Call) → IsReturns σ ts end l → end ≡ Held → ⊥
 not_held σ ts end l All_returned e = cc e
 not_held σ ts end l (Returned t us x xs k k' h on more) e = cc e
-not_held σ ts end l (Returned_until t us x k k' h on more) e = cc e
+not_held σ ts end l (Returned_until t us x b k k' h on more) e = cc e
 not_held σ ts end l (Ended_early t us k h) e = cc e
 
 -- one more return, after which the pass goes on
 returned : (σ : Setting) (t : Bytes) (ts : List Bytes) (end : ReturnEnd) (after : PassEnd) (l l' : List Call) → IsTries σ Right t 0 end l → goes_on end ≡ true → IsReturns σ ts after l' → (all : PassEnd) × IsReturns σ (t ∷ ts) all (l ++ l')
 returned σ t ts end Held l l' tries on more = absurd (not_held σ ts Held l' more refl)
-returned σ t ts end Stuck l l' tries on more = (Stuck, Returned_until t ts end l l' tries on more)
+returned σ t ts end (Stuck b) l l' tries on more = (Stuck b, Returned_until t ts end b l l' tries on more)
 returned σ t ts end (Done ends) l l' tries on more = (Done (end ∷ ends), Returned t ts end ends l l' tries on more)
 
 module _ (σ : Setting) (s : ℕ) where
@@ -261,7 +261,7 @@ module _ (σ : Setting) (s : ℕ) where
           (r.0, q.1 ++ after.1, after.2, r.1, after.4, append_assoc q.1 after.1 after.2 ∙ ap (λ z. q.1 ++ z) after.5 ∙ q.5)
 
       go : (end : ReturnEnd) → IsTries σ Right t 0 end h.2.1 → After σ s n p (Of_pass t ts) (goes_on end) h.2.2 → TurnRest σ s n p (t ∷ ts) l
-      go Was_contended tries after = let q = h.2 in (Stuck, q.1, q.2, Ended_early t ts q.1 tries, after, q.5)
+      go Was_contended tries after = let q = h.2 in (Stuck t, q.1, q.2, Ended_early t ts q.1 tries, after, q.5)
       go Was_moved tries after = on Was_moved refl tries after
       go Gone tries after = on Gone refl tries after
       go Stayed tries after = on Stayed refl tries after

@@ -226,7 +226,7 @@ module _ (σ : Setting) (s : ℕ) where
   returns_run laws n p ts end l All_returned = refl
   returns_run laws n p ts end l (Returned t us x xs k k' h on more) =
       runs_join σ s (Turning n p (t ∷ us)) (Turning n p us) (Turning n p []) k k' (subst (λ z. Runs σ s (Turning n p (t ∷ us)) k (ended n p (Of_pass t us) z)) on (turn_runs laws n p t us x k h)) (returns_run laws n p us _ k' more)
-  returns_run laws n p ts end l (Returned_until t us x k k' h on more) =
+  returns_run laws n p ts end l (Returned_until t us x b k k' h on more) =
       runs_join σ s (Turning n p (t ∷ us)) (Turning n p us) (Turning n p []) k k' (subst (λ z. Runs σ s (Turning n p (t ∷ us)) k (ended n p (Of_pass t us) z)) on (turn_runs laws n p t us x k h)) (returns_run laws n p us _ k' more)
   returns_run laws n p ts end l (Ended_early t us k h) = turn_runs laws n p t us Was_contended k h
 

@@ -3,7 +3,7 @@ ghost use Rattle.command_blocks.specs.Blocks.{AreBlocks, drawn_by};
 ghost use Rattle.command_blocks.specs.Calls.{Call, concat};
 ghost use Rattle.command_blocks.specs.EnvelopeTexts.{texts};
 ghost use Rattle.place_model.specs.Histories.{Client, History, IsHistoryPrefix, after};
-ghost use Rattle.place_model.specs.Identity.{HasEnvelope, HasOrigin, IsPublished};
+ghost use Rattle.place_model.specs.Identity.{HasEnvelope, HasOrigin, IsNowhere, IsPublished};
 ghost use Rattle.queue_keys.specs.Layouts.{Layout, is_layout};
 ghost use Rattle.queue_keys.specs.Names.{Bytes};
 ghost use Rattle.command_blocks.specs.Setting.{setting_of};
@@ -29,10 +29,11 @@ pub fn one_tree<N>()
         → HasEnvelope σ (after p).store.keys t b → HasEnvelope σ (after p).store.keys t b' → b ≡ b' }
 {}
 
-/// Where a client's calls so far are whole blocks, its next tag was published by nobody.
+/// Where a client's calls so far are whole blocks, its next tag stands nowhere: nobody published it, and no list, no table,
+/// no saved start, no hand and no transaction has it.
 pub fn fresh_tag<N>()
     ensures { (κ : Layout) → is_layout κ ≡ true → let σ = setting_of κ texts in (h p : History N) → IsSound σ h → IsHistoryPrefix p h
-        → (c : ℕ) (cl : Client) (bs : List (List Call)) (blocks : AreBlocks σ cl.seed 0 0 bs) (b : Bytes)
+        → (c : ℕ) (cl : Client) (bs : List (List Call)) (blocks : AreBlocks σ cl.seed 0 0 bs)
         → get (after p).clients c ≡ Some cl → cl.calls ≡ concat bs
-        → IsPublished σ (after p) (σ.tag cl.seed (suc (drawn_by σ cl.seed 0 0 bs blocks))) b → ⊥ }
+        → IsNowhere σ p (σ.tag cl.seed (suc (drawn_by σ cl.seed 0 0 bs blocks))) }
 {}

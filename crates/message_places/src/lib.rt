@@ -12,5 +12,5 @@ mod texts;
 pub use identity::{fresh_tag, one_publication, one_tree, origin};
 pub use manner::{cursor_exact, cursor_steps};
 pub use passes::{pass_accounts, pass_reads, whole_pass};
-pub use places::{a_stop, one_place, prefixes, somewhere, whole_return};
+pub use places::{a_stop, no_place, one_place, prefixes, somewhere, whole_return};
 pub use texts::{layouts_serve, layouts_tell, texts_serve};

@@ -33,9 +33,10 @@ pub fn pass_accounts<N>()
         → (ms ≡ due_members σ (after p) at v) × (moved_count ends + gone_count ends + stayed_count ends ≡ length ms) }
 {}
 
-/// So each pass among a client's calls that wasn't ended early accounts for all that it read.
+/// So each pass among a client's calls that wasn't ended early accounts for all that it read: by its own range call, its
+/// own returns in their order, and their three counts.
 pub fn whole_pass<N>()
     ensures { (κ : Layout) → is_layout κ ≡ true → let σ = setting_of κ texts in (h : History N) (c v : ℕ) (token : Bytes) (ends : List ReturnEnd) (earlier l rest : List Call) → IsSound σ h
         → calls_of c h.entries ≡ earlier ++ (l ++ rest) → IsPassBlock σ token v (Done ends) l → AreEarly l → v < 2 ^ 63
-        → AccountsForAll σ h v ends }
+        → AccountsForAll σ h c v token ends earlier l }
 {}

@@ -1,4 +1,3 @@
-pub mod Octets
 pub mod TaskTrees
 pub mod Seals
 pub mod Program

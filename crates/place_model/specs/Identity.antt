@@ -1,5 +1,5 @@
--- Where the envelopes of a tag come from.
-use Rattle.std.specs.Prelude.{◌≡◌, ◌⊎◌, ℕ, ℤ, true, List, [], ◌∷◌, Some}
+-- Where the envelopes of a tag come from, and what it is that a tag stands nowhere.
+use Rattle.std.specs.Prelude.{◌≡◌, ◌⊎◌, ℕ, ℤ, true, false, List, [], ◌∷◌, Some}
 use Rattle.std.specs.FinMap.{get}
 use Rattle.wire_values.specs.declared.value.Value.{Value}
 use Rattle.store_model.specs.Words.{command_of}
@@ -12,7 +12,7 @@ use Rattle.command_blocks.specs.Answers.{number_of}
 use Rattle.command_blocks.specs.Setting.{Setting, is_queue}
 use Rattle.command_blocks.specs.Calls.{Call}
 use Rattle.place_model.specs.Histories.{History, World, Client, after}
-use Rattle.place_model.specs.Counts.{entry_at}
+use Rattle.place_model.specs.Counts.{copy_count, direct_pushes, entry_at, is_field, is_member, place_count, start_count}
 use Rattle.place_model.specs.Starts.{elements_at}
 
 -- an envelope with this tag, which is b but for its two marks, stands in the list of a queue or in the table
@@ -43,3 +43,15 @@ IsPublished σ w t b = (c : ℕ) × (cl : Client) × (get w.clients c ≡ Some c
 -- it stood in the start, or a client published it
 abbrev pub HasOrigin : {N : Type 0} → Setting → History N → Bytes → Bytes → Type 0
 HasOrigin σ h t b = HasEnvelope σ h.start t b ⊎ IsPublished σ (after h) t b
+
+-- a tag stands nowhere: nobody published it, no list, no table, no index and no start has it, it is in no hand, and no transaction ended or copied it
+pub record IsNowhere {N : Type 0} (σ : Setting) (h : History N) (t : Bytes) : Type 0 where
+  pub unpublished : (b : Bytes) → IsPublished σ (after h) t b → ⊥
+  pub not_stored : (b : Bytes) → HasEnvelope σ (after h).store.keys t b → ⊥
+  pub not_in_start : (b : Bytes) → HasEnvelope σ h.start t b → ⊥
+  pub no_start : start_count σ h.start t ≡ 0
+  pub no_push : direct_pushes σ (after h) t ≡ 0
+  pub no_field : is_field σ (after h).store.keys t ≡ false
+  pub no_member : is_member σ (after h).store.keys t ≡ false
+  pub no_place : place_count σ (after h) t ≡ 0
+  pub no_copy : copy_count σ (after h) t ≡ 0

@@ -1,16 +1,19 @@
 -- What a pass reads, and what becomes of it.
-use Rattle.std.specs.Prelude.{nat_le, ◌-◌, pos, negsuc, if◌then◌else◌, ◌≡◌, ℕ, ◌+◌, ℤ, List, [], ◌∷◌, Option, Some, ◌<◌, ◌^◌, length}
+use Rattle.std.specs.Prelude.{nat_le, ◌-◌, pos, negsuc, if◌then◌else◌, ◌≡◌, ℕ, ◌+◌, ℤ, List, [], ◌∷◌, ◌++◌, Option, Some, ◌<◌, ◌^◌, length}
 use Rattle.store_model.specs.Keys.{value_at}
 use Rattle.store_model.specs.Store.{settled}
+use Rattle.store_model.specs.Replies.{bulks, done}
 use Rattle.store_model.specs.SortedSets.{ranks}
+use Rattle.store_model.specs.declared.reply.Reply.{Reply}
 use Rattle.store_model.specs.declared.held.Stored.{Stored}
 use Rattle.store_model.specs.declared.held.Stored.TheVariants.{Scores}
 use Rattle.queue_keys.specs.Names.{Bytes}
 use Rattle.command_blocks.specs.Setting.{Setting}
 use Rattle.command_blocks.specs.ReturnBlocks.{ReturnEnd, Moved, Gone, Stayed}
-use Rattle.command_blocks.specs.PassBlocks.{tags_among}
-use Rattle.place_model.specs.Histories.{World, History, IsHistoryPrefix, after}
-use Rattle.command_blocks.specs.Calls.{Call}
+use Rattle.command_blocks.specs.PassBlocks.{Done, IsRelease, IsReturns, due_words, lock_words, tags_among}
+use Rattle.place_model.specs.Histories.{World, History, IsHistoryPrefix, after, and_then, calls_of}
+use Rattle.place_model.specs.declared.history.Entry.TheVariants.{Call as Called}
+use Rattle.command_blocks.specs.Calls.{Call, call}
 
 -- the members with scores between these bounds of what stands at a key, the highest first
 abbrev pub ranks_of : ℤ → ℤ → ℕ → ℕ → Option Stored → List Bytes
@@ -53,9 +56,20 @@ abbrev pub AreEarly : List Call → Type 0
 AreEarly [] = Unit {0}
 AreEarly (x ∷ xs) = (x.at < 2 ^ 63) × AreEarly xs
 
--- the ends of a pass's returns account for what it read: at some moment after a prefix of the history it read the due messages, and its returns moved each of them, found it gone, or let it stay
-pub record AccountsForAll {N : Type 0} (σ : Setting) (h : History N) (v : ℕ) (ends : List ReturnEnd) : Type 0 where
+-- what a pass of connection c did, whose calls are l and came after the calls `earlier` of that connection: its range call came after a prefix of the history and was answered the messages that were due there; its returns are those of these messages, in their order, with these ends; and the three counts of its ends are all that it read
+pub record AccountsForAll {N : Type 0} (σ : Setting) (h : History N) (c v : ℕ) (token : Bytes) (ends : List ReturnEnd) (earlier l : List Call) : Type 0 where
   pub before : History N
-  pub is_before : IsHistoryPrefix before h
+  pub locked : ℕ
   pub at : ℕ
-  pub counted : moved_count ends + gone_count ends + stayed_count ends ≡ length (due_members σ (after before) at v)
+  pub reply : Reply
+  pub is_before : IsHistoryPrefix (and_then before (Called c at (due_words σ at v) reply ∷ [])) h
+  pub its_own : calls_of c before.entries ≡ earlier ++ call locked (lock_words σ token) done ∷ []
+  pub members : List Bytes
+  pub answered : reply.answer ≡ bulks members
+  pub due : members ≡ due_members σ (after before) at v
+  pub returns : List Call
+  pub release : List Call
+  pub calls : l ≡ call locked (lock_words σ token) done ∷ call at (due_words σ at v) (bulks members) ∷ returns ++ release
+  pub in_order : IsReturns σ members (Done ends) returns
+  pub released : IsRelease σ token release
+  pub counted : moved_count ends + gone_count ends + stayed_count ends ≡ length members

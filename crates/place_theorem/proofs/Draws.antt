@@ -117,7 +117,7 @@ module _ (σ : Full) where
   quiet_returns : (ts : List Bytes) (end : PassEnd) (l : List Call) → IsReturns σ.names ts end l → AllQuiet σ l
   quiet_returns ts end l All_returned = tt
   quiet_returns ts end l (Returned t us e es k k' h on more) = quiet_append k k' (quiet_tries Right t 0 e k h) (quiet_returns us _ k' more)
-  quiet_returns ts end l (Returned_until t us e k k' h on more) = quiet_append k k' (quiet_tries Right t 0 e k h) (quiet_returns us _ k' more)
+  quiet_returns ts end l (Returned_until t us e b k k' h on more) = quiet_append k k' (quiet_tries Right t 0 e k h) (quiet_returns us _ k' more)
   quiet_returns ts end l (Ended_early t us k h) = quiet_tries Right t 0 _ k h
 
   quiet_release : (token : Bytes) (l : List Call) → IsRelease σ.names token l → AllQuiet σ l

@@ -1,5 +1,5 @@
 -- A tag is published once, and the next tag of a client stands nowhere.
-use Rattle.std.proofs.Common.{◌++◌, Bool, List, None, Option, Some, [], ap, arith, false, inl, inr, length, nat_cmp, nat_lt, refl, subst, suc, sym, true, ℕ, ℤ, ◌∙◌, ◌∷◌, ◌≡◌, ◌≢◌, ◌⊎◌}
+use Rattle.std.proofs.Common.{◌++◌, Bool, List, None, Option, Some, [], ap, arith, false, if◌then◌else◌, inl, inr, length, nat_cmp, nat_lt, refl, subst, suc, sym, true, ℕ, ℤ, ◌∙◌, ◌∷◌, ◌≡◌, ◌≢◌, ◌⊎◌}
 use Rattle.std.proofs.lemmas.Cmp.{nat_cmp_total}
 use Rattle.std.specs.FinMap.{get, insert, nat_cmp-IsAntisymmetric}
 use Rattle.wire_values.specs.declared.value.Value.{Value}
@@ -20,7 +20,7 @@ use Rattle.command_blocks.specs.Blocks.{AreBlocks, IsFrontOfBlocks, IsMannered, 
 use Rattle.command_blocks.specs.Calls.{Call, call, concat}
 use Rattle.place_model.specs.Counts.{start_count}
 use Rattle.place_model.specs.Histories.{AllMayCome, Client, History, IsHistoryPrefix, MayCome, World, after, after_entries, and_then, conn_of, next, next_of, start_from, table, with_client}
-use Rattle.place_model.specs.Identity.{HasEnvelope, HasOrigin, IsPublished, IsPush, PushedIn}
+use Rattle.place_model.specs.Identity.{HasEnvelope, HasOrigin, IsNowhere, IsPublished, IsPush, PushedIn}
 use Rattle.queue_keys.specs.Names.{Bytes, same}
 use Rattle.command_blocks.specs.Setting.{is_queue}
 use Rattle.place_model.specs.Starts.{IsSound}
@@ -33,7 +33,8 @@ use Rattle.place_theorem.proofs.Machine.{AllApart, Asks, At, Begins, Cursor, End
 use Rattle.place_theorem.proofs.Once.{SeedsDiffer, seeds_differ, start_body, start_seed}
 use Rattle.place_theorem.proofs.Origins.{identity, pushed_last, pushed_more}
 use Rattle.place_theorem.proofs.Safe.{conn_in, queue_in}
-use Rattle.place_theorem.proofs.Sound.{after-append, all_mannered, inv_begin, parted}
+use Rattle.place_theorem.proofs.Sound.{after-append, all_mannered, inv_begin, inv_of, parted}
+use Rattle.place_theorem.proofs.Unborn.{no_place, nothing_pushed, nothing_stored}
 use Rattle.place_theorem.proofs.Values.{number_of-Error, number_of-Integer, number_of-Status}
 use Rattle.place_theorem.proofs.Whole.{AllMannered, Grown, call_in, grows, inv_ready, next_called, next_heard, one_entry, prefix_self, ready, served, table_get}
 
@@ -276,9 +277,9 @@ module _ {N : Type 0} (σ : Full) (h p : History N) (sound : IsSound σ.names h)
   pub one_publication : (t b b' : Bytes) → IsPublished σ.names (after p) t b → IsPublished σ.names (after p) t b' → b ≡ b'
   one_publication t b b' o o' = one_body t b b' (at_end t b o) (at_end t b' o')
 
-  -- at a block's start
-  pub fresh_tag : (c : ℕ) (cl : Client) (bs : List (List Call)) (blocks : AreBlocks σ.names cl.seed 0 0 bs) (b : Bytes) → get (after p).clients c ≡ Some cl → cl.calls ≡ concat bs → IsPublished σ.names (after p) (σ.names.tag cl.seed (suc (drawn_by σ.names cl.seed 0 0 bs blocks))) b → ⊥
-  fresh_tag c cl bs blocks b is calls o =
+  -- at a block's start the next tag was published by nobody
+  fresh_published : (c : ℕ) (cl : Client) (bs : List (List Call)) (blocks : AreBlocks σ.names cl.seed 0 0 bs) (b : Bytes) → get (after p).clients c ≡ Some cl → cl.calls ≡ concat bs → IsPublished σ.names (after p) (σ.names.tag cl.seed (suc (drawn_by σ.names cl.seed 0 0 bs blocks))) b → ⊥
+  fresh_published c cl bs blocks b is calls o =
       let n = drawn_by σ.names cl.seed 0 0 bs blocks in
       let g = grown o.0 o.1 o.2 in
       -- the publisher's tags are of its own seed, so it is this client
@@ -295,6 +296,43 @@ module _ {N : Type 0} (σ : Full) (h p : History N) (sound : IsSound σ.names h)
       let i = d.own (σ.names.tag cl.seed (suc n)) b (subst (λ y. PushedIn σ.names (σ.names.tag cl.seed (suc n)) b y.calls) they o.3) in
       let k : suc n ≡ i.0 = (σ.laws.tag_parts cl.seed (suc n) cl.seed i.0 (pushed_tag σ (σ.names.tag cl.seed (suc n)) b o.1.calls o.3) i.2).1 in
       omega (arith, k, i.1)
+
+  -- a tag of a client's seed isn't in the start
+  not_started : (c : ℕ) (cl : Client) (b : Bytes) (j : ℕ) → get (after p).clients c ≡ Some cl → HasEnvelope σ.names p.start (σ.names.tag cl.seed j) b → ⊥
+  not_started c cl b j is st =
+      let us = seed_start first p.entries c cl.seed (cl, is, refl) in
+      start_seed σ p.start p.used p.clients (σ.names.tag cl.seed j) b s.start s.table st c us.0 us.1 j (ap (λ z. σ.names.tag z j) (sym us.2))
+
+  -- and so the next tag stands nowhere
+  pub fresh_tag : (c : ℕ) (cl : Client) (bs : List (List Call)) (blocks : AreBlocks σ.names cl.seed 0 0 bs) → get (after p).clients c ≡ Some cl → cl.calls ≡ concat bs → IsNowhere σ.names p (σ.names.tag cl.seed (suc (drawn_by σ.names cl.seed 0 0 bs blocks)))
+  fresh_tag c cl bs blocks is calls =
+      let t : Bytes = σ.names.tag cl.seed (suc (drawn_by σ.names cl.seed 0 0 bs blocks)) in
+      let unpublished : (b : Bytes) → IsPublished σ.names (after p) t b → ⊥ = λ b o. fresh_published c cl bs blocks b is calls o in
+      let not_in_start : (b : Bytes) → HasEnvelope σ.names p.start t b → ⊥ = λ b st. not_started c cl b (suc (drawn_by σ.names cl.seed 0 0 bs blocks)) is st in
+      let not_stored : (b : Bytes) → HasEnvelope σ.names (after p).store.keys t b → ⊥ = λ b st. origin_none t b unpublished not_in_start (identity σ h p t b sound pre st) in
+      let now = nothing_stored σ (after p).store.keys t not_stored in
+      let began = nothing_stored σ p.start t not_in_start in
+      let started : start_count σ.names p.start t ≡ 0 = let z = began.0 in let f = ap one_if began.1 in omega (arith, z, f) in
+      let pushed = nothing_pushed σ (after p) t unpublished in
+      let placed = no_place σ h p t sound pre (omega (arith, started, pushed)) in
+      record {
+        unpublished = unpublished;
+        not_stored = not_stored;
+        not_in_start = not_in_start;
+        no_start = started;
+        no_push = pushed;
+        no_field = now.1;
+        no_member = sym ((inv_of σ h p sound pre).alike t) ∙ now.1;
+        no_place = placed.1;
+        no_copy = placed.0;
+      }
+    where
+      one_if : Bool → ℕ
+      one_if b = if b then 1 else 0
+
+      origin_none : (t b : Bytes) → ((b : Bytes) → IsPublished σ.names (after p) t b → ⊥) → ((b : Bytes) → HasEnvelope σ.names p.start t b → ⊥) → HasOrigin σ.names p t b → ⊥
+      origin_none t b published started (inl st) = started b st
+      origin_none t b published started (inr o) = published b o
 
   -- a published tag is of a client's seed
   own_seed : (t b : Bytes) → IsPublished σ.names (after p) t b → (c : ℕ) × (cl : Client) × (get (table p.clients) c ≡ Some cl) × ((j : ℕ) × (t ≡ σ.names.tag cl.seed j))

@@ -18,6 +18,7 @@ pub mod Standing
 pub mod Origins
 pub mod Draws
 pub mod Once
+pub mod Unborn
 pub mod Fresh
 pub mod Passing
 pub mod EmptyStart

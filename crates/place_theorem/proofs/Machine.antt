@@ -273,7 +273,7 @@ module _ (σ : Full) where
   returns_run : (ts : List Bytes) (end : PassEnd) (l : List Call) → IsReturns σ.names ts end l → Runs σ Idle l Idle
   returns_run ts end l All_returned = refl
   returns_run ts end l (Returned t us e es k k' h on more) = runs_join σ Idle Idle Idle k k' (tries_run Right t 0 e k h) (returns_run us _ k' more)
-  returns_run ts end l (Returned_until t us e k k' h on more) = runs_join σ Idle Idle Idle k k' (tries_run Right t 0 e k h) (returns_run us _ k' more)
+  returns_run ts end l (Returned_until t us e b k k' h on more) = runs_join σ Idle Idle Idle k k' (tries_run Right t 0 e k h) (returns_run us _ k' more)
   returns_run ts end l (Ended_early t us k h) = tries_run Right t 0 _ k h
 
   release_exec : (r : Value) → ((rs : List Value) × (r ≡ Array rs)) ⊎ (r ≡ NullArray) → Step σ (At (Some (Del (σ.names.mutex ∷ []) ∷ [])) (σ.names.mutex ∷ []) None None) Exec r Idle

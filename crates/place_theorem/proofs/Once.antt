@@ -44,7 +44,7 @@ abbrev one_if : Bool → ℕ
 one_if b = if b then 1 else 0
 
 -- the weight of a queue's key is that of its elements
-queue_weight : (σ : Full) (t k : Bytes) (o : Option Held) → is_queue σ.names k ≡ true → weight (in_held σ.names t) k o ≡ tagged σ.names t (elements_of (value_of o))
+pub queue_weight : (σ : Full) (t k : Bytes) (o : Option Held) → is_queue σ.names k ≡ true → weight (in_held σ.names t) k o ≡ tagged σ.names t (elements_of (value_of o))
 queue_weight σ t k None q = refl
 queue_weight σ t k (Some h) q = ap (λ b. if b then in_value σ.names t h.value else 0) q ∙ by h.value
   where

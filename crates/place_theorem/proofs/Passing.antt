@@ -92,7 +92,7 @@ returns_each σ ts ends l end e (Returned t us f es k k' h on more) =
     let z : ends ≡ f ∷ es = cc e in
     let r = returns_each σ us es k' (Done es) refl more in
     ap (λ (x : List ReturnEnd). length x) z ∙ ap (λ n. suc n) r
-returns_each σ ts ends l end e (Returned_until t us f k k' h on more) = absurd (cc e)
+returns_each σ ts ends l end e (Returned_until t us f b k k' h on more) = absurd (cc e)
 returns_each σ ts ends l end e (Ended_early t us k h) = absurd (cc e)
 
 -- no end but the last is that of a return that was contended
@@ -111,7 +111,7 @@ returns_counted σ ts ends l end e (Returned t us f es k k' h on more) =
     one_more Gone es i r = omega (arith, r)
     one_more Stayed es i r = omega (arith, r)
     one_more Contended es i r = absurd (cc i)
-returns_counted σ ts ends l end e (Returned_until t us f k k' h on more) = absurd (cc e)
+returns_counted σ ts ends l end e (Returned_until t us f b k k' h on more) = absurd (cc e)
 returns_counted σ ts ends l end e (Ended_early t us k h) = absurd (cc e)
 
 spelled_due : (σ : Full) (at v : ℕ) → at < 2 ^ 63 → v < 2 ^ 63 → command_of (due_words σ.names at v) ≡ Zrevrangebyscore σ.names.index (less at v) (pos 0) 0 10
@@ -128,12 +128,12 @@ pass_accounts σ h p c at v reply ms ends l sound pre a b answer returns =
 
 -- ---- a whole pass among a client's calls
 
--- the entry of a call, with what comes before and after it
-abbrev pub FoundIn : {N : Type 0} → ℕ → Call → List (Entry N) → Type 0
-FoundIn {N} c x fs = (p : List (Entry N)) × (q : List (Entry N)) × (reply : Reply) × (fs ≡ p ++ Called c x.at x.words reply ∷ q) × (reply.answer ≡ x.answer)
+-- the entry of a call, with what comes before and after it, and the client's calls before it
+abbrev pub FoundIn : {N : Type 0} → ℕ → List Call → Call → List (Entry N) → Type 0
+FoundIn {N} c earlier x fs = (p : List (Entry N)) × (q : List (Entry N)) × (reply : Reply) × (fs ≡ p ++ Called c x.at x.words reply ∷ q) × (reply.answer ≡ x.answer) × (calls_of c p ≡ earlier)
 
 -- a call of a client is an entry of the history
-pub call_entry : {N : Type 0} (c : ℕ) (es : List (Entry N)) (earlier : List Call) (x : Call) (rest : List Call) → calls_of c es ≡ earlier ++ x ∷ rest → FoundIn c x es
+pub call_entry : {N : Type 0} (c : ℕ) (es : List (Entry N)) (earlier : List Call) (x : Call) (rest : List Call) → calls_of c es ≡ earlier ++ x ∷ rest → FoundIn c earlier x es
 call_entry c [] earlier x rest e = absurd (no_calls earlier e)
   where
     no_calls : (l : List Call) → [] ≡ l ++ x ∷ rest → ⊥
@@ -141,27 +141,32 @@ call_entry c [] earlier x rest e = absurd (no_calls earlier e)
     no_calls (y ∷ ys) i = cc i
 call_entry {N = N} c (e ∷ es) earlier x rest is = go e (λ l i. call_entry c es l x rest i) (conn_of e == c) refl is
   where
-    later : (e : Entry N) → FoundIn c x es → FoundIn c x (e ∷ es)
-    later e f = (e ∷ f.0, f.1, f.2, ap (λ fs. e ∷ fs) f.3, f.4)
+    later : (e : Entry N) (l l' : List Call) → ((p : List (Entry N)) → calls_of c p ≡ l → calls_of c (e ∷ p) ≡ l') → FoundIn c l x es → FoundIn c l' x (e ∷ es)
+    later e l l' with_e f = (e ∷ f.0, f.1, f.2, ap (λ fs. e ∷ fs) f.3, f.4, with_e f.0 f.5)
 
-    mine : (d at : ℕ) (words : Words) (reply : Reply) → ((l : List Call) → calls_of c es ≡ l ++ x ∷ rest → FoundIn c x es) → d ≡ c → (l : List Call) → call_in at words reply ∷ calls_of c es ≡ l ++ x ∷ rest → FoundIn c x (Called d at words reply ∷ es)
-    mine d at words reply next_one same [] i =
+    first_of_its : (e : Entry N) (b : Bool) (p : List (Entry N)) → (conn_of e == c) ≡ b → calls_of c (e ∷ p) ≡ calls_among (if b then e ∷ own_entries c p else own_entries c p)
+    first_of_its e b p i = ap (λ b. calls_among (if b then e ∷ own_entries c p else own_entries c p)) i
+
+    mine : (d at : ℕ) (words : Words) (reply : Reply) → ((l : List Call) → calls_of c es ≡ l ++ x ∷ rest → FoundIn c l x es) → (d == c) ≡ true → d ≡ c → (l : List Call) → call_in at words reply ∷ calls_of c es ≡ l ++ x ∷ rest → FoundIn c l x (Called d at words reply ∷ es)
+    mine d at words reply next_one its same [] i =
         let here : call_in at words reply ≡ x = cc i in
-        ([], es, reply, (λ j. Called (same j) (here j).at (here j).words reply ∷ es), ap (λ y. y.answer) here)
-    mine d at words reply next_one same (y ∷ ys) i = later (Called d at words reply) (next_one ys (cc i))
+        ([], es, reply, (λ j. Called (same j) (here j).at (here j).words reply ∷ es), ap (λ y. y.answer) here, refl)
+    mine d at words reply next_one its same (y ∷ ys) i =
+        let here : call_in at words reply ≡ y = cc i in
+        later (Called d at words reply) ys (y ∷ ys) (λ p k. first_of_its (Called d at words reply) true p its ∙ (λ j. here j ∷ k j)) (next_one ys (cc i))
 
-    go : (e : Entry N) → ((l : List Call) → calls_of c es ≡ l ++ x ∷ rest → FoundIn c x es) → (b : Bool) → (conn_of e == c) ≡ b → calls_of c (e ∷ es) ≡ earlier ++ x ∷ rest → FoundIn c x (e ∷ es)
-    go e next_one false i is' = later e (next_one earlier (sym (ap (λ b. calls_among (if b then e ∷ own_entries c es else own_entries c es)) i) ∙ is'))
-    go (Called d at words reply) next_one true i is' = mine d at words reply next_one (eqb_true d c i) earlier (sym (ap (λ b. calls_among (if b then Called d at words reply ∷ own_entries c es else own_entries c es)) i) ∙ is')
-    go (Heard d note) next_one true i is' = later (Heard d note) (next_one earlier (sym (ap (λ b. calls_among (if b then Heard d note ∷ own_entries c es else own_entries c es)) i) ∙ is'))
-    go (Stop d) next_one true i is' = later (Stop d) (next_one earlier (sym (ap (λ b. calls_among (if b then Stop d ∷ own_entries c es else own_entries c es)) i) ∙ is'))
+    go : (e : Entry N) → ((l : List Call) → calls_of c es ≡ l ++ x ∷ rest → FoundIn c l x es) → (b : Bool) → (conn_of e == c) ≡ b → calls_of c (e ∷ es) ≡ earlier ++ x ∷ rest → FoundIn c earlier x (e ∷ es)
+    go e next_one false i is' = later e earlier earlier (λ p k. first_of_its e false p i ∙ k) (next_one earlier (sym (first_of_its e false es i) ∙ is'))
+    go (Called d at words reply) next_one true i is' = mine d at words reply next_one i (eqb_true d c i) earlier (sym (first_of_its (Called d at words reply) true es i) ∙ is')
+    go (Heard d note) next_one true i is' = later (Heard d note) earlier earlier (λ p k. first_of_its (Heard d note) true p i ∙ k) (next_one earlier (sym (first_of_its (Heard d note) true es i) ∙ is'))
+    go (Stop d) next_one true i is' = later (Stop d) earlier earlier (λ p k. first_of_its (Stop d) true p i ∙ k) (next_one earlier (sym (first_of_its (Stop d) true es i) ∙ is'))
 
 -- so each whole pass does
 pub whole_pass : {N : Type 0} (σ : Full) (h : History N) (c v : ℕ) (token : Bytes) (ends : List ReturnEnd) (earlier l rest : List Call) → IsSound σ.names h → calls_of c h.entries ≡ earlier ++ (l ++ rest)
-    → IsPassBlock σ.names token v (Done ends) l → AreEarly l → v < 2 ^ 63 → AccountsForAll σ.names h v ends
+    → IsPassBlock σ.names token v (Done ends) l → AreEarly l → v < 2 ^ 63 → AccountsForAll σ.names h c v token ends earlier l
 whole_pass {N = N} σ h c v token ends earlier l rest sound is block early small = go (Done ends) l refl block early is
   where
-    go : (end : PassEnd) (l : List Call) → end ≡ Done ends → IsPassBlock σ.names token v end l → AreEarly l → calls_of c h.entries ≡ earlier ++ (l ++ rest) → AccountsForAll σ.names h v ends
+    go : (end : PassEnd) (l : List Call) → end ≡ Done ends → IsPassBlock σ.names token v end l → AreEarly l → calls_of c h.entries ≡ earlier ++ (l ++ rest) → AccountsForAll σ.names h c v token ends earlier l
     go end l e (Is_held a) early' is' = absurd (cc e)
     go end l e (Ran_pass a b ms f k k' returns free) early' is' =
         let x : Call = call b (due_words σ.names b v) (bulks ms) in
@@ -169,10 +174,23 @@ whole_pass {N = N} σ h c v token ends earlier l rest sound is block early small
         let part = call_entry c h.entries (earlier ++ first ∷ []) x ((k ++ k') ++ rest) (is' ∙ sym (append_assoc earlier (first ∷ []) (x ∷ (k ++ k') ++ rest))) in
         let p : History N = record h { entries = part.0 } in
         let whole : and_then (and_then p (Called c b (due_words σ.names b v) part.2 ∷ [])) part.1 ≡ h = λ i. record h { entries = (append_assoc part.0 (Called c b (due_words σ.names b v) part.2 ∷ []) part.1 ∙ sym part.3) i } in
-        let r = pass_accounts σ h p c b v part.2 ms ends k sound (part.1, whole) early'.1.0 small part.4 (subst (λ z. IsReturns σ.names (tags_among σ.names ms) z k) e returns) in
+        let done_with : IsReturns σ.names (tags_among σ.names ms) (Done ends) k = subst (λ z. IsReturns σ.names (tags_among σ.names ms) z k) e returns in
+        let read = pass_reads σ h p c b (due_words σ.names b v) part.2 (less b v) (pos 0) 0 10 ms sound (part.1, whole) (spelled_due σ b v early'.1.0 small) part.4 in
+        let r = pass_accounts σ h p c b v part.2 ms ends k sound (part.1, whole) early'.1.0 small part.4 done_with in
         record {
           before = p;
-          is_before = ((Called c b (due_words σ.names b v) part.2 ∷ []) ++ part.1, λ i. record h { entries = sym part.3 i });
+          locked = a;
           at = b;
-          counted = r.1 ∙ ap (λ (y : List Bytes). length y) r.0;
+          reply = part.2;
+          is_before = (part.1, whole);
+          its_own = part.5;
+          members = ms;
+          answered = part.4;
+          due = r.0;
+          returns = k;
+          release = k';
+          calls = refl;
+          in_order = subst (λ ts. IsReturns σ.names ts (Done ends) k) read.tags done_with;
+          released = free;
+          counted = r.1;
         }

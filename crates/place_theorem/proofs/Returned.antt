@@ -42,10 +42,10 @@ use Rattle.place_theorem.proofs.Values.{array_of}
 use Rattle.place_theorem.proofs.Whole.{call_in, called_runs, inv_ready, next_called, ready, ready_keys, served}
 
 -- EXEC comes in a transaction alone
-abbrev Inside : Full → Cursor → Type 0
+abbrev pub Inside : Full → Cursor → Type 0
 Inside σ from = (cs : List Command) × (w : List Bytes) × (h : Option (Bytes × Bytes)) × (r : Option (Bytes × Bytes × Option Value)) × (from ≡ At (Some cs) w h r) × Whole σ cs w h r
 
-exec_inside : (σ : Full) (from to : Cursor) (c : Command) (x : Value) → Step σ from c x to → c ≡ Exec → Inside σ from
+pub exec_inside : (σ : Full) (from to : Cursor) (c : Command) (x : Value) → Step σ from c x to → c ≡ Exec → Inside σ from
 exec_inside σ from to c x (Passes_by w h cm y far) is = let z : is_aside Exec ≡ true = subst (λ a. is_aside a ≡ true) is far.1 in absurd (cc z)
 exec_inside σ from to c x (Asks t u k y) is = absurd (cc is)
 exec_inside σ from to c x (Talks cm y t) is = absurd (subst IsTalk is t)
@@ -152,7 +152,7 @@ made σ s c sn cs w h r a b q qs (Whole_return side t u v ms x carries lookup) m
 made σ s c sn cs w h r a b q qs (Whole_free ks w' far) more ok clear = absurd (cc (more, ok.is.since))
 
 -- the connection isn't marked, and the keys are those after the commands
-exec_ran : (σ : Full) (at : ℕ) (s : State) (c : ℕ) (cs : List Command) (w : List Bytes) (h : Option (Bytes × Bytes)) (r : Option (Bytes × Bytes × Option Value)) (b : Bool) (ch : List Bytes) (ps : List Value) (xs : List Value) → (ch ≡ []) ⊎ (At (Some cs) w h r ≡ Idle)
+pub exec_ran : (σ : Full) (at : ℕ) (s : State) (c : ℕ) (cs : List Command) (w : List Bytes) (h : Option (Bytes × Bytes)) (r : Option (Bytes × Bytes × Option Value)) (b : Bool) (ch : List Bytes) (ps : List Value) (xs : List Value) → (ch ≡ []) ⊎ (At (Some cs) w h r ≡ Idle)
     → Array xs ≡ (serve at s c Exec (conn_in (At (Some cs) w h r) b ch ps)).1 → (b ≡ false) × ((serve at s c Exec (conn_in (At (Some cs) w h r) b ch ps)).0.keys ≡ (run_all at s.keys (insert s.conns c (conn_in Idle false [] ps)) cs).keys)
 exec_ran σ at s c cs w h r true [] ps xs talk is = absurd (cc is)
 exec_ran σ at s c cs w h r false [] ps xs talk is = (refl, refl)

@@ -49,14 +49,14 @@ table_get (d ∷ cs) c cl is = go (conn_or c d.0) (table_get cs c cl)
         (sym (ap (λ y. y.calls) they), sym (ap (λ y. y.stopped) they))
     go (inr n) rest = rest (sym (get-insert_other nat_cmp nat_cmp_total nat_cmp-IsAntisymmetric (table cs) d.0 _ c n) ∙ is)
 
-table_total : (f : ℕ → Client → ℕ) → ((c s : ℕ) → f c (record { seed = s; calls = []; stopped = false }) ≡ 0) → (cs : List (ℕ × ℕ)) → total f (entries (table cs)) ≡ 0
+pub table_total : (f : ℕ → Client → ℕ) → ((c s : ℕ) → f c (record { seed = s; calls = []; stopped = false }) ≡ 0) → (cs : List (ℕ × ℕ)) → total f (entries (table cs)) ≡ 0
 table_total f z [] = total-empty nat_cmp nat_cmp_total nat_cmp-IsAntisymmetric f
 table_total f z (c ∷ cs) =
     let t = total-insert nat_cmp nat_cmp_total nat_cmp-IsAntisymmetric f (table cs) c.0 (record { seed = c.1; calls = []; stopped = false }) in
     let r = table_total f z cs in
     omega (arith, t, r, z c.0 c.1)
 
-seen_none : (σ : Full) → seen σ.names [] ≡ nothing_seen
+pub seen_none : (σ : Full) → seen σ.names [] ≡ nothing_seen
 unfolding seen
 seen_none σ = refl
 

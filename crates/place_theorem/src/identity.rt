@@ -2,7 +2,7 @@
 ghost use Rattle.command_blocks.specs.Blocks.{AreBlocks, drawn_by};
 ghost use Rattle.command_blocks.specs.Calls.{Call, concat};
 ghost use Rattle.place_model.specs.Histories.{Client, History, IsHistoryPrefix, after, calls_of};
-ghost use Rattle.place_model.specs.Identity.{HasEnvelope, HasOrigin, IsPublished};
+ghost use Rattle.place_model.specs.Identity.{HasEnvelope, HasOrigin, IsNowhere, IsPublished};
 ghost use Rattle.queue_keys.specs.Names.{Bytes};
 ghost use Rattle.queue_keys.specs.QueueKeys.{Among};
 ghost use Rattle.command_blocks.specs.Setting.{IsLawful, Setting};
@@ -28,12 +28,13 @@ pub fn one_tree<N>()
         → HasEnvelope σ (after p).store.keys t b → HasEnvelope σ (after p).store.keys t b' → b ≡ b' }
 {}
 
-/// Where a client's calls so far are whole blocks, its next tag was published by nobody.
+/// Where a client's calls so far are whole blocks, its next tag stands nowhere: nobody published it, and no list, no table,
+/// no saved start, no hand and no transaction has it.
 pub fn fresh_tag<N>()
     ensures { (σ : Setting) → IsLawful σ → (h p : History N) → IsSound σ h → IsHistoryPrefix p h
-        → (c : ℕ) (cl : Client) (bs : List (List Call)) (blocks : AreBlocks σ cl.seed 0 0 bs) (b : Bytes)
+        → (c : ℕ) (cl : Client) (bs : List (List Call)) (blocks : AreBlocks σ cl.seed 0 0 bs)
         → get (after p).clients c ≡ Some cl → cl.calls ≡ concat bs
-        → IsPublished σ (after p) (σ.tag cl.seed (suc (drawn_by σ cl.seed 0 0 bs blocks))) b → ⊥ }
+        → IsNowhere σ p (σ.tag cl.seed (suc (drawn_by σ cl.seed 0 0 bs blocks))) }
 {}
 
 /// What the world keeps of a client: it is one of the history's table, and its calls are those of its connection.

@@ -4,7 +4,7 @@ ghost use Rattle.store_model.specs.declared.command.Command.{Command};
 ghost use Rattle.store_model.specs.declared.command.Command.TheVariants.{Exec};
 ghost use Rattle.store_model.specs.declared.reply.Reply.{Reply};
 ghost use Rattle.command_blocks.specs.Answers.{items_of};
-ghost use Rattle.place_model.specs.Counts.{IsAccepted, IsPlaced, IsSingle};
+ghost use Rattle.place_model.specs.Counts.{IsAccepted, IsPlaced, IsSingle, copy_count, place_count};
 ghost use Rattle.place_model.specs.Histories.{Client, History, IsHistoryPrefix, after, and_then};
 ghost use Rattle.queue_keys.specs.Names.{Bytes};
 ghost use Rattle.place_model.specs.PlaceOf.{StopMoves, place_of};
@@ -33,6 +33,12 @@ pub fn one_place<N>()
 pub fn somewhere<N>()
     ensures { (σ : Setting) → IsLawful σ → (h p : History N) (t : Bytes) → IsSound σ h → IsHistoryPrefix p h
         → IsAccepted σ p t → IsSingle σ p t → place_of σ p t ≡ Never → ⊥ }
+{}
+
+/// What wasn't accepted has no place: no list, no table, no hand, and no transaction that ended or copied it.
+pub fn no_place<N>()
+    ensures { (σ : Setting) → IsLawful σ → (h p : History N) (t : Bytes) → IsSound σ h → IsHistoryPrefix p h
+        → (IsAccepted σ p t → ⊥) → (place_count σ (after p) t ≡ 0) × (copy_count σ (after p) t ≡ 0) }
 {}
 
 /// A stop alters no key. Each message's place stays, but for one at most, which goes from the client's hand to what is lost with it.
