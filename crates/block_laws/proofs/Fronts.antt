@@ -5,7 +5,7 @@ use Rattle.wire_values.specs.declared.value.Value.{Value}
 use Rattle.store_model.specs.Words.{Words}
 use Rattle.command_blocks.specs.Setting.{Setting}
 use Rattle.command_blocks.specs.Calls.{Call, call, concat}
-use Rattle.command_blocks.specs.Blocks.{Kind, drawn, passed, IsBlock, AreBlocks, IsFrontOfBlocks}
+use Rattle.command_blocks.specs.Blocks.{CounterUse, drawn, passes_after, IsBlock, AreBlocks, IsFrontOfBlocks}
 use Rattle.command_blocks.specs.Scripts.{Script, Over, Off, Say, after_call, rest_of, IsSaid}
 use Rattle.block_laws.specs.Rows.{IsGood, AreTimely}
 
@@ -102,17 +102,17 @@ rest_good (Say w go) (x ∷ xs) g timely said = by (g.1 x.answer) (λ k. rest_go
 -- from the counters n and p to the counters m and q
 abbrev pub BlocksTo : Setting → ℕ → ℕ → ℕ → List (List Call) → ℕ → ℕ → Type 0
 BlocksTo σ s n p [] m q = (n ≡ m) × (p ≡ q)
-BlocksTo σ s n p (b ∷ bs) m q = (k : Kind) × IsBlock σ s n p k b × BlocksTo σ s (drawn k n) (passed k p) bs m q
+BlocksTo σ s n p (b ∷ bs) m q = (k : CounterUse) × IsBlock σ s n p k b × BlocksTo σ s (drawn k n) (passes_after k p) bs m q
 
 -- one block more
-pub blocks_more : (σ : Setting) (s n p : ℕ) (bs : List (List Call)) (m q : ℕ) (k : Kind) (b : List Call) → BlocksTo σ s n p bs m q → IsBlock σ s m q k b → BlocksTo σ s n p (bs ++ b ∷ []) (drawn k m) (passed k q)
-blocks_more σ s n p [] m q k b h one = (k, subst (λ x. IsBlock σ s x p k b) (sym h.0) (subst (λ y. IsBlock σ s m y k b) (sym h.1) one), (ap (drawn k) h.0, ap (passed k) h.1))
-blocks_more σ s n p (c ∷ cs) m q k b h one = (h.0, h.1, blocks_more σ s (drawn h.0 n) (passed h.0 p) cs m q k b h.2 one)
+pub blocks_more : (σ : Setting) (s n p : ℕ) (bs : List (List Call)) (m q : ℕ) (k : CounterUse) (b : List Call) → BlocksTo σ s n p bs m q → IsBlock σ s m q k b → BlocksTo σ s n p (bs ++ b ∷ []) (drawn k m) (passes_after k q)
+blocks_more σ s n p [] m q k b h one = (k, subst (λ x. IsBlock σ s x p k b) (sym h.0) (subst (λ y. IsBlock σ s m y k b) (sym h.1) one), (ap (drawn k) h.0, ap (passes_after k) h.1))
+blocks_more σ s n p (c ∷ cs) m q k b h one = (h.0, h.1, blocks_more σ s (drawn h.0 n) (passes_after h.0 p) cs m q k b h.2 one)
 
 -- they are blocks
 pub blocks_of : (σ : Setting) (s n p : ℕ) (bs : List (List Call)) (m q : ℕ) → BlocksTo σ s n p bs m q → AreBlocks σ s n p bs
 blocks_of σ s n p [] m q h = tt
-blocks_of σ s n p (b ∷ bs) m q h = (h.0, h.1, blocks_of σ s (drawn h.0 n) (passed h.0 p) bs m q h.2)
+blocks_of σ s n p (b ∷ bs) m q h = (h.0, h.1, blocks_of σ s (drawn h.0 n) (passes_after h.0 p) bs m q h.2)
 
 pub concat_more : (bs : List (List Call)) (b : List Call) → concat (bs ++ b ∷ []) ≡ concat bs ++ b
 concat_more [] b = append-nil b
@@ -123,7 +123,7 @@ pub whole_front : (σ : Setting) (s m q : ℕ) (bs : List (List Call)) → Block
 whole_front σ s m q bs h = (bs, blocks_of σ s 0 0 bs m q h, ([], append-nil (concat bs)))
 
 -- and so they are with a part of one more
-pub part_front : (σ : Setting) (s m q : ℕ) (bs : List (List Call)) (k : Kind) (part more : List Call) → BlocksTo σ s 0 0 bs m q → IsBlock σ s m q k (part ++ more) → IsFrontOfBlocks σ s (concat bs ++ part)
+pub part_front : (σ : Setting) (s m q : ℕ) (bs : List (List Call)) (k : CounterUse) (part more : List Call) → BlocksTo σ s 0 0 bs m q → IsBlock σ s m q k (part ++ more) → IsFrontOfBlocks σ s (concat bs ++ part)
 part_front σ s m q bs k part more h b =
     let all = blocks_more σ s 0 0 bs m q k (part ++ more) h b in
-    (bs ++ (part ++ more) ∷ [], blocks_of σ s 0 0 (bs ++ (part ++ more) ∷ []) (drawn k m) (passed k q) all, (more, append_assoc (concat bs) part more ∙ sym (concat_more bs (part ++ more))))
+    (bs ++ (part ++ more) ∷ [], blocks_of σ s 0 0 (bs ++ (part ++ more) ∷ []) (drawn k m) (passes_after k q) all, (more, append_assoc (concat bs) part more ∙ sym (concat_more bs (part ++ more))))

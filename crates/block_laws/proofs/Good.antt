@@ -8,7 +8,7 @@ use Rattle.store_model.specs.Words.{Words}
 use Rattle.store_model.specs.Replies.{done, queued, bulks}
 use Rattle.queue_keys.specs.Names.{Bytes}
 use Rattle.command_blocks.specs.Answers.{integers, number_of, items_of, bulk_of}
-use Rattle.command_blocks.specs.Scripts.{Script, Off, Say, plainly, if_told, status_in, on_status, on_done, on_queued, on_number, told_by, texts_of, on_texts, on_two, on_two_numbers, null_array_in, null_bulk_in, on_null_array, on_ran, on_entry}
+use Rattle.command_blocks.specs.Scripts.{Script, Off, Say, plainly, if_told, status_in, on_status, on_done, on_queued, on_number, each_told, texts_of, on_texts, on_two, on_two_numbers, null_array_in, null_bulk_in, on_null_array, on_ran, on_entry}
 use Rattle.block_laws.specs.Rows.{IsGood}
 use Rattle.block_laws.proofs.Values.{eq_itself, layer-Status, layer-NullBulk, layer-NullArray, number_of-Integer, items_of-Array}
 
@@ -36,12 +36,12 @@ pub number_listed : (go : Script) (z : ℤ) → on_number go (Integer z) ≡ go
 number_listed go z = ap (if_told (λ (z : ℤ). go)) (number_of-Integer z)
 
 texts_listed : (go : List Bytes → Script) → on_texts go (bulks []) ≡ go []
-texts_listed go = ap (λ o. if_told go (option_and_then (told_by bulk_of) o)) (items_of-Array [])
+texts_listed go = ap (λ o. if_told go (option_and_then (each_told bulk_of) o)) (items_of-Array [])
 
 two_listed : (go : Script) → on_two_numbers go (integers (pos 0 ∷ pos 0 ∷ [])) ≡ go
 two_listed go =
-    ap (λ o. if_told (on_two {A = ℤ} go) (option_and_then (told_by number_of) o)) (items_of-Array (Integer (pos 0) ∷ Integer (pos 0) ∷ []))
-    ∙ ap (λ n. if_told (on_two {A = ℤ} go) (told_by (λ (v : Value). n) (NullBulk ∷ NullBulk ∷ []))) (number_of-Integer (pos 0))
+    ap (λ o. if_told (on_two {A = ℤ} go) (option_and_then (each_told number_of) o)) (items_of-Array (Integer (pos 0) ∷ Integer (pos 0) ∷ []))
+    ∙ ap (λ n. if_told (on_two {A = ℤ} go) (each_told (λ (v : Value). n) (NullBulk ∷ NullBulk ∷ []))) (number_of-Integer (pos 0))
 
 pub null_array_listed : (null other : Script) → on_null_array null other NullArray ≡ null
 null_array_listed null other = ap (λ f. if null_array_in f then null else other) layer-NullArray
@@ -64,7 +64,7 @@ pub texts_good : (w : ℕ → Words) (go : List Bytes → Script) → ((ms : Lis
 texts_good w go g = ((bulks [], subst IsGood (sym (texts_listed go)) (g [])), λ r. told_on go (λ ms. inr (g ms)) (texts_of r))
 
 pub two_good : (w : Words) (go : Script) → IsGood go → IsGood (plainly w (on_two_numbers go))
-two_good w go g = ((integers (pos 0 ∷ pos 0 ∷ []), subst IsGood (sym (two_listed go)) g), λ r. told_on (on_two {A = ℤ} go) by (option_and_then (told_by number_of) (items_of r))) where
+two_good w go g = ((integers (pos 0 ∷ pos 0 ∷ []), subst IsGood (sym (two_listed go)) g), λ r. told_on (on_two {A = ℤ} go) by (option_and_then (each_told number_of) (items_of r))) where
   by : (zs : List ℤ) → GoesOn (on_two go zs)
   by [] = inl refl
   by (x ∷ []) = inl refl
@@ -80,7 +80,7 @@ pub null_bulk_good : (w : Words) (null : Script) (other : Value → Script) → 
 null_bulk_good w null other g h = ((NullBulk, subst IsGood (sym (null_bulk_listed null (other NullBulk))) g), λ r. if_on (null_bulk_in (layer r)) null (other r) (inr g) (h r))
 
 pub ran_good : (w : Words) (moved failed : Script) → IsGood moved → IsGood failed → IsGood (plainly w (on_ran moved failed))
-ran_good w moved failed g h = null_array_good w failed (λ r. if_told (λ (zs : List ℤ). moved) (option_and_then (told_by number_of) (items_of r))) h (λ r. told_on (λ (zs : List ℤ). moved) (λ zs. inr g) (option_and_then (told_by number_of) (items_of r)))
+ran_good w moved failed g h = null_array_good w failed (λ r. if_told (λ (zs : List ℤ). moved) (option_and_then (each_told number_of) (items_of r))) h (λ r. told_on (λ (zs : List ℤ). moved) (λ zs. inr g) (option_and_then (each_told number_of) (items_of r)))
 
 pub entry_good : (w : Words) (missing : Script) (go : Bytes → Script) → IsGood missing → ((u : Bytes) → IsGood (go u)) → IsGood (plainly w (on_entry missing go))
 entry_good w missing go g h = null_bulk_good w missing (λ r. if_told go (bulk_of r)) g (λ r. told_on go (λ u. inr (h u)) (bulk_of r))

@@ -5,7 +5,7 @@ use Rattle.queue_keys.specs.Texts.{token}
 use Rattle.command_blocks.specs.Calls.{Call}
 use Rattle.command_blocks.specs.Blocks.{IsBlock}
 use Rattle.command_blocks.specs.Blocks as blocks
-use Rattle.command_blocks.specs.Scripts.{Plan, Declare, Undeclare, Publish, Pop, End, Return, Pass, script_of, kind_of}
+use Rattle.command_blocks.specs.Scripts.{Plan, Declare, Undeclare, Publish, Pop, End, Return, Pass, script_of, counter_use}
 use Rattle.block_laws.specs.Rows.{IsGood, IsLawfulPlan, IsPlanBlock, IsRow}
 use Rattle.block_laws.proofs.Talks.{Talks, talks}
 use Rattle.block_laws.proofs.PlainRows.{declare_good, declare_talk, publish_good, publish_talk, pop_good, pop_talk, end_good, end_talk}
@@ -30,7 +30,7 @@ plan_talk σ s n p (Return side t) h = return_talk σ side t h
 plan_talk σ s n p (Pass v) h = pass_talk σ (token s (suc p)) v
 
 -- the plan's block is a block of its kind
-block_of : (σ : Setting) (s n p : ℕ) (plan : Plan) → IsLawfulPlan σ s n plan → (l : List Call) → IsPlanBlock σ s n p plan l → IsBlock σ s n p (kind_of plan) l
+block_of : (σ : Setting) (s n p : ℕ) (plan : Plan) → IsLawfulPlan σ s n plan → (l : List Call) → IsPlanBlock σ s n p plan l → IsBlock σ s n p (counter_use plan) l
 block_of σ s n p (Declare e r x q) h l b = blocks.Declare e r x q l b
 block_of σ s n p (Undeclare e r x q) h l b = blocks.Undeclare e r x q l b
 block_of σ s n p (Publish v) h l b = blocks.Publish v l b

@@ -17,7 +17,7 @@ use Rattle.command_blocks.specs.RouteBlocks.{IsDeclareBlock, Told, direct_calls,
 use Rattle.command_blocks.specs.TakeBlocks.{brpop_words, IsPopBlock, Empty, Unreadable, Popped, IsEndBlock, Acknowledged}
 use Rattle.command_blocks.specs.ReturnBlocks.{ReturnEnd, Contended, goes_on, queued_calls, queued_keys, reading, asking, leaving, taking, Carries, Try, whole_try, IsTry, IsTries, Missing, Useless, Nowhere, Whole, Eighth, Again}
 use Rattle.command_blocks.specs.PassBlocks.{PassEnd, IsReturns, All_returned, Returned, Returned_until, Ended_early, IsRelease, Own, Foreign, tags_among, lock_words, due_words, IsPassBlock, Is_held, Ran}
-use Rattle.command_blocks.specs.Scripts.{Script, Over, Off, Say, Plan, Declare, Undeclare, Publish, Pop, End, Return, Pass, script_of, plainly, if_told, on_done, on_queued, on_number, told_by, on_texts, on_two, on_two_numbers, null_array_in, null_bulk_in, on_null_array, declare_script, pushes, asking_script, publish_script, keep_script, kept_by, on_popped, popping, pop_script, end_script, queued_script, on_ran, leave_script, take_script, carried_for, route_script, on_entry, try_script, tries_script, return_script, on_released, on_token, release_script, returns_script, on_locked, pass_script, rest_of, IsSaid}
+use Rattle.command_blocks.specs.Scripts.{Script, Over, Off, Say, Plan, Declare, Undeclare, Publish, Pop, End, Return, Pass, script_of, plainly, if_told, on_done, on_queued, on_number, each_told, on_texts, on_two, on_two_numbers, null_array_in, null_bulk_in, on_null_array, declare_script, pushes, asking_script, publish_script, keep_script, kept_by, on_popped, popping, pop_script, end_script, queued_script, on_ran, leave_script, take_script, carried_for, route_script, on_entry, try_script, tries_script, return_script, on_released, on_token, release_script, returns_script, on_locked, pass_script, rest_of, IsSaid}
 use Rattle.command_blocks.specs.declared.block.Side.{Side}
 use Rattle.command_blocks.specs.declared.block.Side.TheVariants.{Right}
 use Rattle.block_laws.specs.Rows.{IsPlanBlock}
@@ -72,7 +72,7 @@ popped_listed σ k v =
 ran_listed : (moved failed : Script) (zs : List ℤ) → on_ran moved failed (integers zs) ≡ moved
 ran_listed moved failed zs =
     let go : List ℤ → Script = λ zs. moved in
-    array_listed failed (if_told go (option_and_then (told_by number_of) (items_of (integers zs)))) _ ∙ ap (if_told go) (numbers_in-integers zs)
+    array_listed failed (if_told go (option_and_then (each_told number_of) (items_of (integers zs)))) _ ∙ ap (if_told go) (numbers_in-integers zs)
 
 entry_listed : (missing : Script) (go : Bytes → Script) (u : Bytes) → on_entry missing go (Bulk u) ≡ go u
 entry_listed missing go u = bulk_listed missing (if_told go (bulk_of (Bulk u))) u ∙ ap (if_told go) (bulk_of-Bulk u)

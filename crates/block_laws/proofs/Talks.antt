@@ -10,7 +10,7 @@ use Rattle.queue_keys.specs.Names.{Bytes}
 use Rattle.command_blocks.specs.Answers.{integers, number_of, items_of, bulk_of, pair_of}
 use Rattle.command_blocks.specs.Setting.{Setting}
 use Rattle.command_blocks.specs.Calls.{Call, call}
-use Rattle.command_blocks.specs.Scripts.{Script, Over, Off, Say, plainly, if_told, status_in, on_status, on_done, on_queued, on_number, told_by, texts_of, on_texts, on_two, on_two_numbers, null_array_in, null_bulk_in, on_null_array, kept_by, on_popped, on_ran, on_entry, after_call, rest_of, next_words, IsSaid}
+use Rattle.command_blocks.specs.Scripts.{Script, Over, Off, Say, plainly, if_told, status_in, on_status, on_done, on_queued, on_number, each_told, texts_of, on_texts, on_two, on_two_numbers, null_array_in, null_bulk_in, on_null_array, kept_by, on_popped, on_ran, on_entry, after_call, rest_of, next_words, IsSaid}
 use Rattle.block_laws.specs.Rows.{AreTimely}
 use Rattle.block_laws.proofs.Values.{some_is, status_is, null_array_is, null_bulk_is, number_is, bulk_is, texts_are, numbers_are, pair_is}
 
@@ -81,7 +81,7 @@ pub texts_talks : (go : List Bytes → Script) (r : Value) (ys : List Call) → 
 texts_talks go r ys t Q f = let h = told_talks go (texts_of r) ys t in subst Q (sym (texts_are r h.0 h.1)) (f h.0 h.2)
 
 pub two_talks : (go : Script) (r : Value) (ys : List Call) → Talks (on_two_numbers go r) ys → (Q : Value → Type 0) → ((x y : ℤ) → Talks go ys → Q (integers (x ∷ y ∷ []))) → Q r
-two_talks go r ys t Q f = let h = told_talks (on_two {A = ℤ} go) (option_and_then (told_by number_of) (items_of r)) ys t in subst Q (sym (numbers_are r h.0 h.1)) (by h.0 h.2) where
+two_talks go r ys t Q f = let h = told_talks (on_two {A = ℤ} go) (option_and_then (each_told number_of) (items_of r)) ys t in subst Q (sym (numbers_are r h.0 h.1)) (by h.0 h.2) where
   by : (zs : List ℤ) → Talks (on_two go zs) ys → Q (integers zs)
   by [] u = absurd (off_talks ys u)
   by (x ∷ []) u = absurd (off_talks ys u)
@@ -106,9 +106,9 @@ popped_talks σ r ys t Q f g = null_array_talks Over (if_told (λ (k, v). kept_b
   by u = let h = told_talks (λ (p : Bytes × Bytes). kept_by σ p.1 (σ.tag_of p.1)) (pair_of r) ys u in subst Q (sym (pair_is r h.0 h.1)) (g h.0.0 h.0.1 h.2)
 
 pub ran_talks : (moved failed : Script) (r : Value) (ys : List Call) → Talks (on_ran moved failed r) ys → (Q : Value → Type 0) → ((zs : List ℤ) → Talks moved ys → Q (integers zs)) → (Talks failed ys → Q NullArray) → Q r
-ran_talks moved failed r ys t Q f g = null_array_talks failed (if_told (λ (zs : List ℤ). moved) (option_and_then (told_by number_of) (items_of r))) r ys t Q g by where
-  by : Talks (if_told (λ (zs : List ℤ). moved) (option_and_then (told_by number_of) (items_of r))) ys → Q r
-  by u = let h = told_talks (λ (zs : List ℤ). moved) (option_and_then (told_by number_of) (items_of r)) ys u in subst Q (sym (numbers_are r h.0 h.1)) (f h.0 h.2)
+ran_talks moved failed r ys t Q f g = null_array_talks failed (if_told (λ (zs : List ℤ). moved) (option_and_then (each_told number_of) (items_of r))) r ys t Q g by where
+  by : Talks (if_told (λ (zs : List ℤ). moved) (option_and_then (each_told number_of) (items_of r))) ys → Q r
+  by u = let h = told_talks (λ (zs : List ℤ). moved) (option_and_then (each_told number_of) (items_of r)) ys u in subst Q (sym (numbers_are r h.0 h.1)) (f h.0 h.2)
 
 pub entry_talks : (missing : Script) (go : Bytes → Script) (r : Value) (ys : List Call) → Talks (on_entry missing go r) ys → (Q : Value → Type 0) → (Talks missing ys → Q NullBulk) → ((u : Bytes) → Talks (go u) ys → Q (Bulk u)) → Q r
 entry_talks missing go r ys t Q f g = null_bulk_talks missing (if_told go (bulk_of r)) r ys t Q f by where

@@ -9,8 +9,8 @@ use Rattle.wire_values.specs.declared.value.Value.TheVariants.{Status, Integer, 
 use Rattle.wire_values.specs.declared.value.Value.{Value}
 use Rattle.store_model.specs.Replies.{bulks, pair}
 use Rattle.queue_keys.specs.Names.{Bytes}
-use Rattle.command_blocks.specs.Answers.{integers, bulk_in, bulk_of, number_in, number_of, items_in, items_of, both, pair_among, pair_of}
-use Rattle.command_blocks.specs.Scripts.{status_in, null_array_in, null_bulk_in, onto_told, told_by, texts_of}
+use Rattle.command_blocks.specs.Answers.{integers, bulk_in, bulk_of, layer_number, number_of, items_in, items_of, both_texts, pair_among, pair_of}
+use Rattle.command_blocks.specs.Scripts.{status_in, null_array_in, null_bulk_in, onto_told, each_told, texts_of}
 
 pub some_is : {A : Type 0} (x y : A) → Some x ≡ Some y → x ≡ y
 some_is x y e = ap (λ o. unwrap_or o x) e
@@ -67,7 +67,7 @@ null_bulk_is r e = layers_tell r NullBulk (by (layer r) e ∙ sym layer-NullBulk
 
 pub number_is : (r : Value) (z : ℤ) → number_of r ≡ Some z → r ≡ Integer z
 number_is r z e = layers_tell r (Integer z) (by (layer r) e ∙ sym (layer-Integer z)) where
-  by : (f : Value-F Value) → number_in f ≡ Some z → f ≡ Value-F.Integer z
+  by : (f : Value-F Value) → layer_number f ≡ Some z → f ≡ Value-F.Integer z
   by (Value-F.Integer y) e = ap Value-F.Integer (some_is y z e)
   by other e = cc
 
@@ -93,25 +93,25 @@ onto_is None b zs e = cc
 onto_is (Some x) None zs e = cc
 onto_is (Some x) (Some xs) zs e = (x, xs, refl, refl, some_is (x ∷ xs) zs e)
 
-told_are : {A : Type 0} (f : Value → Option A) (make : A → Value) → ((v : Value) (x : A) → f v ≡ Some x → v ≡ make x) → (vs : List Value) (xs : List A) → told_by f vs ≡ Some xs → vs ≡ map make xs
+told_are : {A : Type 0} (f : Value → Option A) (make : A → Value) → ((v : Value) (x : A) → f v ≡ Some x → v ≡ make x) → (vs : List Value) (xs : List A) → each_told f vs ≡ Some xs → vs ≡ map make xs
 told_are f make is [] xs e = ap (map make) (some_is [] xs e)
 told_are f make is (v ∷ vs) xs e =
-    let o = onto_is (f v) (told_by f vs) xs e in
+    let o = onto_is (f v) (each_told f vs) xs e in
     let h : v ≡ make o.0 = is v o.0 o.2 in
     let t : vs ≡ map make o.1 = told_are f make is vs o.1 o.3 in
     (λ i. h i ∷ t i) ∙ ap (map make) o.4
 
 pub texts_are : (r : Value) (ms : List Bytes) → texts_of r ≡ Some ms → r ≡ bulks ms
 texts_are r ms e =
-    let a = and_then_is (told_by bulk_of) (items_of r) ms e in
+    let a = and_then_is (each_told bulk_of) (items_of r) ms e in
     items_are r a.0 a.1 ∙ ap Array (told_are bulk_of Bulk bulk_is a.0 ms a.2)
 
-pub numbers_are : (r : Value) (zs : List ℤ) → option_and_then (told_by number_of) (items_of r) ≡ Some zs → r ≡ integers zs
+pub numbers_are : (r : Value) (zs : List ℤ) → option_and_then (each_told number_of) (items_of r) ≡ Some zs → r ≡ integers zs
 numbers_are r zs e =
-    let a = and_then_is (told_by number_of) (items_of r) zs e in
+    let a = and_then_is (each_told number_of) (items_of r) zs e in
     items_are r a.0 a.1 ∙ ap Array (told_are number_of Integer number_is a.0 zs a.2)
 
-both_is : (a b : Option Bytes) (p : Bytes × Bytes) → both a b ≡ Some p → (a ≡ Some p.0) × (b ≡ Some p.1)
+both_is : (a b : Option Bytes) (p : Bytes × Bytes) → both_texts a b ≡ Some p → (a ≡ Some p.0) × (b ≡ Some p.1)
 both_is None b p e = cc
 both_is (Some k) None p e = cc
 both_is (Some k) (Some v) p e = let h = some_is (k, v) p e in (ap (λ q. Some q.0) h, ap (λ q. Some q.1) h)
@@ -131,7 +131,7 @@ pair_is r p e = let a = and_then_is pair_among (items_of r) p e in items_are r a
 -- ---- and is read so
 
 pub number_of-Integer : (z : ℤ) → number_of (Integer z) ≡ Some z
-number_of-Integer z = ap number_in (layer-Integer z)
+number_of-Integer z = ap layer_number (layer-Integer z)
 
 pub items_of-Array : (vs : List Value) → items_of (Array vs) ≡ Some vs
 items_of-Array vs = ap items_in (layer-array vs)
@@ -139,15 +139,15 @@ items_of-Array vs = ap items_in (layer-array vs)
 pub bulk_of-Bulk : (b : Bytes) → bulk_of (Bulk b) ≡ Some b
 bulk_of-Bulk b = ap bulk_in (layer-Bulk b)
 
-told_made : {A : Type 0} (f : Value → Option A) (make : A → Value) → ((x : A) → f (make x) ≡ Some x) → (xs : List A) → told_by f (map make xs) ≡ Some xs
+told_made : {A : Type 0} (f : Value → Option A) (make : A → Value) → ((x : A) → f (make x) ≡ Some x) → (xs : List A) → each_told f (map make xs) ≡ Some xs
 told_made f make h [] = refl
 told_made f make h (x ∷ xs) = λ i. onto_told (h x i) (told_made f make h xs i)
 
 pub texts_of-bulks : (ms : List Bytes) → texts_of (bulks ms) ≡ Some ms
-texts_of-bulks ms = ap (option_and_then (told_by bulk_of)) (items_of-Array (map Bulk ms)) ∙ told_made bulk_of Bulk bulk_of-Bulk ms
+texts_of-bulks ms = ap (option_and_then (each_told bulk_of)) (items_of-Array (map Bulk ms)) ∙ told_made bulk_of Bulk bulk_of-Bulk ms
 
-pub numbers_in-integers : (zs : List ℤ) → option_and_then (told_by number_of) (items_of (integers zs)) ≡ Some zs
-numbers_in-integers zs = ap (option_and_then (told_by number_of)) (items_of-Array (map Integer zs)) ∙ told_made number_of Integer number_of-Integer zs
+pub numbers_in-integers : (zs : List ℤ) → option_and_then (each_told number_of) (items_of (integers zs)) ≡ Some zs
+numbers_in-integers zs = ap (option_and_then (each_told number_of)) (items_of-Array (map Integer zs)) ∙ told_made number_of Integer number_of-Integer zs
 
 pub pair_of-pair : (k v : Bytes) → pair_of (pair k v) ≡ Some (k, v)
-pair_of-pair k v = ap (option_and_then pair_among) (items_of-Array (Bulk k ∷ Bulk v ∷ [])) ∙ (λ i. both (bulk_of-Bulk k i) (bulk_of-Bulk v i))
+pair_of-pair k v = ap (option_and_then pair_among) (items_of-Array (Bulk k ∷ Bulk v ∷ [])) ∙ (λ i. both_texts (bulk_of-Bulk k i) (bulk_of-Bulk v i))

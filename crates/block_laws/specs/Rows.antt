@@ -12,7 +12,7 @@ use Rattle.command_blocks.specs.TakeBlocks.{IsPop, IsPopBlock, IsEndBlock}
 use Rattle.command_blocks.specs.ReturnBlocks.{ReturnEnd, IsReturnBlock}
 use Rattle.command_blocks.specs.PassBlocks.{PassEnd, IsPassBlock}
 use Rattle.command_blocks.specs.Blocks.{IsBlock}
-use Rattle.command_blocks.specs.Scripts.{Script, Over, Off, Say, Plan, Declare, Undeclare, Publish, Pop, End, Return, Pass, script_of, kind_of, rest_of, IsSaid}
+use Rattle.command_blocks.specs.Scripts.{Script, Over, Off, Say, Plan, Declare, Undeclare, Publish, Pop, End, Return, Pass, script_of, counter_use, rest_of, IsSaid}
 
 -- some answer is listed at each of its commands, and what goes on after any listed one is good
 abbrev pub IsGood : Script → Type 0
@@ -65,7 +65,7 @@ IsPlanBlock σ s n p (Pass v) l = (end : PassEnd) × IsPassBlock σ (token s (su
 pub record IsRow (σ : Setting) (s n p : ℕ) (plan : Plan) : Type 0 where
   pub good : IsGood (script_of σ s p plan)
   pub told : (l : List Call) → AreTimely l → IsSaid (script_of σ s p plan) l → rest_of (script_of σ s p plan) l ≡ Over → IsPlanBlock σ s n p plan l
-  pub block : (l : List Call) → AreTimely l → IsSaid (script_of σ s p plan) l → rest_of (script_of σ s p plan) l ≡ Over → IsBlock σ s n p (kind_of plan) l
+  pub block : (l : List Call) → AreTimely l → IsSaid (script_of σ s p plan) l → rest_of (script_of σ s p plan) l ≡ Over → IsBlock σ s n p (counter_use plan) l
 
 -- each lawful plan is a row
 abbrev pub PlansAreRows : Type 0
@@ -74,12 +74,12 @@ PlansAreRows = (σ : Setting) (s n p : ℕ) (plan : Plan) → IsLawfulPlan σ s 
 -- what was said so far of a lawful plan begins a block of its kind, where its last answer was a listed one
 abbrev pub TalksGoOn : Type 0
 TalksGoOn = (σ : Setting) (s n p : ℕ) (plan : Plan) → IsLawfulPlan σ s n plan → (l : List Call) → AreTimely l → IsSaid (script_of σ s p plan) l → (rest_of (script_of σ s p plan) l ≡ Off → ⊥)
-    → (more : List Call) × IsBlock σ s n p (kind_of plan) (l ++ more)
+    → (more : List Call) × IsBlock σ s n p (counter_use plan) (l ++ more)
 
 -- where it wasn't, what was said would begin such a block with another answer to the last words
 abbrev pub TalksPutOff : Type 0
 TalksPutOff = (σ : Setting) (s n p : ℕ) (plan : Plan) → IsLawfulPlan σ s n plan → (l : List Call) → AreTimely l → IsSaid (script_of σ s p plan) l → rest_of (script_of σ s p plan) l ≡ Off
-    → (before : List Call) × (a : ℕ) × (words : Words) × (answer : Value) × (listed : Value) × (more : List Call) × (l ≡ before ++ call a words answer ∷ []) × IsBlock σ s n p (kind_of plan) (before ++ call a words listed ∷ more)
+    → (before : List Call) × (a : ℕ) × (words : Words) × (answer : Value) × (listed : Value) × (more : List Call) × (l ≡ before ++ call a words answer ∷ []) × IsBlock σ s n p (counter_use plan) (before ++ call a words listed ∷ more)
 
 -- scripts say their plans' blocks and no others: each whole block of a plan is said by its script to its end, and what isn't listed by the script begins no block of the plan
 abbrev pub BlocksAreSaid : Type 0

@@ -20,13 +20,13 @@ abbrev pub bulk_of : Value → Option Bytes
 bulk_of v = bulk_in (layer v)
 
 -- the integer of a layer that is one
-abbrev pub number_in : Value-F Value → Option ℤ
-number_in (Value-F.Integer z) = Some z
-number_in other = None
+abbrev pub layer_number : Value-F Value → Option ℤ
+layer_number (Value-F.Integer z) = Some z
+layer_number other = None
 
 -- the integer of an answer that is one
 abbrev pub number_of : Value → Option ℤ
-number_of v = number_in (layer v)
+number_of v = layer_number (layer v)
 
 -- the values of a layer that is an array
 abbrev pub items_in : Value-F Value → Option (List Value)
@@ -38,16 +38,16 @@ abbrev pub items_of : Value → Option (List Value)
 items_of v = items_in (layer v)
 
 -- the two texts, where both are there
-abbrev pub both : Option Bytes → Option Bytes → Option (Bytes × Bytes)
-both None v = None
-both (Some k) None = None
-both (Some k) (Some v) = Some (k, v)
+abbrev pub both_texts : Option Bytes → Option Bytes → Option (Bytes × Bytes)
+both_texts None v = None
+both_texts (Some k) None = None
+both_texts (Some k) (Some v) = Some (k, v)
 
 -- the two bulk strings of an array of two
 abbrev pub pair_among : List Value → Option (Bytes × Bytes)
 pair_among [] = None
 pair_among (k ∷ []) = None
-pair_among (k ∷ v ∷ []) = both (bulk_of k) (bulk_of v)
+pair_among (k ∷ v ∷ []) = both_texts (bulk_of k) (bulk_of v)
 pair_among (k ∷ v ∷ w ∷ ws) = None
 
 -- the key and the element that an answer to BRPOP shows

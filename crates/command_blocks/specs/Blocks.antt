@@ -30,25 +30,25 @@ pub data IsNeutralBlock (σ : Setting) (words : Words) : List Call → Type 0 wh
   Answered : (a : ℕ) (r : Value) → IsNeutral σ words → is_error r ≡ false → IsNeutralBlock σ words (call a words r ∷ [])
 
 -- what a block takes from the client's counters: a tag, a token or nothing
-pub data Kind : Type 0 where
-  Drawing : Kind
-  Passing : Kind
-  Other : Kind
+pub data CounterUse : Type 0 where
+  Drawing : CounterUse
+  Passing : CounterUse
+  Other : CounterUse
 
 -- how many tags are drawn after a block of this kind
-abbrev pub drawn : Kind → ℕ → ℕ
+abbrev pub drawn : CounterUse → ℕ → ℕ
 drawn Drawing n = suc n
 drawn Passing n = n
 drawn Other n = n
 
 -- how many passes are made after a block of this kind
-abbrev pub passed : Kind → ℕ → ℕ
-passed Drawing n = n
-passed Passing n = suc n
-passed Other n = n
+abbrev pub passes_after : CounterUse → ℕ → ℕ
+passes_after Drawing n = n
+passes_after Passing n = suc n
+passes_after Other n = n
 
 -- the blocks of a client of seed s that drew n tags and made p passes before
-pub data IsBlock (σ : Setting) (s n p : ℕ) : Kind → List Call → Type 0 where
+pub data IsBlock (σ : Setting) (s n p : ℕ) : CounterUse → List Call → Type 0 where
   Declare : (e r x q : Bytes) (l : List Call) → IsDeclareBlock σ (codes "SADD") e r x q l → IsBlock σ s n p Other l
   Undeclare : (e r x q : Bytes) (l : List Call) → IsDeclareBlock σ (codes "SREM") e r x q l → IsBlock σ s n p Other l
   Publish : (v : Bytes) (l : List Call) → IsPublishBlock σ (σ.tag s (suc n)) v l → IsBlock σ s n p Drawing l
@@ -62,12 +62,12 @@ pub data IsBlock (σ : Setting) (s n p : ℕ) : Kind → List Call → Type 0 wh
 -- the blocks of a client, one after the other, with its counters
 abbrev pub AreBlocks : Setting → ℕ → ℕ → ℕ → List (List Call) → Type 0
 AreBlocks σ s n p [] = Unit {0}
-AreBlocks σ s n p (b ∷ bs) = (k : Kind) × IsBlock σ s n p k b × AreBlocks σ s (drawn k n) (passed k p) bs
+AreBlocks σ s n p (b ∷ bs) = (k : CounterUse) × IsBlock σ s n p k b × AreBlocks σ s (drawn k n) (passes_after k p) bs
 
 -- how many tags they have drawn at their end
 abbrev pub drawn_by : (σ : Setting) (s n p : ℕ) (bs : List (List Call)) → AreBlocks σ s n p bs → ℕ
 drawn_by σ s n p [] h = n
-drawn_by σ s n p (b ∷ bs) h = drawn_by σ s (drawn h.0 n) (passed h.0 p) bs h.2
+drawn_by σ s n p (b ∷ bs) h = drawn_by σ s (drawn h.0 n) (passes_after h.0 p) bs h.2
 
 -- a prefix of a concatenation of blocks of a client of seed s
 abbrev pub IsFrontOfBlocks : Setting → ℕ → List Call → Type 0

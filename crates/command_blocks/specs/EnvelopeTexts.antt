@@ -4,7 +4,7 @@ use Rattle.std.specs.Result.{result_ok}
 use Rattle.serde_json.specs.Data.{Data}
 use Rattle.serde_json.specs.Written.{compact_text}
 use Rattle.envelope.specs.Bodies.{body_in, body_of, carried, entry_of, tag_of_bytes}
-use Rattle.envelope.specs.Entries.{Entry, entry_at}
+use Rattle.envelope.specs.Entries.{EntryParts, entry_at}
 use Rattle.envelope.specs.Envelopes.{envelope_at, parts_in, priority_of}
 use Rattle.envelope.specs.Tags.{is_tag, tag, tag_text}
 use Rattle.queue_keys.specs.Names.{Bytes, same}
@@ -16,7 +16,7 @@ abbrev pub way_said : Data → Way
 way_said d = record { exchange = (parts_in d).exchange; routing_key = (parts_in d).routing_key; priority = priority_of d }
 
 -- where an entry's tree returns, by the entry's own two texts
-abbrev pub way_kept : Entry → Way
+abbrev pub way_kept : EntryParts → Way
 way_kept e = record { exchange = e.exchange; routing_key = e.routing_key; priority = priority_of e.tree }
 
 -- where an envelope goes, none where the bytes are no envelope

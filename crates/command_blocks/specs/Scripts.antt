@@ -12,7 +12,7 @@ use Rattle.command_blocks.specs.Setting.{Setting}
 use Rattle.command_blocks.specs.Calls.{Call, push_word}
 use Rattle.command_blocks.specs.TakeBlocks.{brpop_words}
 use Rattle.command_blocks.specs.PassBlocks.{tags_among, lock_words, due_words}
-use Rattle.command_blocks.specs.Blocks.{Kind, Drawing, Passing, Other}
+use Rattle.command_blocks.specs.Blocks.{CounterUse, Drawing, Passing, Other}
 use Rattle.command_blocks.specs.declared.block.Side.{Side}
 use Rattle.command_blocks.specs.declared.block.Side.TheVariants.{Right}
 
@@ -61,13 +61,13 @@ onto_told (Some x) None = None
 onto_told (Some x) (Some xs) = Some (x ∷ xs)
 
 -- what each of the values tells, where all of them do
-abbrev pub told_by : {A : Type 0} → (Value → Option A) → List Value → Option (List A)
-told_by f [] = Some []
-told_by f (v ∷ vs) = onto_told (f v) (told_by f vs)
+abbrev pub each_told : {A : Type 0} → (Value → Option A) → List Value → Option (List A)
+each_told f [] = Some []
+each_told f (v ∷ vs) = onto_told (f v) (each_told f vs)
 
 -- the texts of an array of bulk strings
 abbrev pub texts_of : Value → Option (List Bytes)
-texts_of r = option_and_then (told_by bulk_of) (items_of r)
+texts_of r = option_and_then (each_told bulk_of) (items_of r)
 
 -- an array of bulk strings
 abbrev pub on_texts : (List Bytes → Script) → Value → Script
@@ -82,7 +82,7 @@ on_two go (x ∷ y ∷ z ∷ zs) = Off
 
 -- an array of two integers
 abbrev pub on_two_numbers : Script → Value → Script
-on_two_numbers go r = if_told (on_two go) (option_and_then (told_by number_of) (items_of r))
+on_two_numbers go r = if_told (on_two go) (option_and_then (each_told number_of) (items_of r))
 
 -- whether a layer is the null array
 abbrev pub null_array_in : Value-F Value → Bool
@@ -163,7 +163,7 @@ queued_script side v (k ∷ ks) rest = plainly (push_word side ∷ k ∷ v ∷ [
 
 -- by what EXEC answered: an array of integers, or the null array
 abbrev pub on_ran : Script → Script → Value → Script
-on_ran moved failed r = on_null_array failed (if_told (λ zs. moved) (option_and_then (told_by number_of) (items_of r))) r
+on_ran moved failed r = on_null_array failed (if_told (λ zs. moved) (option_and_then (each_told number_of) (items_of r))) r
 
 -- UNWATCH, and then the rest
 abbrev pub leave_script : Script → Script
@@ -271,10 +271,10 @@ script_of σ s p (Return side t) = return_script σ side t
 script_of σ s p (Pass v) = pass_script σ (token s (suc p)) v
 
 -- what a plan takes from the client's counters
-abbrev pub kind_of : Plan → Kind
-kind_of (Publish v) = Drawing
-kind_of (Pass v) = Passing
-kind_of other = Other
+abbrev pub counter_use : Plan → CounterUse
+counter_use (Publish v) = Drawing
+counter_use (Pass v) = Passing
+counter_use other = Other
 
 -- ---- a script and the calls that were made by it
 

@@ -1,7 +1,7 @@
 //! What an answer of the store is, read off its outermost layer.
 ghost use Rattle.std.specs.Prelude.{◌≡◌, bytes_eq, MatchOption, Some, None};
 ghost use Rattle.wire_values.specs.Layer.{layer};
-ghost use Rattle.command_blocks.specs.Answers.{is_one, bulk_of, both, items_of, number_of, both_numbers, numbers_among, numbers_of, pair_among, pair_of};
+ghost use Rattle.command_blocks.specs.Answers.{is_one, bulk_of, both_texts, items_of, number_of, both_numbers, numbers_among, numbers_of, pair_among, pair_of};
 ghost use Rattle.command_blocks.specs.Scripts.{null_array_in, status_in};
 
 use wire_values::Value;
@@ -96,7 +96,7 @@ fn pair_among(values: &[Value]) -> Option<(&[u8], &[u8])>
 
 /// The bytes of two bulk strings.
 fn both<'a>(key: &'a Value, element: &'a Value) -> Option<(&'a [u8], &'a [u8])>
-    ensures { MatchOption result (both (bulk_of key.now) (bulk_of element.now) ≡ None) (λ p. both (bulk_of key.now) (bulk_of element.now) ≡ Some (p.0.now, p.1.now)) }
+    ensures { MatchOption result (both_texts (bulk_of key.now) (bulk_of element.now) ≡ None) (λ p. both_texts (bulk_of key.now) (bulk_of element.now) ≡ Some (p.0.now, p.1.now)) }
 {
     let key = bulk(key)?;
     let element = bulk(element)?;

@@ -11,7 +11,7 @@ use Rattle.serde_json.specs.Read.{read, max_depth}
 use Rattle.serde_json.specs.Written.{has_float, items_have_float, compact_text}
 use Rattle.serde_json.proofs.OnLiterals.{serde_json_on_literals}
 use Rattle.envelope.specs.Bodies.{if_plain, marked_text, body_of, entry_text, entry_of, exchange_or, routing_key_or, parts_at, tree_in, body_in, carried}
-use Rattle.envelope.specs.Entries.{Entry, entry_at, entry_data, entry_in, of_items, max_entry}
+use Rattle.envelope.specs.Entries.{EntryParts, entry_at, entry_data, entry_in, of_items, max_entry}
 use Rattle.envelope.specs.Envelopes.{Parts, said_by, parts_or_none, parts_in, json_at, envelope_of, envelope_at, tree_at, are_short, max_levels, max_bytes}
 use Rattle.envelope.specs.Marks.{marked}
 use Rattle.envelope.specs.Reading.{needed, wanted}
@@ -80,16 +80,16 @@ json_is b d e = go (is_utf8 b) refl e
     go false i f = cc
 
 -- what an entry's bytes are read as
-pub record IsEntryRead (u : List ℕ) (f : Entry) : Type 0 where
+pub record IsEntryRead (u : List ℕ) (f : EntryParts) : Type 0 where
   pub value : Data
   pub text : read u ≡ Some value
   pub items : entry_in value ≡ Some f
   pub plain : IsPlain f.tree
 
-same_entry : (e f : Entry) → ◌≡◌ {A = Result Entry EnvelopeFault} (Ok e) (Ok f) → e ≡ f
+same_entry : (e f : EntryParts) → ◌≡◌ {A = Result EntryParts EnvelopeFault} (Ok e) (Ok f) → e ≡ f
 same_entry e f h = cc
 
-pub entry_is_read : (u : List ℕ) (f : Entry) → entry_at u ≡ Ok f → IsEntryRead u f
+pub entry_is_read : (u : List ℕ) (f : EntryParts) → entry_at u ≡ Ok f → IsEntryRead u f
 unfolding entry_at
 entry_is_read u f h =
     let a = bind_ok (wanted TooLong (nat_le (length u) max_entry)) _ f h in
@@ -99,28 +99,28 @@ entry_is_read u f h =
     let w = bind_ok (wanted TooLong (are_short c.0.exchange c.0.routing_key)) _ f t.2 in
     done b.0 c.0 t.0 (json_is u b.0 (needed_is NotJson _ b.0 b.1)).1 (needed_is NotJson _ c.0 c.1) (envelope_said c.0.tree t.0 t.1) (same_entry (record { tree = t.0; exchange = c.0.exchange; routing_key = c.0.routing_key }) f w.2)
   where
-    done : (d : Data) (e : Entry) (t : Data) → read u ≡ Some d → entry_in d ≡ Some e → (e.tree ≡ t) × ((p : Parts) × (said_by e.tree ≡ Ok p)) → ◌≡◌ {A = Entry} (record { tree = t; exchange = e.exchange; routing_key = e.routing_key }) f → IsEntryRead u f
+    done : (d : Data) (e : EntryParts) (t : Data) → read u ≡ Some d → entry_in d ≡ Some e → (e.tree ≡ t) × ((p : Parts) × (said_by e.tree ≡ Ok p)) → ◌≡◌ {A = EntryParts} (record { tree = t; exchange = e.exchange; routing_key = e.routing_key }) f → IsEntryRead u f
     done d e t r i s same =
         let whole : e ≡ f = ap (λ (x : Data). record { tree = x; exchange = e.exchange; routing_key = e.routing_key }) s.0 ∙ same in
-        record { value = d; text = r; items = i ∙ ap (λ x. Some x) whole; plain = subst (λ (x : Entry). IsPlain x.tree) whole (said_is e.tree s.1.0 s.1.1).plain }
+        record { value = d; text = r; items = i ∙ ap (λ x. Some x) whole; plain = subst (λ (x : EntryParts). IsPlain x.tree) whole (said_is e.tree s.1.0 s.1.1).plain }
 
 -- the tree of an entry that was read is sorted
-some_tree : (e f : Entry) → ◌≡◌ {A = Option Entry} (Some e) (Some f) → e.tree ≡ f.tree
+some_tree : (e f : EntryParts) → ◌≡◌ {A = Option EntryParts} (Some e) (Some f) → e.tree ≡ f.tree
 some_tree e f h = let s : e ≡ f = cc in ap (λ x. x.tree) s
 
-three_tree : (t : Data) (a b : Option (List ℕ)) (f : Entry) → option_and_then (λ x. option_map (λ k. record { tree = t; exchange = x; routing_key = k }) b) a ≡ Some f → t ≡ f.tree
+three_tree : (t : Data) (a b : Option (List ℕ)) (f : EntryParts) → option_and_then (λ x. option_map (λ k. record { tree = t; exchange = x; routing_key = k }) b) a ≡ Some f → t ≡ f.tree
 three_tree t None b f e = cc
 three_tree t (Some x) None f e = cc
 three_tree t (Some x) (Some k) f e = some_tree (record { tree = t; exchange = x; routing_key = k }) f e
 
-sorted_items : (ds : Items) (f : Entry) → SortedItems ds → of_items ds ≡ Some f → Sorted f.tree
+sorted_items : (ds : Items) (f : EntryParts) → SortedItems ds → of_items ds ≡ Some f → Sorted f.tree
 sorted_items no_items f s e = cc
 sorted_items (item t no_items) f s e = cc
 sorted_items (item t (item x no_items)) f s e = cc
 sorted_items (item t (item x (item r no_items))) f s e = subst Sorted (three_tree t (as_str x) (as_str r) f e) s.0
 sorted_items (item t (item x (item r (item y ys)))) f s e = cc
 
-sorted_tree : (d : Data) (f : Entry) → Sorted d → entry_in d ≡ Some f → Sorted f.tree
+sorted_tree : (d : Data) (f : EntryParts) → Sorted d → entry_in d ≡ Some f → Sorted f.tree
 sorted_tree null f s e = cc
 sorted_tree (boolean b) f s e = cc
 sorted_tree (number n) f s e = cc
@@ -141,7 +141,7 @@ marked_body d s h =
 pub carried_body : (u v : List ℕ) → carried u ≡ Some v → body_of v ≡ body_in u
 carried_body u v e = go (result_ok (entry_at u)) refl e
   where
-    go : (o : Option Entry) → result_ok (entry_at u) ≡ o → option_map (λ f. compact_text (marked f.tree)) o ≡ Some v → body_of v ≡ body_in u
+    go : (o : Option EntryParts) → result_ok (entry_at u) ≡ o → option_map (λ f. compact_text (marked f.tree)) o ≡ Some v → body_of v ≡ body_in u
     go None i g = cc
     go (Some f) i g =
         let k = entry_is_read u f (ok_is (entry_at u) f i) in

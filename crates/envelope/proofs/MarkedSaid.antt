@@ -10,7 +10,7 @@ use Rattle.serde_json.specs.Find.{get, get_member, as_str, as_number, as_bool}
 use Rattle.serde_json.specs.Written.{compact_text}
 use Rattle.serde_json.proofs.Views.{get_member-put, get_member-put_other}
 use Rattle.envelope.specs.Marks.{change, on_object, with_member, marked_object, marked, is_marked, is_marked_in_headers, is_marked_in_info}
-use Rattle.envelope.specs.Members.{text_at, object_at, if_object, is_word, is_word_any_case, is_nothing, is_true_at}
+use Rattle.envelope.specs.Members.{text_at, object_at, if_object, says_word, is_word_any_case, is_nothing, is_true_at}
 use Rattle.envelope.specs.Envelopes.{Parts, said_by, priority_of, held_number, max_bytes, max_text}
 use Rattle.envelope.specs.Tags.{tag_of_text}
 use Rattle.envelope.proofs.Kept.{depth-marked, float-marked}
@@ -119,7 +119,7 @@ properties_told : (body : List ℕ) (q : Data) (p : Parts) → IsPropertiesTold 
 unfolding on_info
 properties_told body q p h = record {
   info = marked_object h.info;
-  encoded = ap (λ o. is_word (codes "base64") (option_and_then as_str o)) (get_other (codes "body_encoding") (codes "delivery_info") marked_object q (off (codes "body_encoding") (codes "delivery_info") refl)) ∙ h.encoded;
+  encoded = ap (λ o. says_word (codes "base64") (option_and_then as_str o)) (get_other (codes "body_encoding") (codes "delivery_info") marked_object q (off (codes "body_encoding") (codes "delivery_info") refl)) ∙ h.encoded;
   tag_is = ap (λ o. option_and_then tag_of_text (option_and_then as_str o)) (get_other (codes "delivery_tag") (codes "delivery_info") marked_object q (off (codes "delivery_tag") (codes "delivery_info") refl)) ∙ h.tag_is;
   info_is = object_info q h.info h.info_is;
   exchange_is = ap (option_and_then as_str) (get_marked (codes "exchange") h.info (off (codes "exchange") (codes "redelivered") refl)) ∙ h.exchange_is;
@@ -135,7 +135,7 @@ told_marked d p h = record {
   said = h.said;
   body_is = text_kept (codes "body") d (off (codes "body") (codes "headers") refl) (off (codes "body") (codes "properties") refl) ∙ h.body_is;
   encoding = ap (is_word_any_case (codes "utf-8")) (text_kept (codes "content-encoding") d (off (codes "content-encoding") (codes "headers") refl) (off (codes "content-encoding") (codes "properties") refl)) ∙ h.encoding;
-  kind = ap (is_word (codes "application/json")) (text_kept (codes "content-type") d (off (codes "content-type") (codes "headers") refl) (off (codes "content-type") (codes "properties") refl)) ∙ h.kind;
+  kind = ap (says_word (codes "application/json")) (text_kept (codes "content-type") d (off (codes "content-type") (codes "headers") refl) (off (codes "content-type") (codes "properties") refl)) ∙ h.kind;
   headers_is = object_headers d h.headers h.headers_is;
   properties_is = object_properties d h.properties h.properties_is;
   inner = properties_told h.body h.properties h.said h.inner;

@@ -11,7 +11,7 @@ use Rattle.envelope.specs.declared.fault.Field.TheVariants as field
 use Rattle.envelope.specs.declared.fault.EnvelopeFault.{EnvelopeFault}
 use Rattle.envelope.specs.declared.fault.EnvelopeFault.TheVariants.{TooLong, Missing, Compressed, BadBody}
 use Rattle.envelope.specs.Envelopes.{Parts, said_by, parts_of, properties_said, info_said, content_of, if_text, are_short}
-use Rattle.envelope.specs.Members.{text_at, object_at, is_word, is_word_any_case, is_nothing}
+use Rattle.envelope.specs.Members.{text_at, object_at, says_word, is_word_any_case, is_nothing}
 use Rattle.envelope.specs.Reading.{◌>>=◌, needed, wanted}
 use Rattle.envelope.specs.Tags.{tag_of_text}
 use Rattle.envelope.proofs.Said.{bind_ok, wanted_is, needed_is, said_is}
@@ -42,7 +42,7 @@ info_told body n info p e = go (text_at (codes "exchange") info) (text_at (codes
 -- the members of the properties that say p
 pub record IsPropertiesTold (body : List ℕ) (properties : Data) (p : Parts) : Type 0 where
   pub info : Data
-  pub encoded : is_word (codes "base64") (text_at (codes "body_encoding") properties) ≡ true
+  pub encoded : says_word (codes "base64") (text_at (codes "body_encoding") properties) ≡ true
   pub tag_is : option_and_then tag_of_text (text_at (codes "delivery_tag") properties) ≡ Some p.tag
   pub info_is : object_at (codes "delivery_info") properties ≡ Some info
   pub exchange_is : text_at (codes "exchange") info ≡ Some p.exchange
@@ -52,12 +52,12 @@ pub record IsPropertiesTold (body : List ℕ) (properties : Data) (p : Parts) : 
 properties_told : (body : List ℕ) (properties : Data) (p : Parts) → properties_said body properties ≡ Ok p → IsPropertiesTold body properties p
 unfolding properties_said
 properties_told body properties p e =
-    let a = bind_ok (wanted (Missing field.BodyEncoding) (is_word (codes "base64") (text_at (codes "body_encoding") properties))) _ p e in
+    let a = bind_ok (wanted (Missing field.BodyEncoding) (says_word (codes "base64") (text_at (codes "body_encoding") properties))) _ p e in
     let b = bind_ok (needed (Missing field.DeliveryTag) (option_and_then tag_of_text (text_at (codes "delivery_tag") properties))) _ p a.2 in
     let c = bind_ok (needed (Missing field.DeliveryInfo) (object_at (codes "delivery_info") properties)) _ p b.2 in
     done b.0 c.0 (wanted_is (Missing field.BodyEncoding) _ a.0 a.1) (needed_is (Missing field.DeliveryTag) _ b.0 b.1) (needed_is (Missing field.DeliveryInfo) _ c.0 c.1) (info_told body b.0 c.0 p c.2)
   where
-    done : (n : ℕ) (info : Data) → is_word (codes "base64") (text_at (codes "body_encoding") properties) ≡ true → option_and_then tag_of_text (text_at (codes "delivery_tag") properties) ≡ Some n
+    done : (n : ℕ) (info : Data) → says_word (codes "base64") (text_at (codes "body_encoding") properties) ≡ true → option_and_then tag_of_text (text_at (codes "delivery_tag") properties) ≡ Some n
         → object_at (codes "delivery_info") properties ≡ Some info → IsInfoTold body n info p → IsPropertiesTold body properties p
     done n info x y z h = record { info = info; encoded = x; tag_is = y ∙ ap (λ (m : ℕ). Some m) h.tag_is; info_is = z; exchange_is = h.exchange_is; routing_key_is = h.routing_key_is; body_is = h.body_is }
 
@@ -69,7 +69,7 @@ pub record IsTold (d : Data) (p : Parts) : Type 0 where
   pub said : Parts
   pub body_is : text_at (codes "body") d ≡ Some body
   pub encoding : is_word_any_case (codes "utf-8") (text_at (codes "content-encoding") d) ≡ true
-  pub kind : is_word (codes "application/json") (text_at (codes "content-type") d) ≡ true
+  pub kind : says_word (codes "application/json") (text_at (codes "content-type") d) ≡ true
   pub headers_is : object_at (codes "headers") d ≡ Some headers
   pub properties_is : object_at (codes "properties") d ≡ Some properties
   pub inner : IsPropertiesTold body properties said
@@ -86,7 +86,7 @@ unfolding parts_of
 told_by d p e =
     let a = bind_ok (needed (Missing field.Body) (text_at (codes "body") d)) _ p e in
     let b = bind_ok (wanted (Missing field.ContentEncoding) (is_word_any_case (codes "utf-8") (text_at (codes "content-encoding") d))) _ p a.2 in
-    let c = bind_ok (wanted (Missing field.ContentType) (is_word (codes "application/json") (text_at (codes "content-type") d))) _ p b.2 in
+    let c = bind_ok (wanted (Missing field.ContentType) (says_word (codes "application/json") (text_at (codes "content-type") d))) _ p b.2 in
     let h = bind_ok (needed (Missing field.Headers) (object_at (codes "headers") d)) _ p c.2 in
     let q = bind_ok (needed (Missing field.Properties) (object_at (codes "properties") d)) _ p h.2 in
     let s = bind_ok (properties_said a.0 q.0) _ p q.2 in
@@ -98,7 +98,7 @@ told_by d p e =
     (same_parts (record { content = v.0; tag = s.0.tag; exchange = s.0.exchange; routing_key = s.0.routing_key }) p w.2)
   where
     done : (body : List ℕ) (headers properties : Data) (said : Parts) (content : List ℕ)
-        → text_at (codes "body") d ≡ Some body → is_word_any_case (codes "utf-8") (text_at (codes "content-encoding") d) ≡ true → is_word (codes "application/json") (text_at (codes "content-type") d) ≡ true
+        → text_at (codes "body") d ≡ Some body → is_word_any_case (codes "utf-8") (text_at (codes "content-encoding") d) ≡ true → says_word (codes "application/json") (text_at (codes "content-type") d) ≡ true
         → object_at (codes "headers") d ≡ Some headers → object_at (codes "properties") d ≡ Some properties → IsPropertiesTold body properties said
         → is_nothing (get (codes "compression") headers) ≡ true → content_of body ≡ Some content → are_short said.exchange said.routing_key ≡ true
         → ◌≡◌ {A = Parts} (record { content = content; tag = said.tag; exchange = said.exchange; routing_key = said.routing_key }) p → IsTold d p

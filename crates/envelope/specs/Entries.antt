@@ -8,7 +8,7 @@ use Rattle.envelope.specs.declared.fault.EnvelopeFault.{EnvelopeFault}
 use Rattle.envelope.specs.declared.fault.EnvelopeFault.TheVariants.{TooLong, NotJson}
 
 -- an envelope's tree, and the exchange and the routing key by which it is returned
-pub record Entry : Type 0 where
+pub record EntryParts : Type 0 where
   pub tree : Data
   pub exchange : List ℕ
   pub routing_key : List ℕ
@@ -18,19 +18,19 @@ abbrev pub max_entry : ℕ
 max_entry = 1048576
 
 -- the array of an entry
-abbrev pub entry_data : Entry → Data
+abbrev pub entry_data : EntryParts → Data
 entry_data e = array (item e.tree (item (string e.exchange) (item (string e.routing_key) no_items)))
 
 -- the entry of an envelope's tree, by its own exchange and routing key
-abbrev pub entry_for : Data → Entry
+abbrev pub entry_for : Data → EntryParts
 entry_for d = record { tree = d; exchange = (parts_in d).exchange; routing_key = (parts_in d).routing_key }
 
 -- the entry of three values, of which the last two are texts
-abbrev pub of_three : Data → Data → Data → Option Entry
+abbrev pub of_three : Data → Data → Data → Option EntryParts
 of_three t e r = option_and_then (λ x. option_map (λ k. record { tree = t; exchange = x; routing_key = k }) (as_str r)) (as_str e)
 
 -- the entry of three items; no other number of items is one
-abbrev pub of_items : Items → Option Entry
+abbrev pub of_items : Items → Option EntryParts
 of_items no_items = None
 of_items (item t no_items) = None
 of_items (item t (item e no_items)) = None
@@ -38,11 +38,11 @@ of_items (item t (item e (item r no_items))) = of_three t e r
 of_items (item t (item e (item r (item x xs)))) = None
 
 -- the entry that a JSON value is the array of
-abbrev pub entry_in : Data → Option Entry
+abbrev pub entry_in : Data → Option EntryParts
 entry_in d = option_and_then of_items (as_array d)
 
 -- the entry that the bytes are, or their first fault
-unfoldable pub entry_at : List ℕ → Result Entry EnvelopeFault
+unfoldable pub entry_at : List ℕ → Result EntryParts EnvelopeFault
 entry_at b = do
   short ← wanted TooLong (nat_le (length b) max_entry)
   d ← needed NotJson (json_at b)

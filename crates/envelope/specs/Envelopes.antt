@@ -8,7 +8,7 @@ use Rattle.serde_json.specs.Written.{has_float, compact_text}
 use Rattle.base64.specs.Engines.{standard}
 use Rattle.base64.specs.GeneralPurpose.{decoded_of}
 use Rattle.envelope.specs.Tags.{tag_of_text}
-use Rattle.envelope.specs.Members.{text_at, object_at, is_word, is_word_any_case, is_nothing}
+use Rattle.envelope.specs.Members.{text_at, object_at, says_word, is_word_any_case, is_nothing}
 use Rattle.envelope.specs.Marks.{marked}
 use Rattle.envelope.specs.declared.fault.Field.TheVariants as field
 use Rattle.envelope.specs.declared.fault.EnvelopeFault.{EnvelopeFault}
@@ -60,7 +60,7 @@ info_said body tag info = do
 -- what the properties say, beside the body
 unfoldable pub properties_said : List ℕ → Data → Result Parts EnvelopeFault
 properties_said body properties = do
-  encoded ← wanted (Missing field.BodyEncoding) (is_word (codes "base64") (text_at (codes "body_encoding") properties))
+  encoded ← wanted (Missing field.BodyEncoding) (says_word (codes "base64") (text_at (codes "body_encoding") properties))
   tag ← needed (Missing field.DeliveryTag) (option_and_then tag_of_text (text_at (codes "delivery_tag") properties))
   info ← needed (Missing field.DeliveryInfo) (object_at (codes "delivery_info") properties)
   info_said body tag info
@@ -70,7 +70,7 @@ unfoldable pub parts_of : Data → Result Parts EnvelopeFault
 parts_of d = do
   body ← needed (Missing field.Body) (text_at (codes "body") d)
   encoding ← wanted (Missing field.ContentEncoding) (is_word_any_case (codes "utf-8") (text_at (codes "content-encoding") d))
-  type ← wanted (Missing field.ContentType) (is_word (codes "application/json") (text_at (codes "content-type") d))
+  type ← wanted (Missing field.ContentType) (says_word (codes "application/json") (text_at (codes "content-type") d))
   headers ← needed (Missing field.Headers) (object_at (codes "headers") d)
   properties ← needed (Missing field.Properties) (object_at (codes "properties") d)
   said ← properties_said body properties

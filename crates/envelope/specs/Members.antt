@@ -22,8 +22,8 @@ abbrev pub is_true_at : List ℕ → Data → Bool
 is_true_at k d = option_map_or (λ b. b) (option_and_then as_bool (get k d)) false
 
 -- whether there is a text, and it is the word
-abbrev pub is_word : List ℕ → Option (List ℕ) → Bool
-is_word word o = option_map_or (λ s. bytes_eq s word) o false
+abbrev pub says_word : List ℕ → Option (List ℕ) → Bool
+says_word word o = option_map_or (λ s. bytes_eq s word) o false
 
 -- the same, where the case of ASCII letters is ignored
 abbrev pub is_word_any_case : List ℕ → Option (List ℕ) → Bool

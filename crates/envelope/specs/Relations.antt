@@ -6,7 +6,7 @@ use Rattle.serde_json.specs.Data.{Data, depth}
 use Rattle.serde_json.specs.Find.{get}
 use Rattle.serde_json.specs.Read.{read}
 use Rattle.serde_json.specs.Written.{has_float, compact_text}
-use Rattle.envelope.specs.Entries.{Entry, entry_data, max_entry}
+use Rattle.envelope.specs.Entries.{EntryParts, entry_data, max_entry}
 use Rattle.envelope.specs.Envelopes.{Parts, max_bytes, max_levels, max_name, max_text}
 use Rattle.envelope.specs.Marks.{marked}
 use Rattle.envelope.specs.Members.{is_nothing, is_word_any_case, object_at, text_at}
@@ -57,7 +57,7 @@ pub record IsEnvelope (d : Data) (b : List ℕ) : Type 0 where
   pub tree : IsTree d parts
 
 -- the bytes are a JSON text of the entry's array: an envelope's tree, and two texts of at most 255 bytes
-pub record IsEntry (e : Entry) (b : List ℕ) : Type 0 where
+pub record IsEntry (e : EntryParts) (b : List ℕ) : Type 0 where
   pub short : length b ≤ max_entry
   pub utf8 : IsUtf8 b
   pub text : read b ≡ Some (entry_data e)

@@ -16,7 +16,7 @@ abbrev pub properties_view : Properties → Parts
 properties_view p = record { content = p.body.now; tag = p.tag.0; exchange = p.exchange.now; routing_key = p.routing_key.now }
 
 -- the parts are what the tree says, and the text is the tree's compact text, which is read again as the tree
-pub record IsWhole (tree : Value) (found : Found) (text : List ℕ) : Type 0 where
+pub record TellsTree (tree : Value) (found : Found) (text : List ℕ) : Type 0 where
   pub said : said_by (data_of tree) ≡ Ok (parts_view found)
   pub written : text ≡ compact_text (data_of tree)
   pub again : envelope_at text ≡ Ok (data_of tree)

@@ -5,7 +5,7 @@ ghost use Rattle.serde_json.specs.View.{items_view, view as data_of};
 ghost use Rattle.serde_json.specs.Written.{compact_text};
 ghost use Rattle.envelope.specs.Entries.{entry_at, entry_data, entry_for, entry_in, of_items, of_three};
 ghost use Rattle.envelope.specs.Reading.{Gives, needed};
-ghost use Rattle.envelope.specs.ShownEntry.{entry_view, items_of};
+ghost use Rattle.envelope.specs.ShownEntry.{entry_view, parts_of_items};
 ghost use Rattle.envelope.specs.declared.fault.EnvelopeFault.TheVariants.{NotJson};
 
 use crate::envelope::Envelope;
@@ -118,7 +118,7 @@ pub(crate) struct Items<'a> {
 
 /// The items of an entry, or the fault that it is none.
 fn needed_items(value: &Value) -> Result<Items<'_>, EnvelopeFault>
-    ensures { Gives items_of result (needed NotJson (entry_in (data_of value.now))) }
+    ensures { Gives parts_of_items result (needed NotJson (entry_in (data_of value.now))) }
 {
     match found_items(value) {
         Some(found) => Ok(found),
@@ -128,14 +128,14 @@ fn needed_items(value: &Value) -> Result<Items<'_>, EnvelopeFault>
 
 /// The items of an entry.
 fn found_items(value: &Value) -> Option<Items<'_>>
-    ensures { option_map items_of result ≡ entry_in (data_of value.now) }
+    ensures { option_map parts_of_items result ≡ entry_in (data_of value.now) }
 {
     three_of(value.as_array()?.as_slice())
 }
 
 /// The items of a slice that has three of them.
 fn three_of(values: &[Value]) -> Option<Items<'_>>
-    ensures { option_map items_of result ≡ of_items (items_view values.now) }
+    ensures { option_map parts_of_items result ≡ of_items (items_view values.now) }
 {
     match values {
         [] | [_] | [_, _] => None,
@@ -146,7 +146,7 @@ fn three_of(values: &[Value]) -> Option<Items<'_>>
 
 /// The items, where the last two are texts.
 fn texts_of<'a>(tree: &'a Value, exchange: &'a Value, routing_key: &'a Value) -> Option<Items<'a>>
-    ensures { option_map items_of result
+    ensures { option_map parts_of_items result
         ≡ of_three (data_of tree.now) (data_of exchange.now) (data_of routing_key.now) }
 {
     let exchange = exchange.as_str()?;

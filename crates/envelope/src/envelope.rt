@@ -52,7 +52,7 @@ impl Model for Envelope {
     ghost use Rattle.std.specs.Coded.{codes};
     ghost use Rattle.serde_json.specs.contracts.value.Value as json_value;
     ghost use Rattle.serde_json.specs.declared.value.Value.{Value as JsonValue};
-    ghost use Rattle.envelope.specs.Shown.{IsWhole};
+    ghost use Rattle.envelope.specs.Shown.{TellsTree};
 
     ghost Value = { JsonValue };
 
@@ -60,7 +60,7 @@ impl Model for Envelope {
 
     ghost view = { λ e. e.tree };
 
-    ghost invariant = { λ e. IsWhole e.tree e.found e.text };
+    ghost invariant = { λ e. TellsTree e.tree e.found e.text };
 }
 
 impl Envelope {

@@ -2,7 +2,7 @@
 ghost use Rattle.std.specs.Prelude.{◌≡◌, option_map};
 ghost use Rattle.serde_json.specs.View.{view};
 ghost use Rattle.serde_json.specs.Find.{get};
-ghost use Rattle.envelope.specs.Members.{is_nothing, is_true_at, is_word, is_word_any_case, object_at, text_at};
+ghost use Rattle.envelope.specs.Members.{is_nothing, is_true_at, says_word, is_word_any_case, object_at, text_at};
 ghost use Rattle.envelope.specs.Reading.{Gives, needed, wanted};
 ghost use Rattle.envelope.specs.declared.fault.EnvelopeFault.TheVariants.{Missing};
 
@@ -60,7 +60,7 @@ pub(crate) fn needed_object<'a>(
 
 /// Whether the text at a name is the word.
 pub(crate) fn is_word_at(value: &Value, name: &str, word: &str) -> bool
-    ensures { result ≡ is_word word.now (text_at name.now (view value.now)) }
+    ensures { result ≡ says_word word.now (text_at name.now (view value.now)) }
 {
     match text(value, name) {
         Some(found) => found == word,

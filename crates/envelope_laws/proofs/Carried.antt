@@ -9,7 +9,7 @@ use Rattle.serde_json.specs.Find.{as_str}
 use Rattle.serde_json.specs.Read.{read, max_depth}
 use Rattle.serde_json.specs.Written.{compact_text}
 use Rattle.envelope.specs.Bodies.{carried}
-use Rattle.envelope.specs.Entries.{Entry, entry_at, entry_in, of_items, max_entry}
+use Rattle.envelope.specs.Entries.{EntryParts, entry_at, entry_in, of_items, max_entry}
 use Rattle.envelope.specs.Envelopes.{Parts, are_short, envelope_of, json_at, max_bytes, parts_in, parts_or_none, said_by}
 use Rattle.envelope.specs.Marks.{marked}
 use Rattle.envelope.specs.Reading.{needed, wanted}
@@ -32,10 +32,10 @@ use Rattle.envelope_laws.proofs.Written.{compact_utf8}
 
 -- ---- the tree of an entry
 
-some_entry : (e f : Entry) → ◌≡◌ {A = Option Entry} (Some e) (Some f) → e.tree ≡ f.tree
+some_entry : (e f : EntryParts) → ◌≡◌ {A = Option EntryParts} (Some e) (Some f) → e.tree ≡ f.tree
 some_entry e f h = let s : e ≡ f = cc in ap (λ x. x.tree) s
 
-three_tree : (t : Data) (a b : Option (List ℕ)) (f : Entry) → option_and_then (λ x. option_map (λ k. record { tree = t; exchange = x; routing_key = k }) b) a ≡ Some f → t ≡ f.tree
+three_tree : (t : Data) (a b : Option (List ℕ)) (f : EntryParts) → option_and_then (λ x. option_map (λ k. record { tree = t; exchange = x; routing_key = k }) b) a ≡ Some f → t ≡ f.tree
 three_tree t None b f e = cc
 three_tree t (Some x) None f e = cc
 three_tree t (Some x) (Some k) f e = some_entry (record { tree = t; exchange = x; routing_key = k }) f e
@@ -46,14 +46,14 @@ record IsArray (d t : Data) : Type 0 where
   routing_key : Data
   is : d ≡ array (item t (item exchange (item routing_key no_items)))
 
-items_array : (ds : Items) (f : Entry) → of_items ds ≡ Some f → IsArray (array ds) f.tree
+items_array : (ds : Items) (f : EntryParts) → of_items ds ≡ Some f → IsArray (array ds) f.tree
 items_array no_items f e = cc
 items_array (item t no_items) f e = cc
 items_array (item t (item x no_items)) f e = cc
 items_array (item t (item x (item r no_items))) f e = record { exchange = x; routing_key = r; is = ap (λ y. array (item y (item x (item r no_items)))) (three_tree t (as_str x) (as_str r) f e) }
 items_array (item t (item x (item r (item y ys)))) f e = cc
 
-entry_array : (d : Data) (f : Entry) → entry_in d ≡ Some f → IsArray d f.tree
+entry_array : (d : Data) (f : EntryParts) → entry_in d ≡ Some f → IsArray d f.tree
 entry_array null f e = cc
 entry_array (boolean b) f e = cc
 entry_array (number n) f e = cc
@@ -62,7 +62,7 @@ entry_array (array ds) f e = items_array ds f e
 entry_array (object ms) f e = cc
 
 -- what is known of an entry's tree
-record IsTold (f : Entry) : Type 0 where
+record IsTold (f : EntryParts) : Type 0 where
   texts : HasTexts f.tree
   sorted : Sorted f.tree
   parts : Parts
@@ -75,17 +75,17 @@ json_is b d e = go (is_utf8 b) refl e
     go true i f = (IsUtf8-from_is_utf8 b i, f)
     go false i f = cc
 
-same_entry : (e f : Entry) → ◌≡◌ {A = Result Entry EnvelopeFault} (Ok e) (Ok f) → e ≡ f
+same_entry : (e f : EntryParts) → ◌≡◌ {A = Result EntryParts EnvelopeFault} (Ok e) (Ok f) → e ≡ f
 same_entry e f h = cc
 
-tree_told : (u : List ℕ) (d : Data) (f : Entry) (p : Parts) → IsUtf8 u → read u ≡ Some d → entry_in d ≡ Some f → said_by f.tree ≡ Ok p → IsTold f
+tree_told : (u : List ℕ) (d : Data) (f : EntryParts) (p : Parts) → IsUtf8 u → read u ≡ Some d → entry_in d ≡ Some f → said_by f.tree ≡ Ok p → IsTold f
 tree_told u d f p utf8 text is said =
     let a = entry_array d f is in
     let t = subst HasTexts a.is (reads_texts u d utf8 text) in
     let s = subst Sorted a.is (read_sorted u d text) in
     record { texts = t.0; sorted = s.0; parts = p; said = said }
 
-told : (u : List ℕ) (f : Entry) → entry_at u ≡ Ok f → IsTold f
+told : (u : List ℕ) (f : EntryParts) → entry_at u ≡ Ok f → IsTold f
 unfolding entry_at
 told u f h =
     let a = bind_ok (wanted TooLong (nat_le (length u) max_entry)) _ f h in
@@ -95,14 +95,14 @@ told u f h =
     let w = bind_ok (wanted TooLong (are_short c.0.exchange c.0.routing_key)) _ f t.2 in
     done b.0 c.0 t.0 (json_is u b.0 (needed_is NotJson _ b.0 b.1)) (needed_is NotJson _ c.0 c.1) (envelope_said c.0.tree t.0 t.1) (same_entry (record { tree = t.0; exchange = c.0.exchange; routing_key = c.0.routing_key }) f w.2)
   where
-    done : (d : Data) (e : Entry) (t : Data) → IsUtf8 u × (read u ≡ Some d) → entry_in d ≡ Some e → (e.tree ≡ t) × ((p : Parts) × (said_by e.tree ≡ Ok p)) → ◌≡◌ {A = Entry} (record { tree = t; exchange = e.exchange; routing_key = e.routing_key }) f → IsTold f
+    done : (d : Data) (e : EntryParts) (t : Data) → IsUtf8 u × (read u ≡ Some d) → entry_in d ≡ Some e → (e.tree ≡ t) × ((p : Parts) × (said_by e.tree ≡ Ok p)) → ◌≡◌ {A = EntryParts} (record { tree = t; exchange = e.exchange; routing_key = e.routing_key }) f → IsTold f
     done d e t r i s same =
         let whole : e ≡ f = ap (λ (x : Data). record { tree = x; exchange = e.exchange; routing_key = e.routing_key }) s.0 ∙ same in
-        tree_told u d f s.1.0 r.0 r.1 (i ∙ ap (λ x. Some x) whole) (ap (λ (x : Entry). said_by x.tree) (sym whole) ∙ s.1.1)
+        tree_told u d f s.1.0 r.0 r.1 (i ∙ ap (λ x. Some x) whole) (ap (λ (x : EntryParts). said_by x.tree) (sym whole) ∙ s.1.1)
 
 -- ---- the envelope
 
-out : (f : Entry) → IsTold f → IsCarried f (compact_text (marked f.tree))
+out : (f : EntryParts) → IsTold f → IsCarried f (compact_text (marked f.tree))
 out f k =
     let d = f.tree in
     let known = said_is d k.parts k.said in
@@ -121,10 +121,10 @@ out f k =
       tag = ap (λ r. option_map (λ p. tag_text p.tag) (option_map parts_in (result_ok r))) envelope ∙ ap (λ (p : Parts). Some (tag_text p.tag)) same;
     }
 
-pub carries : (u v : List ℕ) → carried u ≡ Some v → (e : Entry) × (entry_at u ≡ Ok e) × IsCarried e v
+pub carries : (u v : List ℕ) → carried u ≡ Some v → (e : EntryParts) × (entry_at u ≡ Ok e) × IsCarried e v
 carries u v h = go (result_ok (entry_at u)) refl h
   where
-    go : (o : Option Entry) → result_ok (entry_at u) ≡ o → option_map (λ f. compact_text (marked f.tree)) o ≡ Some v → (e : Entry) × (entry_at u ≡ Ok e) × IsCarried e v
+    go : (o : Option EntryParts) → result_ok (entry_at u) ≡ o → option_map (λ f. compact_text (marked f.tree)) o ≡ Some v → (e : EntryParts) × (entry_at u ≡ Ok e) × IsCarried e v
     go None i g = cc
     go (Some f) i g =
         let is : compact_text (marked f.tree) ≡ v = cc in

@@ -7,7 +7,7 @@ use Rattle.serde_json.specs.Data.{Data, string, no_items, item, items_depth, dep
 use Rattle.serde_json.specs.Read.{read, max_depth}
 use Rattle.serde_json.specs.Written.{compact_text, items_have_float}
 use Rattle.envelope.specs.Bodies.{carried, entry_of, entry_text, exchange_or, if_plain, parts_at, routing_key_or}
-use Rattle.envelope.specs.Entries.{Entry, entry_at, entry_data, entry_for}
+use Rattle.envelope.specs.Entries.{EntryParts, entry_at, entry_data, entry_for}
 use Rattle.envelope.specs.Envelopes.{envelope_at, max_levels, parts_in}
 use Rattle.envelope.specs.Marks.{marked}
 use Rattle.envelope.proofs.BodyTexts.{envelope_from_read}
@@ -52,4 +52,4 @@ pub entered : (v : List ℕ) (d : Data) → envelope_at v ≡ Ok d
 entered v d e =
     let w = entry_written v d e in
     let a : entry_at (entry_of v) ≡ Ok (entry_for d) = ap entry_at w ∙ written_read v d e in
-    (w, a, ap (λ r. option_map (λ (f : Entry). compact_text (marked f.tree)) (result_ok r)) a)
+    (w, a, ap (λ r. option_map (λ (f : EntryParts). compact_text (marked f.tree)) (result_ok r)) a)

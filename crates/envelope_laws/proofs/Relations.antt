@@ -13,7 +13,7 @@ use Rattle.base64.specs.declared.decode.DecodeError.{DecodeError}
 use Rattle.base64.proofs.EngineFacts.{decode_of-encode_of, decode_of_strict}
 use Rattle.serde_json.specs.Data.{Data}
 use Rattle.envelope.specs.Envelopes.{Parts, content_of, envelope_at, if_text, max_name, parts_in, parts_or_none, said_by}
-use Rattle.envelope.specs.Members.{is_word}
+use Rattle.envelope.specs.Members.{says_word}
 use Rattle.envelope.specs.Relations.{HasMembers, IsEnvelope, IsProperties, IsTree}
 use Rattle.envelope.proofs.BodyTexts.{envelope_from_read}
 use Rattle.envelope.proofs.EntryTexts.{short_names}
@@ -27,12 +27,12 @@ use Rattle.envelope_laws.proofs.Octets.{utf8_bytes}
 
 -- ---- words and bodies
 
-word_is : (word : List ℕ) (o : Option (List ℕ)) → is_word word o ≡ true → o ≡ Some word
+word_is : (word : List ℕ) (o : Option (List ℕ)) → says_word word o ≡ true → o ≡ Some word
 word_is word None e = cc
 word_is word (Some s) e = ap (λ (x : List ℕ). Some x) ((bytes_eq-Decides s word).0 e)
 
-is_the_word : (word : List ℕ) (o : Option (List ℕ)) → o ≡ Some word → is_word word o ≡ true
-is_the_word word o e = ap (is_word word) e ∙ (bytes_eq-Decides word word).1 refl
+is_the_word : (word : List ℕ) (o : Option (List ℕ)) → o ≡ Some word → says_word word o ≡ true
+is_the_word word o e = ap (says_word word) e ∙ (bytes_eq-Decides word word).1 refl
 
 text_is : (v c : List ℕ) → if_text v ≡ Some c → (v ≡ c) × IsUtf8 c
 text_is v c e = go (is_utf8 v) refl e

@@ -3,13 +3,13 @@ use Rattle.std.specs.Prelude.{◌≡◌, ℕ, true, List, Some, Ok}
 use Rattle.serde_json.specs.Data.{Data}
 use Rattle.serde_json.specs.Written.{compact_text}
 use Rattle.envelope.specs.Bodies.{carried, entry_of, tag_of_bytes}
-use Rattle.envelope.specs.Entries.{Entry, entry_at, entry_data, entry_for}
+use Rattle.envelope.specs.Entries.{EntryParts, entry_at, entry_data, entry_for}
 use Rattle.envelope.specs.Envelopes.{envelope_at, parts_in, priority_of}
 use Rattle.envelope.specs.Marks.{is_marked, marked}
 use Rattle.envelope.specs.Tags.{tag_text}
 
 -- the bytes are an envelope again: the entry's tree with both marks set, which says what that tree says
-pub record IsCarried (e : Entry) (v : List ℕ) : Type 0 where
+pub record IsCarried (e : EntryParts) (v : List ℕ) : Type 0 where
   pub envelope : envelope_at v ≡ Ok (marked e.tree)  -- the bytes are an envelope of the marked tree
   pub marks : is_marked (marked e.tree) ≡ true  -- both its marks are true
   pub parts : parts_in (marked e.tree) ≡ parts_in e.tree  -- its content, its tag, its exchange and its routing key are the entry's
@@ -18,7 +18,7 @@ pub record IsCarried (e : Entry) (v : List ℕ) : Type 0 where
 
 -- what an entry carries is its envelope, marked
 abbrev pub EntriesCarryEnvelopes : Type 0
-EntriesCarryEnvelopes = (u v : List ℕ) → carried u ≡ Some v → (e : Entry) × (entry_at u ≡ Ok e) × IsCarried e v
+EntriesCarryEnvelopes = (u v : List ℕ) → carried u ≡ Some v → (e : EntryParts) × (entry_at u ≡ Ok e) × IsCarried e v
 
 -- the entry of an envelope is the compact text of its array, is read as that entry, and carries the envelope with both marks set
 abbrev pub EnvelopesGoIn : Type 0

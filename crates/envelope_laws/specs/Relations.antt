@@ -1,7 +1,7 @@
 -- What is read as an envelope or an entry, and what is one.
 use Rattle.std.specs.Prelude.{◌≡◌, ◌↔◌, ℕ, List, Ok}
 use Rattle.serde_json.specs.Data.{Data}
-use Rattle.envelope.specs.Entries.{Entry, entry_at}
+use Rattle.envelope.specs.Entries.{EntryParts, entry_at}
 use Rattle.envelope.specs.Envelopes.{Parts, envelope_at, said_by}
 use Rattle.envelope.specs.Relations.{IsEntry, IsEnvelope, IsTree}
 
@@ -11,7 +11,7 @@ ReadsEnvelopes = (d : Data) (b : List ℕ) → (envelope_at b ≡ Ok d) ↔ IsEn
 
 -- reading bytes gives an entry exactly where the bytes are that entry's
 abbrev pub ReadsEntries : Type 0
-ReadsEntries = (e : Entry) (b : List ℕ) → (entry_at b ≡ Ok e) ↔ IsEntry e b
+ReadsEntries = (e : EntryParts) (b : List ℕ) → (entry_at b ≡ Ok e) ↔ IsEntry e b
 
 -- an envelope's tree says its parts
 abbrev pub TreesSay : Type 0

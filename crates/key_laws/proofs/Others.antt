@@ -3,13 +3,13 @@ use Rattle.std.proofs.Common.{◌≡◌, ℕ, zero, suc, ◌+◌, [], ◌∷◌,
 use Rattle.std.proofs.lemmas.List.{reverse-append}
 use Rattle.queue_keys.specs.Names.{Bytes, same, has_front, has_end, all_free, is_free, is_reserved, is_name, unacked_name, index_name, mutex_name, binding_front, result_front, reply_end}
 use Rattle.queue_keys.specs.Layouts.{Layout}
-use Rattle.queue_keys.specs.QueueKeys.{step_mark, key, unacked_key, index_key, mutex_key, binding_key, rest_after, is_queue_key, is_reply_key, ends_as_reply}
+use Rattle.queue_keys.specs.QueueKeys.{step_mark, key, unacked_key, index_key, mutex_key, binding_key, after_front, is_queue_key, is_reply_key, ends_as_reply}
 use Rattle.queue_keys.proofs.Basics.{same-refl, same_false, and_true, eqb-refl, false_true}
 use Rattle.queue_keys.proofs.Splits.{rest_after-front, rest_after_is, name_free, is_key}
 
 -- the rest of a key with this prefix
 rest_alike : (p a b : Bytes) → p ++ a ≡ p ++ b → a ≡ b
-rest_alike p a b e = let f : Some a ≡ Some b = sym (rest_after-front p a) ∙ ap (rest_after p) e ∙ rest_after-front p b in cc
+rest_alike p a b e = let f : Some a ≡ Some b = sym (rest_after-front p a) ∙ ap (after_front p) e ∙ rest_after-front p b in cc
 
 -- a key is no queue's where no lawful name with a mark spells it
 no_queue : (l : Layout) (k : Bytes) → ((q : Bytes) (s : ℕ) → is_name q ≡ true → k ≡ q ++ step_mark s → ⊥) → is_queue_key l (key l k) ≡ false
@@ -94,9 +94,9 @@ marked_end q (suc s) h =
     off d r = elim (120 == d) as (λ t. (if t then false else false) ≡ false) [ true ↦ refl | false ↦ refl ]
 
 reply_rest : (l : Layout) (k : Bytes) → is_reply_key l k ≡ true → (r : Bytes) × (k ≡ key l r) × (has_end reply_end r ≡ true)
-reply_rest l k h = go (rest_after l.prefix k) refl h
+reply_rest l k h = go (after_front l.prefix k) refl h
   where
-    go : (o : Option Bytes) → rest_after l.prefix k ≡ o → ends_as_reply o ≡ true → (r : Bytes) × (k ≡ key l r) × (has_end reply_end r ≡ true)
+    go : (o : Option Bytes) → after_front l.prefix k ≡ o → ends_as_reply o ≡ true → (r : Bytes) × (k ≡ key l r) × (has_end reply_end r ≡ true)
     go None e i = false_true i
     go (Some r) e i = (r, rest_after_is l.prefix k r e, i)
 

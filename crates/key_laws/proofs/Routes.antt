@@ -9,7 +9,7 @@ use Rattle.queue_keys.specs.Names.{Bytes, is_name, is_free, all_free, has_front}
 use Rattle.queue_keys.specs.Layouts.{Layout, HasStep}
 use Rattle.queue_keys.specs.QueueKeys.{is_queue_key, Each, IsAway, Differ}
 use Rattle.queue_keys.specs.Bindings.{Binding, member, parts, onto_parts, of_parts, binding_of}
-use Rattle.queue_keys.specs.Lookup.{binds, insert_once, with_queue, lookup, queues_for, route_keys}
+use Rattle.queue_keys.specs.Lookup.{binds, insert_once, with_bound_queue, lookup, queues_for, route_keys}
 use Rattle.queue_keys.proofs.Basics.{bytes_total, and_true, none_some}
 use Rattle.queue_keys.proofs.Splits.{name_free, not_six}
 use Rattle.key_laws.proofs.Lists.{at_are, at_differ}
@@ -43,7 +43,7 @@ insert_named q (x ∷ xs) n e =
       | Greater ↦ (e.0, insert_named q xs n e.1)
     ]
 
-with_named : (r : Bytes) (o : Option Binding) (qs : List Bytes) → ((b : Binding) → o ≡ Some b → is_name b.queue ≡ true) → Each is_name qs → Each is_name (with_queue r o qs)
+with_named : (r : Bytes) (o : Option Binding) (qs : List Bytes) → ((b : Binding) → o ≡ Some b → is_name b.queue ≡ true) → Each is_name qs → Each is_name (with_bound_queue r o qs)
 with_named r None qs h e = e
 with_named r (Some b) qs h e = elim (binds r b) as (λ t. Each is_name (if t then insert_once b.queue qs else qs)) [ true ↦ insert_named b.queue qs (h b refl) e | false ↦ e ]
 
@@ -114,7 +114,7 @@ insert_rising q (x ∷ xs) h =
       | Greater ↦ λ e. (above_insert x q xs (turned (slice_cmp nat_cmp q x) (slice_cmp nat_cmp x q) e (bytes_total.antisymm x q)) h.0, insert_rising q xs h.1)
     ] refl
 
-with_rising : (r : Bytes) (o : Option Binding) (qs : List Bytes) → Rising qs → Rising (with_queue r o qs)
+with_rising : (r : Bytes) (o : Option Binding) (qs : List Bytes) → Rising qs → Rising (with_bound_queue r o qs)
 with_rising r None qs e = e
 with_rising r (Some b) qs e = elim (binds r b) as (λ t. Rising (if t then insert_once b.queue qs else qs)) [ true ↦ insert_rising b.queue qs e | false ↦ e ]
 

@@ -1,7 +1,7 @@
 -- What the texts of envelopes and of their entries spell.
 use Rattle.std.proofs.Common.{◌≡◌, ℕ, List, false, codes, Option, Some, None, Result, Ok, Err, refl, sym, ap, ◌∙◌}
 use Rattle.serde_json.specs.Data.{Data, null, boolean, number, string, array, object}
-use Rattle.envelope.specs.Entries.{Entry, entry_at, entry_in}
+use Rattle.envelope.specs.Entries.{EntryParts, entry_at, entry_in}
 use Rattle.envelope.specs.Envelopes.{envelope_at, parts_in}
 use Rattle.envelope.specs.Members.{text_at}
 use Rattle.envelope.specs.declared.fault.EnvelopeFault.{EnvelopeFault}
@@ -14,7 +14,7 @@ same_tree : (a b : Data) → ◌≡◌ {A = Option Data} (Some a) (Some b) → a
 same_tree a b e = cc
 
 -- a tree with a body is no array
-no_array : (d : Data) (s : List ℕ) (f : Entry) → text_at (codes "body") d ≡ Some s → entry_in d ≡ Some f → ⊥
+no_array : (d : Data) (s : List ℕ) (f : EntryParts) → text_at (codes "body") d ≡ Some s → entry_in d ≡ Some f → ⊥
 no_array null s f e i = cc
 no_array (boolean b) s f e i = cc
 no_array (number n) s f e i = cc
@@ -23,7 +23,7 @@ no_array (array ds) s f e i = cc
 no_array (object ms) s f e i = cc
 
 -- an entry is no envelope
-no_envelope : (w : List ℕ) (f : Entry) (d : Data) → entry_at w ≡ Ok f → envelope_at w ≡ Ok d → ⊥
+no_envelope : (w : List ℕ) (f : EntryParts) (d : Data) → entry_at w ≡ Ok f → envelope_at w ≡ Ok d → ⊥
 no_envelope w f d e h =
     let k = envelope_from_read d w h in
     let r = entry_is_read w f e in
@@ -37,7 +37,7 @@ unfolding letter_of
 of_envelope w d e = rw e refl
 
 -- the text of an entry
-pub of_entry : (w : List ℕ) (f : Entry) → entry_at w ≡ Ok f → letter_of w ≡ Some (entry_letter f.tree)
+pub of_entry : (w : List ℕ) (f : EntryParts) → entry_at w ≡ Ok f → letter_of w ≡ Some (entry_letter f.tree)
 unfolding letter_of
 of_entry w f e = go (envelope_at w) refl
   where

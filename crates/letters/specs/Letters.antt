@@ -1,7 +1,7 @@
 -- What a text spells: an envelope, or else an entry of the table.
 use Rattle.std.specs.Prelude.{ℕ, List, Option, None, Some, Result, Ok, Err}
 use Rattle.serde_json.specs.Data.{Data}
-use Rattle.envelope.specs.Entries.{Entry, entry_at}
+use Rattle.envelope.specs.Entries.{EntryParts, entry_at}
 use Rattle.envelope.specs.Envelopes.{envelope_at, parts_in}
 use Rattle.envelope.specs.Marks.{is_marked}
 use Rattle.envelope.specs.declared.fault.EnvelopeFault.{EnvelopeFault}
@@ -17,7 +17,7 @@ abbrev pub entry_letter : Data → Letter
 entry_letter d = letter.Entry (parts_in d).tag (is_marked d)
 
 -- what is no envelope: an entry, or nothing that is told
-abbrev pub entry_or_none : Result Entry EnvelopeFault → Option Letter
+abbrev pub entry_or_none : Result EntryParts EnvelopeFault → Option Letter
 entry_or_none (Ok e) = Some (entry_letter e.tree)
 entry_or_none (Err fault) = None
 

@@ -33,9 +33,9 @@ integer_in word =
     then Some (neg_ℤ (pos (digits_value 10 (drop 1 word)))) else None
 
 -- both, where both are there
-abbrev pub both : Option ℕ → Option ℕ → Option (ℕ × ℕ)
-both (Some m) (Some n) = Some (m, n)
-both m n = None
+abbrev pub both_parts : Option ℕ → Option ℕ → Option (ℕ × ℕ)
+both_parts (Some m) (Some n) = Some (m, n)
+both_parts m n = None
 
 -- a seed or counter of 64 bits
 abbrev pub part_in : List ℕ → Option ℕ
@@ -45,4 +45,4 @@ part_in word = number_in 0 (2 ^ 64 - 1) word
 abbrev pub tag_in : List ℕ → Option (ℕ × ℕ)
 tag_in word =
     if list_any (λ b. b == 58) word
-    then both (part_in (before_first (λ b. b == 58) word)) (part_in (after_first (λ b. b == 58) word)) else None
+    then both_parts (part_in (before_first (λ b. b == 58) word)) (part_in (after_first (λ b. b == 58) word)) else None

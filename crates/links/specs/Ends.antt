@@ -7,7 +7,7 @@ use Rattle.links.specs.declared.whole.ReadEnd.TheVariants.{Fault, Long, Memory}
 use Rattle.links.specs.declared.whole.ReadEnd.{ReadEnd}
 
 -- all bytes up to the end, which the source told, and no fault
-pub record IsWhole (limit : ℕ) (before now : SourceView) (bytes : List ℕ) : Type 0 where
+pub record IsWholeInput (limit : ℕ) (before now : SourceView) (bytes : List ℕ) : Type 0 where
   pub consumed : Consumes before.left now.left bytes
   pub end : IsAtEnd now.left
   pub told : Rose before.ends now.ends

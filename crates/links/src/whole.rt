@@ -2,7 +2,7 @@
 ghost use Rattle.std.specs.Io.KnownBytes.{Appends};
 ghost use Rattle.std.specs.Prelude.{◌<◌, ◌≡◌, ◌^◌, ◌≤◌, IfErr, IfOk, OnErr, OnOk, length, vec_len};
 ghost use Rattle.links.specs.Causes.{AppendsFront, HasCause};
-ghost use Rattle.links.specs.Ends.{HasReadEnd, IsWhole};
+ghost use Rattle.links.specs.Ends.{HasReadEnd, IsWholeInput};
 ghost use Rattle.links.specs.Views.{source_view};
 
 use crate::{Failed, Sink, Source};
@@ -51,7 +51,7 @@ impl From<AllocError> for ReadEnd {
 /// Reads all bytes up to the end, at most `limit` of them. It takes at most one byte past the limit.
 pub fn read_to_end<S: Source>(alloc: Global, src: &mut S, limit: u64) -> Result<Bytes, ReadEnd>
     requires { limit < 2 ^ 63 }
-    ensures all { IfOk result (IsWhole limit
+    ensures all { IfOk result (IsWholeInput limit
         (source_view S.left S.read_faults S.ends src.old)
         (source_view S.left S.read_faults S.ends src.new)) }
     ensures end { IfErr result (HasReadEnd limit
@@ -78,7 +78,7 @@ fn read_pieces<S: Source>(
 ) -> Result<Bytes, ReadEnd>
     requires limit { limit < 2 ^ 63 }
     requires room { 1 ≤ length buffer.old }
-    ensures all { IfOk result (IsWhole limit
+    ensures all { IfOk result (IsWholeInput limit
         (source_view S.left S.read_faults S.ends src.old)
         (source_view S.left S.read_faults S.ends src.new)) }
     ensures end { IfErr result (HasReadEnd limit

@@ -15,9 +15,9 @@ use Rattle.command_blocks.specs.Blocks.{IsNeutral, Pings, Selects, Measures, Sub
 use Rattle.command_blocks.specs.declared.block.Side.{Side}
 use Rattle.command_blocks.specs.declared.block.Side.TheVariants.{Left, Right}
 use Rattle.key_laws.proofs.Routes.{binding_of-member}
-use Rattle.manner_laws.specs.Spots.{Job, Open, Alone, Of_pass, MayPush, settled, Spot, Free, End_begun, Looking, Putting, pushing, Ask, Count, Consent, Queueing, Anything, Bindings, Message, Lock, Due}
+use Rattle.manner_laws.specs.Spots.{Job, Open, Alone, Of_pass, MayPush, sided, Spot, Free, End_begun, Looking, Putting, pushing, Ask, Count, Consent, Queueing, Anything, Bindings, Message, Lock, Due}
 use Rattle.manner_laws.specs.Machine.{Begins, Declares, Undeclares, Publishes, Lists, Pops, Ends, Returns, Passes, Concerns_none, Asks, Starts, Starts_next, Pushes_first, Pushes, Pop_begins, Pop_indexes, Pop_sets, End_removes, End_deletes, Executes, Names, Tries, Reads, Leaves, Looks_up, Takes, Removes, Deletes, Puts, Moves, Looks, Turns, Lets_go, Inspects, Release_begins, Release_deletes, Release_ends, Leaves_foreign}
-use Rattle.manner_laws.specs.Cursor.{same_words, is_command, second, third, middle, only_if, if_said, is_text, all_names, queues_among, declaration_ask, publication_ask, bindings_ask, pop_ask, neutral_ask, start_ask, first_push_ask, or_else, side_said, side_for, ask_at, IsReadable}
+use Rattle.manner_laws.specs.Cursor.{same_words, is_command, second, third, middle, only_if, if_said, is_text, all_names, queues_among, declaration_ask, publication_ask, bindings_ask, pop_ask, neutral_ask, start_ask, first_push_ask, or_ask, side_said, side_for, ask_at, IsReadable}
 use Rattle.manner_laws.proofs.Tests.{false_true, none_some, bytes_itself, bytes_true, and_true, both_true, words_itself, words_true, only_if_is, only_if-true, said, pick_true, pick_false, is_text_is, is_text-Some, all_names-names, true_le, true_lt, middle-between}
 use Rattle.manner_laws.proofs.Seconds.{seconds_before-difference}
 
@@ -25,11 +25,11 @@ no_text : (o : Option Bytes) → o ≡ None → not (is_some o) ≡ true
 no_text None e = refl
 no_text (Some x) e = none_some _ x (sym e)
 
-or_else-first : (o later : Option Ask) (q : Ask) → o ≡ Some q → or_else o later ≡ Some q
+or_else-first : (o later : Option Ask) (q : Ask) → o ≡ Some q → or_ask o later ≡ Some q
 or_else-first None later q e = none_some _ q e
 or_else-first (Some x) later q e = e
 
-or_else-later : (o later : Option Ask) (q : Ask) → o ≡ None → later ≡ Some q → or_else o later ≡ Some q
+or_else-later : (o later : Option Ask) (q : Ask) → o ≡ None → later ≡ Some q → or_ask o later ≡ Some q
 or_else-later None later q e f = f
 or_else-later (Some x) later q e f = none_some _ x (sym e)
 
@@ -183,7 +183,7 @@ module _ (σ : Setting) (exchange_at : Bytes → Option Bytes) (s : ℕ) (laws :
   ask-allowed c a words q time (Removes n p b j k v x xs) = said words q
   ask-allowed c a words q time (Deletes n p b j k v x xs) = said words q
   ask-allowed c a words q time (Puts n p b j k v x xs side may) =
-      subst (λ z. if_said (push_word z ∷ x ∷ v ∷ []) words (Queueing (Putting n p (settled j z) k v xs)) ≡ Some q) (sym (side_is j side (x ∷ v ∷ []) may)) (said (push_word side ∷ x ∷ v ∷ []) (Queueing (Putting n p (settled j side) k v xs)))
+      subst (λ z. if_said (push_word z ∷ x ∷ v ∷ []) words (Queueing (Putting n p (sided j z) k v xs)) ≡ Some q) (sym (side_is j side (x ∷ v ∷ []) may)) (said (push_word side ∷ x ∷ v ∷ []) (Queueing (Putting n p (sided j side) k v xs)))
   ask-allowed c a words q time (Moves n p b j k v) = said words q
   ask-allowed c a words q time (Looks n p b v lt) =
       subst (λ z. only_if (nat_lt z (2 ^ 32)) (if_said (due_words σ a z) words (Due n p)) ≡ Some q) (sym (seconds_before-difference a v time lt))

@@ -12,7 +12,7 @@ use Rattle.command_blocks.specs.PassBlocks.{lock_words, due_words}
 use Rattle.command_blocks.specs.Blocks.{IsNeutral, Pings, Selects, Measures, Subscribes, Unsubscribes, Announces, Replies, Receives, Limits}
 use Rattle.manner_laws.specs.Spots.{Job, Open, Alone, Of_pass, MayPush, Spot, Free, Listed, Pushing, Popped, Pop_begun, Pop_indexed, End_begun, End_removed, Filled, Looking, Waiting, Watched, Leaving, Asking, Ready, Begun, Removed, Putting, Locked, Turning, Release_watched, Release_own, Release_begun, Release_deleted, Release_foreign, pushing, Ask, Count, Consent, Queueing, Anything, Bindings, Message, Entry, Lock, Due}
 use Rattle.manner_laws.specs.Machine.{Begins, Declares, Undeclares, Publishes, Lists, Pops, Ends, Returns, Passes, Concerns_none, Asks, Starts, Starts_next, Pushes_first, Pushes, Pop_begins, Pop_indexes, Pop_sets, End_removes, End_deletes, Executes, Names, Tries, Reads, Leaves, Looks_up, Takes, Removes, Deletes, Puts, Moves, Looks, Turns, Lets_go, Inspects, Release_begins, Release_deletes, Release_ends, Leaves_foreign}
-use Rattle.manner_laws.specs.Cursor.{same_words, is_command, second, third, further, middle, if_said, is_text, all_names, queues_among, seconds_before, declaration_ask, publication_ask, bindings_ask, pop_ask, neutral_ask, start_ask, first_push_ask, or_else, side_for, ask_at}
+use Rattle.manner_laws.specs.Cursor.{same_words, is_command, second, third, further, middle, if_said, is_text, all_names, queues_among, seconds_before, declaration_ask, publication_ask, bindings_ask, pop_ask, neutral_ask, start_ask, first_push_ask, or_ask, side_for, ask_at}
 use Rattle.manner_laws.proofs.Tests.{none_some, bytes_true, and_true, words_true, only_if_is, moved, split, is_text_is, not_some, names_are, le_true, lt_true}
 
 module _ (σ : Setting) (exchange_at : Bytes → Option Bytes) (s : ℕ) where
@@ -139,7 +139,7 @@ module _ (σ : Setting) (exchange_at : Bytes → Option Bytes) (s : ℕ) where
       moved (Asks σ s (Listed n p e ms) a) (codes "LPUSH" ∷ k ∷ v ∷ []) words (Count (pushing n p v xs)) q
       (Pushes_first n p e ms a k v xs (is_text_is (σ.tag s (suc n)) (σ.written_tag v) w.0) (is_text_is e (σ.exchange_of v) w.1) (keys ∙ ap (λ (b : Bytes). b ∷ xs) (sym (bytes_true k x z.1)))) y.1
 
-  or_else_is : (o later : Option Ask) (q : Ask) → or_else o later ≡ Some q → (o ≡ Some q) ⊎ (later ≡ Some q)
+  or_else_is : (o later : Option Ask) (q : Ask) → or_ask o later ≡ Some q → (o ≡ Some q) ⊎ (later ≡ Some q)
   or_else_is None later q h = inr h
   or_else_is (Some x) later q h = inl h
 

@@ -10,7 +10,7 @@ use Rattle.command_blocks.specs.Calls.{Call, call}
 use Rattle.command_blocks.specs.Blocks.{IsFrontOfBlocks, IsUnlisted, IsMannered}
 use Rattle.manner_laws.specs.Spots.{Spot, Free, Ask, Count, Consent, Queueing, Counts, Anything, Bindings, Message, Entry, Routes, Move, Lock, Due, Holder, Release}
 use Rattle.manner_laws.specs.Machine.{Asks, Tells, Counted, Consented, Was_queued, Counted_both, Answered, Bound, Nothing_there, Missing, Looked_up, Moved, Taken, Members, Nobody, Altered, Goes, Runs}
-use Rattle.manner_laws.specs.Cursor.{ask_at, spot_after, Cursor, At, Unlisted, Unmannered, cursor_at, heard, judge, cursor_after, cursor_of, IsReadable, AreTimely}
+use Rattle.manner_laws.specs.Cursor.{ask_at, spot_after, Cursor, At, Unlisted, Unmannered, cursor_at, cursor_after, judge, cursor_after, cursor_of, IsReadable, HaveMomentsOf64Bits}
 use Rattle.manner_laws.proofs.Made.{runs_join, runs_split}
 use Rattle.manner_laws.proofs.Ways.{done_right, front_runs, runs_front}
 use Rattle.manner_laws.proofs.Asked.{ask_is}
@@ -29,15 +29,15 @@ unmannered_at c e = cc
 not_unlisted : {P : Type 0} → Unmannered ≡ Unlisted → P
 not_unlisted e = cc
 
-timely_swap : (before : List Call) (a : ℕ) (words : Words) (r r' : Value) → AreTimely (before ++ call a words r ∷ []) → AreTimely (before ++ call a words r' ∷ [])
+timely_swap : (before : List Call) (a : ℕ) (words : Words) (r r' : Value) → HaveMomentsOf64Bits (before ++ call a words r ∷ []) → HaveMomentsOf64Bits (before ++ call a words r' ∷ [])
 timely_swap [] a words r r' h = h
 timely_swap (x ∷ xs) a words r r' h = (h.0, timely_swap xs a words r r' h.1)
 
-timely_front : (before rest : List Call) → AreTimely (before ++ rest) → AreTimely before
+timely_front : (before rest : List Call) → HaveMomentsOf64Bits (before ++ rest) → HaveMomentsOf64Bits before
 timely_front [] rest h = tt
 timely_front (x ∷ xs) rest h = (h.0, timely_front xs rest h.1)
 
-timely_last : (before : List Call) (a : ℕ) (words : Words) (r : Value) → AreTimely (before ++ call a words r ∷ []) → a < 2 ^ 64
+timely_last : (before : List Call) (a : ℕ) (words : Words) (r : Value) → HaveMomentsOf64Bits (before ++ call a words r ∷ []) → a < 2 ^ 64
 timely_last [] a words r h = h.0
 timely_last (x ∷ xs) a words r h = timely_last xs a words r h.1
 
@@ -66,14 +66,14 @@ module _ (σ : Setting) (exchange_at : Bytes → Option Bytes) (s : ℕ) where
       told q None e f h = not_at c' h
       told q (Some d) e f h = record { ask = q; asks = ask_is σ exchange_at s c x.at x.words q e; tells = subst (Tells σ s q x.answer) (at_parts d c' h) (told_is σ s q x.answer d f) }
 
-      go : (o : Option Ask) → ask_at σ exchange_at s c x.at x.words ≡ o → heard σ s o x.answer ≡ At c' → Goes σ s c x c'
+      go : (o : Option Ask) → ask_at σ exchange_at s c x.at x.words ≡ o → cursor_after σ s o x.answer ≡ At c' → Goes σ s c x c'
       go None e h = unmannered_at c' h
       go (Some q) e h = told q (spot_after σ s q x.answer) e refl h
 
   judged_asks : (c : Spot) (x : Call) → judge σ exchange_at s (At c) x ≡ Unlisted → (q : Ask) × Asks σ s c x.at x.words q
   judged_asks c x h = go (ask_at σ exchange_at s c x.at x.words) refl h
     where
-      go : (o : Option Ask) → ask_at σ exchange_at s c x.at x.words ≡ o → heard σ s o x.answer ≡ Unlisted → (q : Ask) × Asks σ s c x.at x.words q
+      go : (o : Option Ask) → ask_at σ exchange_at s c x.at x.words ≡ o → cursor_after σ s o x.answer ≡ Unlisted → (q : Ask) × Asks σ s c x.at x.words q
       go None e h = not_unlisted h
       go (Some q) e h = (q, ask_is σ exchange_at s c x.at x.words q e)
 
@@ -125,19 +125,19 @@ module _ (σ : Setting) (exchange_at : Bytes → Option Bytes) (s : ℕ) where
 module _ (σ : Setting) (exchange_at : Bytes → Option Bytes) (laws : IsLawful σ) (readable : IsReadable σ exchange_at) (s : ℕ) where
   goes_judged : (c c' : Spot) (x : Call) → x.at < 2 ^ 64 → Goes σ s c x c' → judge σ exchange_at s (At c) x ≡ At c'
   goes_judged c c' x time g =
-      ap (λ o. heard σ s o x.answer) (ask-allowed σ exchange_at s laws readable c x.at x.words g.ask time g.asks) ∙ ap cursor_at (told-allowed σ s g.ask x.answer c' g.tells)
+      ap (λ o. cursor_after σ s o x.answer) (ask-allowed σ exchange_at s laws readable c x.at x.words g.ask time g.asks) ∙ ap cursor_at (told-allowed σ s g.ask x.answer c' g.tells)
 
-  runs_judged : (l : List Call) (c c' : Spot) → AreTimely l → Runs σ s c l c' → cursor_after σ exchange_at s (At c) l ≡ At c'
+  runs_judged : (l : List Call) (c c' : Spot) → HaveMomentsOf64Bits l → Runs σ s c l c' → cursor_after σ exchange_at s (At c) l ≡ At c'
   runs_judged [] c c' time r = ap At r
   runs_judged (x ∷ xs) c c' time r = ap (λ z. cursor_after σ exchange_at s z xs) (goes_judged c r.0 x time.0 r.1) ∙ runs_judged xs r.0 c' time.1 r.2
 
-  pub front_at : (l : List Call) → AreTimely l → IsFrontOfBlocks σ s l → (c : Spot) × (cursor_of σ exchange_at s l ≡ At c)
+  pub front_at : (l : List Call) → HaveMomentsOf64Bits l → IsFrontOfBlocks σ s l → (c : Spot) × (cursor_of σ exchange_at s l ≡ At c)
   front_at l time h = let r = front_runs σ s laws readable.tells l h in (r.0, runs_judged l (Free 0 0) r.0 time r.1)
 
   pub at_front : (l : List Call) (c : Spot) → cursor_of σ exchange_at s l ≡ At c → IsFrontOfBlocks σ s l
   at_front l c h = runs_front σ s laws l (c, judged_runs σ exchange_at s l (Free 0 0) c h)
 
-  pub unlisted_cursor : (l : List Call) → AreTimely l → IsUnlisted σ s l → cursor_of σ exchange_at s l ≡ Unlisted
+  pub unlisted_cursor : (l : List Call) → HaveMomentsOf64Bits l → IsUnlisted σ s l → cursor_of σ exchange_at s l ≡ Unlisted
   unlisted_cursor l time h = led (spot_after σ s asked answer) refl
     where
       before : List Call
@@ -152,8 +152,8 @@ module _ (σ : Setting) (exchange_at : Bytes → Option Bytes) (laws : IsLawful 
       answer : Value
       answer = h.4
 
-      times : AreTimely (h.0 ++ call h.1 h.2 h.4 ∷ [])
-      times = subst AreTimely h.5 time
+      times : HaveMomentsOf64Bits (h.0 ++ call h.1 h.2 h.4 ∷ [])
+      times = subst HaveMomentsOf64Bits h.5 time
 
       through : (mid : Spot) × Runs σ s (Free 0 0) h.0 mid × ((c : Spot) × Goes σ s mid (call h.1 h.2 h.3) c)
       through =
@@ -172,13 +172,13 @@ module _ (σ : Setting) (exchange_at : Bytes → Option Bytes) (laws : IsLawful 
           ap (cursor_of σ exchange_at s) h.5
           ∙ after_join σ exchange_at s (At (Free 0 0)) h.0 (call h.1 h.2 h.4 ∷ [])
           ∙ ap (λ z. judge σ exchange_at s z (call h.1 h.2 h.4)) (runs_judged h.0 (Free 0 0) through.0 (timely_front h.0 (call h.1 h.2 h.4 ∷ []) times) through.1)
-          ∙ ap (λ o. heard σ s o h.4) (ask-allowed σ exchange_at s laws readable through.0 h.1 h.2 x.ask (timely_last h.0 h.1 h.2 h.4 times) x.asks)
+          ∙ ap (λ o. cursor_after σ s o h.4) (ask-allowed σ exchange_at s laws readable through.0 h.1 h.2 x.ask (timely_last h.0 h.1 h.2 h.4 times) x.asks)
 
       led : (o : Option Spot) → spot_after σ s (let g = through.2 in let x = g.1 in x.ask) h.4 ≡ o → cursor_of σ exchange_at s l ≡ Unlisted
       led None e = is ∙ ap cursor_at e
       led (Some d) e = absurd (h.7 (at_front l d (is ∙ ap cursor_at e)))
 
-  pub cursor_unlisted : (l : List Call) → AreTimely l → cursor_of σ exchange_at s l ≡ Unlisted → IsUnlisted σ s l
+  pub cursor_unlisted : (l : List Call) → HaveMomentsOf64Bits l → cursor_of σ exchange_at s l ≡ Unlisted → IsUnlisted σ s l
   cursor_unlisted l time h =
       let o = judged_off σ exchange_at s l (Free 0 0) h in
       let r = an_answer σ exchange_at s o.5 in
@@ -193,11 +193,11 @@ module _ (σ : Setting) (exchange_at : Bytes → Option Bytes) (laws : IsLawful 
         λ f. let c = front_at l time f in not_at c.0 (sym h ∙ c.1),
       )
 
-  pub mannered_cursor : (l : List Call) → AreTimely l → IsMannered σ s l → cursor_of σ exchange_at s l ≡ Unmannered → ⊥
+  pub mannered_cursor : (l : List Call) → HaveMomentsOf64Bits l → IsMannered σ s l → cursor_of σ exchange_at s l ≡ Unmannered → ⊥
   mannered_cursor l time (inl h) e = let c = front_at l time h in unmannered_at c.0 (sym e ∙ c.1)
   mannered_cursor l time (inr h) e = not_unlisted (sym e ∙ unlisted_cursor l time h)
 
-  pub cursor_mannered : (l : List Call) → AreTimely l → (cursor_of σ exchange_at s l ≡ Unmannered → ⊥) → IsMannered σ s l
+  pub cursor_mannered : (l : List Call) → HaveMomentsOf64Bits l → (cursor_of σ exchange_at s l ≡ Unmannered → ⊥) → IsMannered σ s l
   cursor_mannered l time h = go (cursor_of σ exchange_at s l) refl
     where
       go : (k : Cursor) → cursor_of σ exchange_at s l ≡ k → IsMannered σ s l

@@ -5,7 +5,7 @@ use Rattle.std.specs.Str.{is_utf8}
 use Rattle.std.proofs.lemmas.Bool.Decides.{nat_tests}
 use Rattle.queue_keys.specs.Names.{Bytes, is_name, binding_front}
 use Rattle.queue_keys.specs.Layouts.{Layout, is_layout, is_prefix, HasStep, rises, rises_from_zero}
-use Rattle.queue_keys.specs.QueueKeys.{rest_after, queue_key, keys_at, keys_by, Each}
+use Rattle.queue_keys.specs.QueueKeys.{after_front, queue_key, keys_at, keys_by, Each}
 use Rattle.command_blocks.specs.Setting.{Texts, Way, if_named, named_exchange, setting_of}
 use Rattle.command_blocks.specs.RouteBlocks.{is_exchange}
 use Rattle.queue_keys.proofs.Splits.{rest_after-front, split_of_key}
@@ -62,7 +62,7 @@ module _ (l : Layout) (τ : Texts) where
       first_queues s qs (keys_by l ss qs) x.0 (has s (inl refl)) e ∙ ap (λ z. qs ++ z) (later_queues s ss qs x.1 (λ u i. has u (inr i)) e) ∙ append_nothing qs
 
   key-exchange : (e : Bytes) → exchange_of_key l (l.prefix ++ (binding_front ++ e)) ≡ Some e
-  key-exchange e = ap (option_and_then (rest_after binding_front)) (rest_after-front l.prefix (binding_front ++ e)) ∙ rest_after-front binding_front e
+  key-exchange e = ap (option_and_then (after_front binding_front)) (rest_after-front l.prefix (binding_front ++ e)) ∙ rest_after-front binding_front e
 
   told_exchange : TellsShortExchanges τ → (v e : Bytes) → named_exchange (τ.way_of v) ≡ Some e → is_exchange e ≡ true
   told_exchange short v e h = go (τ.way_of v) refl h

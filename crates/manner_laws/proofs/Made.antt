@@ -13,10 +13,10 @@ use Rattle.command_blocks.specs.RouteBlocks.{Told, direct_calls, direct_keys, Pl
 use Rattle.command_blocks.specs.TakeBlocks.{IsPop, brpop_words, Empty, Unreadable as Unreadable_block, Popped as Popped_block, Acknowledged}
 use Rattle.command_blocks.specs.ReturnBlocks.{ReturnEnd, Moved as Was_moved, Gone, Stayed, Contended as Was_contended, goes_on, queued_calls, queued_keys, reading, asking, leaving, Carries, Try, whole_try, IsTry, IsTries, Missing as Missing_tries, Useless as Useless_tries, Nowhere, Whole, Eighth, Again}
 use Rattle.command_blocks.specs.PassBlocks.{PassEnd, Held, Stuck, Done, IsReturns, All_returned, Returned, Returned_until, Ended_early, IsRelease, Own as Own_release, Foreign as Foreign_release, lock_words, due_words, Is_held, Ran}
-use Rattle.command_blocks.specs.Blocks.{Answered as Answered_block, Kind, Drawing, Passing, Other, drawn, passed, IsBlock, Declare, Undeclare, Publish, Publish_short, Pop, End, Return, Pass, Neutral, AreBlocks}
+use Rattle.command_blocks.specs.Blocks.{Answered as Answered_block, CounterUse, Drawing, Passing, Other, drawn, passes_after, IsBlock, Declare, Undeclare, Publish, Publish_short, Pop, End, Return, Pass, Neutral, AreBlocks}
 use Rattle.command_blocks.specs.declared.block.Side.{Side}
 use Rattle.command_blocks.specs.declared.block.Side.TheVariants.{Left, Right}
-use Rattle.manner_laws.specs.Spots.{Job, Open, Alone, Of_pass, tag_in, MayPush, settled, Spot, Free, Listed, Pushing, Popped, Pop_begun, Pop_indexed, End_begun, End_removed, Filled, Looking, Waiting, Watched, Leaving, Asking, Ready, Begun, Removed, Putting, Locked, Turning, Release_watched, Release_own, Release_begun, Release_deleted, Release_foreign, pushing, finished, gave_up, routed, Ask, Entry}
+use Rattle.manner_laws.specs.Spots.{Job, Open, Alone, Of_pass, job_tag, MayPush, sided, Spot, Free, Listed, Pushing, Popped, Pop_begun, Pop_indexed, End_begun, End_removed, Filled, Looking, Waiting, Watched, Leaving, Asking, Ready, Begun, Removed, Putting, Locked, Turning, Release_watched, Release_own, Release_begun, Release_deleted, Release_foreign, pushing, finished, gave_up, routed, Ask, Entry}
 use Rattle.manner_laws.specs.Machine.{Begins, Declares, Undeclares, Publishes, Lists, Pops, Ends, Returns, Passes, Concerns_none, Asks, Starts, Starts_next, Pushes_first, Pushes, Pop_begins, Pop_indexes, Pop_sets, End_removes, End_deletes, Executes, Names, Tries, Reads, Leaves, Looks_up, Takes, Removes, Deletes, Puts, Moves, Looks, Turns, Lets_go, Inspects, Release_begins, Release_deletes, Release_ends, Leaves_foreign, Tells, Runs}
 use Rattle.manner_laws.proofs.Steps.{on_count, on_consent, on_queueing, on_counts, on_anything, on_bindings, on_message, on_entry, on_routes, on_move, on_lock, on_due, on_holder, on_release}
 
@@ -34,7 +34,7 @@ runs_split σ s a b (x ∷ xs) ys r = let q = runs_split σ s r.0 b xs ys r.2 in
 abbrev pub Rest : Setting → ℕ → ℕ → ℕ → List Call → Type 0
 Rest σ s n p l = (bs : List (List Call)) × AreBlocks σ s n p bs × (concat bs ≡ l)
 
-block_then : (σ : Setting) (s n p : ℕ) (kind : Kind) (b l : List Call) → IsBlock σ s n p kind b → Rest σ s (drawn kind n) (passed kind p) l → Rest σ s n p (b ++ l)
+block_then : (σ : Setting) (s n p : ℕ) (kind : CounterUse) (b l : List Call) → IsBlock σ s n p kind b → Rest σ s (drawn kind n) (passes_after kind p) l → Rest σ s n p (b ++ l)
 block_then σ s n p kind b l block rest = (b ∷ rest.0, (kind, block, rest.1), ap (λ z. b ++ z) rest.2)
 
 -- pushes to these keys, and blocks
@@ -66,7 +66,7 @@ After σ s n p (Of_pass t ts) false l = ReleaseRest σ s n p l
 
 -- tries at this side, and what follows
 abbrev SideRest : Setting → ℕ → ℕ → ℕ → Job → Side → ℕ → List Call → Type 0
-SideRest σ s n p j side k l = (end : ReturnEnd) × (l₁ : List Call) × (l₂ : List Call) × IsTries σ side (tag_in j) k end l₁ × After σ s n p j (goes_on end) l₂ × (l₁ ++ l₂ ≡ l)
+SideRest σ s n p j side k l = (end : ReturnEnd) × (l₁ : List Call) × (l₂ : List Call) × IsTries σ side (job_tag j) k end l₁ × After σ s n p j (goes_on end) l₂ × (l₁ ++ l₂ ≡ l)
 
 -- tries, and what follows
 abbrev JobRest : Setting → ℕ → ℕ → ℕ → Job → ℕ → List Call → Type 0
@@ -82,10 +82,10 @@ PutRest σ s n p j k v todo l =
     (side : Side) × MayPush j side × (qs : List (ℕ × Bytes)) × (f : ℕ) × (r : Value) × (tail : List Call) × (queued_keys qs ≡ todo) × (queued_calls side v qs (call f (codes "EXEC" ∷ []) r ∷ tail) ≡ l) × EndRest σ s n p j side k r tail
 
 abbrev DeleteRest : Setting → ℕ → ℕ → ℕ → Job → ℕ → Bytes → List Bytes → List Call → Type 0
-DeleteRest σ s n p j k v todo l = (c : ℕ) × (rest : List Call) × (call c (codes "HDEL" ∷ σ.unacked ∷ tag_in j ∷ []) queued ∷ rest ≡ l) × PutRest σ s n p j k v todo rest
+DeleteRest σ s n p j k v todo l = (c : ℕ) × (rest : List Call) × (call c (codes "HDEL" ∷ σ.unacked ∷ job_tag j ∷ []) queued ∷ rest ≡ l) × PutRest σ s n p j k v todo rest
 
 abbrev RemoveRest : Setting → ℕ → ℕ → ℕ → Job → ℕ → Bytes → List Bytes → List Call → Type 0
-RemoveRest σ s n p j k v todo l = (b : ℕ) × (rest : List Call) × (call b (codes "ZREM" ∷ σ.index ∷ tag_in j ∷ []) queued ∷ rest ≡ l) × DeleteRest σ s n p j k v todo rest
+RemoveRest σ s n p j k v todo l = (b : ℕ) × (rest : List Call) × (call b (codes "ZREM" ∷ σ.index ∷ job_tag j ∷ []) queued ∷ rest ≡ l) × DeleteRest σ s n p j k v todo rest
 
 abbrev TakeRest : Setting → ℕ → ℕ → ℕ → Job → ℕ → Bytes → List Bytes → List Call → Type 0
 TakeRest σ s n p j k v todo l = (a : ℕ) × (rest : List Call) × (call a (codes "MULTI" ∷ []) done ∷ rest ≡ l) × RemoveRest σ s n p j k v todo rest
@@ -109,7 +109,7 @@ Good σ s (Looking n p) l = (a : ℕ) → Rest σ s n p (call a (codes "WATCH" �
 Good σ s (Waiting n p j k) l = JobRest σ s n p j k l
 Good σ s (Watched n p j k) l = (a : ℕ) → JobRest σ s n p j k (call a (codes "WATCH" ∷ σ.unacked ∷ []) done ∷ l)
 Good σ s (Leaving n p j) l = LeaveRest σ s n p j l
-Good σ s (Asking n p j k u v e) l = (a b : ℕ) → Carries σ u (tag_in j) v → σ.exchange_in u ≡ Some e → JobRest σ s n p j k (reading σ (tag_in j) a b (Bulk u) l)
+Good σ s (Asking n p j k u v e) l = (a b : ℕ) → Carries σ u (job_tag j) v → σ.exchange_in u ≡ Some e → JobRest σ s n p j k (reading σ (job_tag j) a b (Bulk u) l)
 Good σ s (Ready n p j k v q qs) l = TakeRest σ s n p j k v (q ∷ qs) l
 Good σ s (Begun n p j k v q qs) l = RemoveRest σ s n p j k v (q ∷ qs) l
 Good σ s (Removed n p j k v q qs) l = DeleteRest σ s n p j k v (q ∷ qs) l
@@ -185,35 +185,35 @@ module _ (σ : Setting) (s : ℕ) where
       ∙ ap (tried t y) (queued_append side y.envelope (y.first ∷ y.others) (call y.g (codes "EXEC" ∷ []) r ∷ xs) ys)
 
   -- the try is whole
-  made : (n p : ℕ) (j : Job) (side : Side) (k : ℕ) (y : Try) (r : Value) (tail : List Call) → IsTry σ (tag_in j) y → EndRest σ s n p j side k r tail → SideRest σ s n p j side k (whole_try σ side (tag_in j) y r tail)
+  made : (n p : ℕ) (j : Job) (side : Side) (k : ℕ) (y : Try) (r : Value) (tail : List Call) → IsTry σ (job_tag j) y → EndRest σ s n p j side k r tail → SideRest σ s n p j side k (whole_try σ side (job_tag j) y r tail)
   made n p j side k y r tail ok (inl h) =
-      (Was_moved, whole_try σ side (tag_in j) y (integers h.0) [], tail, Whole k y h.0 ok, h.2, whole_append side (tag_in j) y (integers h.0) [] tail ∙ ap (λ z. whole_try σ side (tag_in j) y z tail) (sym h.1))
+      (Was_moved, whole_try σ side (job_tag j) y (integers h.0) [], tail, Whole k y h.0 ok, h.2, whole_append side (job_tag j) y (integers h.0) [] tail ∙ ap (λ z. whole_try σ side (job_tag j) y z tail) (sym h.1))
   made n p j side k y r tail ok (inr (inl h)) =
       let q = h.2 in
-      (q.0, whole_try σ side (tag_in j) y NullArray q.1, q.2, Again k y q.0 q.1 h.1 ok q.3, q.4, whole_append side (tag_in j) y NullArray q.1 q.2 ∙ (λ i. whole_try σ side (tag_in j) y (sym h.0 i) (q.5 i)))
+      (q.0, whole_try σ side (job_tag j) y NullArray q.1, q.2, Again k y q.0 q.1 h.1 ok q.3, q.4, whole_append side (job_tag j) y NullArray q.1 q.2 ∙ (λ i. whole_try σ side (job_tag j) y (sym h.0 i) (q.5 i)))
   made n p j side k y r tail ok (inr (inr h)) = (
     Was_contended,
-    whole_try σ side (tag_in j) y NullArray [],
+    whole_try σ side (job_tag j) y NullArray [],
     tail,
-    subst (λ z. IsTries σ side (tag_in j) z Was_contended (whole_try σ side (tag_in j) y NullArray [])) (sym h.1) (Eighth y ok),
+    subst (λ z. IsTries σ side (job_tag j) z Was_contended (whole_try σ side (job_tag j) y NullArray [])) (sym h.1) (Eighth y ok),
     h.2,
-    whole_append side (tag_in j) y NullArray [] tail ∙ ap (λ z. whole_try σ side (tag_in j) y z tail) (sym h.0),
+    whole_append side (job_tag j) y NullArray [] tail ∙ ap (λ z. whole_try σ side (job_tag j) y z tail) (sym h.0),
   )
 
   -- the keys are known to which it returns
-  went : (n p : ℕ) (j : Job) (k a b c : ℕ) (u v : Bytes) (ms : List Bytes) (l : List Call) (keys : List Bytes) → Carries σ u (tag_in j) v → σ.keys_in u ms ≡ keys → Good σ s (routed n p j k v keys) l
-      → JobRest σ s n p j k (reading σ (tag_in j) a b (Bulk u) (asking σ (σ.exchange_in u) c ms l))
+  went : (n p : ℕ) (j : Job) (k a b c : ℕ) (u v : Bytes) (ms : List Bytes) (l : List Call) (keys : List Bytes) → Carries σ u (job_tag j) v → σ.keys_in u ms ≡ keys → Good σ s (routed n p j k v keys) l
+      → JobRest σ s n p j k (reading σ (job_tag j) a b (Bulk u) (asking σ (σ.exchange_in u) c ms l))
   went n p j k a b c u v ms l [] carries none h =
       let side = some_side j in (
         side.0,
         side.1,
         (
           Stayed,
-          reading σ (tag_in j) a b (Bulk u) (asking σ (σ.exchange_in u) c ms (leaving h.0)),
+          reading σ (job_tag j) a b (Bulk u) (asking σ (σ.exchange_in u) c ms (leaving h.0)),
           h.1,
           Nowhere k a b c h.0 u v ms carries none,
           h.3,
-          ap (reading σ (tag_in j) a b (Bulk u)) (asking_append (σ.exchange_in u) c ms (leaving h.0) h.1 ∙ ap (asking σ (σ.exchange_in u) c ms) h.2),
+          ap (reading σ (job_tag j) a b (Bulk u)) (asking_append (σ.exchange_in u) c ms (leaving h.0) h.1 ∙ ap (asking σ (σ.exchange_in u) c ms) h.2),
         ),
       )
   went n p j k a b c u v ms l (q ∷ qs) carries some h =
@@ -223,26 +223,26 @@ module _ (σ : Setting) (s : ℕ) where
       go x.2 x.6 x.7
     where
       go : (ps : List (ℕ × Bytes)) → queued_keys ps ≡ q ∷ qs → queued_calls h.3.3.3.0 v ps (call h.3.3.3.3 (codes "EXEC" ∷ []) h.3.3.3.4 ∷ h.3.3.3.5) ≡ h.3.3.1
-          → JobRest σ s n p j k (reading σ (tag_in j) a b (Bulk u) (asking σ (σ.exchange_in u) c ms l))
+          → JobRest σ s n p j k (reading σ (job_tag j) a b (Bulk u) (asking σ (σ.exchange_in u) c ms l))
       go [] keys eq = absurd (cc keys)
       go (first ∷ others) keys eq =
           let r = h.3 in
           let d = r.3 in
           let x = d.3 in
           let y : Try = record { a = a; b = b; c = c; d = h.0; e = r.0; f = d.0; g = x.3; entry = u; envelope = v; members = ms; first = first; others = others } in
-          let whole = ap (λ z. call h.0 (codes "MULTI" ∷ []) done ∷ call r.0 (codes "ZREM" ∷ σ.index ∷ tag_in j ∷ []) queued ∷ call d.0 (codes "HDEL" ∷ σ.unacked ∷ tag_in j ∷ []) queued ∷ z) eq
-          ∙ ap (λ z. call h.0 (codes "MULTI" ∷ []) done ∷ call r.0 (codes "ZREM" ∷ σ.index ∷ tag_in j ∷ []) queued ∷ z) d.2
+          let whole = ap (λ z. call h.0 (codes "MULTI" ∷ []) done ∷ call r.0 (codes "ZREM" ∷ σ.index ∷ job_tag j ∷ []) queued ∷ call d.0 (codes "HDEL" ∷ σ.unacked ∷ job_tag j ∷ []) queued ∷ z) eq
+          ∙ ap (λ z. call h.0 (codes "MULTI" ∷ []) done ∷ call r.0 (codes "ZREM" ∷ σ.index ∷ job_tag j ∷ []) queued ∷ z) d.2
           ∙ ap (λ z. call h.0 (codes "MULTI" ∷ []) done ∷ z) r.2
           ∙ h.2 in
-          (x.0, x.1, subst (λ z. SideRest σ s n p j x.0 k (reading σ (tag_in j) a b (Bulk u) (asking σ (σ.exchange_in u) c ms z))) whole (made n p j x.0 k y x.4 x.5 (carries, keys ∙ sym some) x.8))
+          (x.0, x.1, subst (λ z. SideRest σ s n p j x.0 k (reading σ (job_tag j) a b (Bulk u) (asking σ (σ.exchange_in u) c ms z))) whole (made n p j x.0 k y x.4 x.5 (carries, keys ∙ sym some) x.8))
 
   -- the entry was read
-  entry_before : (n p : ℕ) (j : Job) (k a b : ℕ) (r : Value) (c' : Spot) (l : List Call) → Tells σ s (Entry n p j k) r c' → Good σ s c' l → JobRest σ s n p j k (reading σ (tag_in j) a b r l)
+  entry_before : (n p : ℕ) (j : Job) (k a b : ℕ) (r : Value) (c' : Spot) (l : List Call) → Tells σ s (Entry n p j k) r c' → Good σ s c' l → JobRest σ s n p j k (reading σ (job_tag j) a b r l)
   entry_before n p j k a b r c' l tells =
-      on_entry σ s (λ r c'. Good σ s c' l → JobRest σ s n p j k (reading σ (tag_in j) a b r l)) n p j k
-      (λ h. let side = some_side j in (side.0, side.1, (Gone, reading σ (tag_in j) a b NullBulk (leaving h.0), h.1, Missing_tries k a b h.0, h.3, ap (reading σ (tag_in j) a b NullBulk) h.2)))
-      (λ u useless h. let side = some_side j in (side.0, side.1, (Stayed, reading σ (tag_in j) a b (Bulk u) (leaving h.0), h.1, Useless_tries k a b h.0 u useless, h.3, ap (reading σ (tag_in j) a b (Bulk u)) h.2)))
-      (λ u v carries none h. subst (λ o. JobRest σ s n p j k (reading σ (tag_in j) a b (Bulk u) (asking σ o 0 [] l))) none (went n p j k a b 0 u v [] l (σ.keys_in u []) carries refl h))
+      on_entry σ s (λ r c'. Good σ s c' l → JobRest σ s n p j k (reading σ (job_tag j) a b r l)) n p j k
+      (λ h. let side = some_side j in (side.0, side.1, (Gone, reading σ (job_tag j) a b NullBulk (leaving h.0), h.1, Missing_tries k a b h.0, h.3, ap (reading σ (job_tag j) a b NullBulk) h.2)))
+      (λ u useless h. let side = some_side j in (side.0, side.1, (Stayed, reading σ (job_tag j) a b (Bulk u) (leaving h.0), h.1, Useless_tries k a b h.0 u useless, h.3, ap (reading σ (job_tag j) a b (Bulk u)) h.2)))
+      (λ u v carries none h. subst (λ o. JobRest σ s n p j k (reading σ (job_tag j) a b (Bulk u) (asking σ o 0 [] l))) none (went n p j k a b 0 u v [] l (σ.keys_in u []) carries refl h))
       (λ u v e carries some h. h a b carries some)
       r c' tells
 
@@ -267,7 +267,7 @@ module _ (σ : Setting) (s : ℕ) where
       go Stayed tries after = on Stayed refl tries after
 
   -- a push of a return, which shows its side
-  put_before : (n p : ℕ) (j : Job) (k : ℕ) (v q : Bytes) (qs : List Bytes) (side : Side) (a : ℕ) (l : List Call) → MayPush j side → PutRest σ s n p (settled j side) k v qs l
+  put_before : (n p : ℕ) (j : Job) (k : ℕ) (v q : Bytes) (qs : List Bytes) (side : Side) (a : ℕ) (l : List Call) → MayPush j side → PutRest σ s n p (sided j side) k v qs l
       → PutRest σ s n p j k v (q ∷ qs) (call a (push_word side ∷ q ∷ v ∷ []) queued ∷ l)
   put_before n p (Open t) k v q qs side a l may h =
       (h.0, tt, (a, q) ∷ h.2, h.3, h.4, h.5, ap (λ z. q ∷ z) h.6, (λ i. call a (push_word (sym h.1 i) ∷ q ∷ v ∷ []) queued ∷ h.7 i), h.8)
@@ -326,11 +326,11 @@ module _ (σ : Setting) (s : ℕ) where
   before c a words q r c' l (Reads n p b j k) tells = λ h d. entry_before n p j k d a r c' l tells h
   before c a words q r c' l (Leaves n p b j) tells = on_consent σ s (Next c a words l) (finished n p j) (λ h. (a, l, refl, done_after n p j l h)) r c' tells
   before c a words q r c' l (Looks_up n p b j k u v e) tells = on_routes σ s (Next c a words l) n p j k u v (λ ms h d f carries some.
-      subst (λ o. JobRest σ s n p j k (reading σ (tag_in j) d f (Bulk u) (asking σ o a ms l))) some (went n p j k d f a u v ms l (σ.keys_in u ms) carries refl h)) r c' tells
+      subst (λ o. JobRest σ s n p j k (reading σ (job_tag j) d f (Bulk u) (asking σ o a ms l))) some (went n p j k d f a u v ms l (σ.keys_in u ms) carries refl h)) r c' tells
   before c a words q r c' l (Takes n p b j k v x xs) tells = on_consent σ s (Next c a words l) (Begun n p j k v x xs) (λ h. (a, l, refl, h)) r c' tells
   before c a words q r c' l (Removes n p b j k v x xs) tells = on_queueing σ s (Next c a words l) (Removed n p j k v x xs) (λ h. (a, l, refl, h)) r c' tells
   before c a words q r c' l (Deletes n p b j k v x xs) tells = on_queueing σ s (Next c a words l) (Putting n p j k v (x ∷ xs)) (λ h. (a, l, refl, h)) r c' tells
-  before c a words q r c' l (Puts n p b j k v x xs side may) tells = on_queueing σ s (Next c a words l) (Putting n p (settled j side) k v xs) (λ h. put_before n p j k v x xs side a l may h) r c' tells
+  before c a words q r c' l (Puts n p b j k v x xs side may) tells = on_queueing σ s (Next c a words l) (Putting n p (sided j side) k v xs) (λ h. put_before n p j k v x xs side a l may h) r c' tells
   before c a words q r c' l (Moves n p b j k v) tells =
       let side = some_side j in
       on_move σ s (Next c a words l) n p j k

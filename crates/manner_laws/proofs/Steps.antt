@@ -11,7 +11,7 @@ use Rattle.command_blocks.specs.Setting.{Setting}
 use Rattle.command_blocks.specs.Calls.{call}
 use Rattle.command_blocks.specs.ReturnBlocks.{Carries}
 use Rattle.command_blocks.specs.PassBlocks.{tags_among}
-use Rattle.manner_laws.specs.Spots.{Job, tag_in, Spot, Free, Listed, Popped, Waiting, Leaving, Asking, Locked, Turning, Release_own, Release_foreign, finished, gave_up, routed, Ask, Count, Consent, Queueing, Counts, Anything, Bindings, Message, Entry, Routes, Move, Lock, Due, Holder, Release}
+use Rattle.manner_laws.specs.Spots.{Job, job_tag, Spot, Free, Listed, Popped, Waiting, Leaving, Asking, Locked, Turning, Release_own, Release_foreign, finished, gave_up, routed, Ask, Count, Consent, Queueing, Counts, Anything, Bindings, Message, Entry, Routes, Move, Lock, Due, Holder, Release}
 use Rattle.manner_laws.specs.Machine.{Asks, Tells, Counted, Consented, Was_queued, Counted_both, Answered, Bound, Nothing_there, Unreadable, Readable, Missing, Useless, Unnamed, Named, Looked_up, Moved, Failed, Contended, Taken, Given, Members, Own, Foreign, Nobody, Released, Altered, Goes}
 
 module _ (σ : Setting) (s : ℕ) where
@@ -42,9 +42,9 @@ module _ (σ : Setting) (s : ℕ) where
   on_message P n p f g h r c' (Unreadable n' p' q v none) = g q v none
   on_message P n p f g h r c' (Readable n' p' q v t tag) = h q v t tag
 
-  pub on_entry : (P : Value → Spot → Type 0) (n p : ℕ) (j : Job) (k : ℕ) → P NullBulk (Leaving n p j) → ((u : Bytes) → ((v : Bytes) → Carries σ u (tag_in j) v → ⊥) → P (Bulk u) (Leaving n p j))
-      → ((u v : Bytes) → Carries σ u (tag_in j) v → σ.exchange_in u ≡ None → P (Bulk u) (routed n p j k v (σ.keys_in u [])))
-      → ((u v e : Bytes) → Carries σ u (tag_in j) v → σ.exchange_in u ≡ Some e → P (Bulk u) (Asking n p j k u v e))
+  pub on_entry : (P : Value → Spot → Type 0) (n p : ℕ) (j : Job) (k : ℕ) → P NullBulk (Leaving n p j) → ((u : Bytes) → ((v : Bytes) → Carries σ u (job_tag j) v → ⊥) → P (Bulk u) (Leaving n p j))
+      → ((u v : Bytes) → Carries σ u (job_tag j) v → σ.exchange_in u ≡ None → P (Bulk u) (routed n p j k v (σ.keys_in u [])))
+      → ((u v e : Bytes) → Carries σ u (job_tag j) v → σ.exchange_in u ≡ Some e → P (Bulk u) (Asking n p j k u v e))
       → (r : Value) (c' : Spot) → Tells σ s (Entry n p j k) r c' → P r c'
   on_entry P n p j k f g h i r c' (Missing n' p' j' k') = f
   on_entry P n p j k f g h i r c' (Useless n' p' j' k' u useless) = g u useless

@@ -12,9 +12,9 @@ use Rattle.command_blocks.specs.Answers.{integers, number_of, bulk_of, items_of,
 use Rattle.command_blocks.specs.Setting.{Setting}
 use Rattle.command_blocks.specs.ReturnBlocks.{Carries}
 use Rattle.command_blocks.specs.PassBlocks.{tags_among}
-use Rattle.manner_laws.specs.Spots.{Job, tag_in, Spot, Free, Listed, Waiting, Leaving, Asking, Locked, Turning, Release_own, Release_foreign, finished, gave_up, routed, Ask, Count, Consent, Queueing, Counts, Anything, Bindings, Message, Entry, Routes, Move, Lock, Due, Holder, Release}
+use Rattle.manner_laws.specs.Spots.{Job, job_tag, Spot, Free, Listed, Waiting, Leaving, Asking, Locked, Turning, Release_own, Release_foreign, finished, gave_up, routed, Ask, Count, Consent, Queueing, Counts, Anything, Bindings, Message, Entry, Routes, Move, Lock, Due, Holder, Release}
 use Rattle.manner_laws.specs.Machine.{Tells, Counted, Consented, Was_queued, Counted_both, Answered, Bound, Nothing_there, Unreadable, Readable, Missing, Useless, Unnamed, Named, Looked_up, Moved, Failed, Contended, Taken, Given, Members, Own, Foreign, Nobody, Released, Altered}
-use Rattle.manner_laws.specs.Cursor.{is_text, is_status, is_null_bulk, is_null_array, are_integers, are_two_integers, texts_of, spot_if, popped_spot, if_tagged, read_spot, entry_spot, failed_spot, holder_spot, spot_after}
+use Rattle.manner_laws.specs.Cursor.{is_text, is_status, is_null_bulk, is_null_array, are_integers, are_two_integers, bulk_texts_of, spot_if, popped_spot, if_tagged, read_spot, entry_spot, failed_spot, holder_spot, spot_after}
 use Rattle.manner_laws.proofs.Tests.{false_true, none_some, some_parts, bytes_itself, bytes_true, bytes_false, not_true, not_false, split, pick_true, pick_false, is_text_is, is_text-Some, lt_true, true_lt, spot_if_is, spot_if-true, mapped}
 use Rattle.manner_laws.proofs.Values.{status_is, null_bulk_is, null_array_is, bulk_is, number_of-Integer, bulk_of-Bulk, items_of-Array, is_status-Status, null_bulk_itself, null_array_itself, is_null_bulk-Bulk, is_null_bulk-Status, is_null_array-Array, some_number, some_items, are_integers_are, are_integers-integers, are_two_are, are_two_integers-integers, texts_are, texts_of-bulks, pair_is, pair_of-pair}
 
@@ -46,12 +46,12 @@ module _ (σ : Setting) (s : ℕ) where
       go None is h = inr (sym h, λ w c. none_some _ w (sym is ∙ c.0))
       go (Some v) is h = by v (is_text t (σ.tag_of v)) is refl h
 
-  read_is : (n p : ℕ) (j : Job) (k : ℕ) (u v : Bytes) (o : Option Bytes) → Carries σ u (tag_in j) v → σ.exchange_in u ≡ o → Tells σ s (Entry n p j k) (Bulk u) (read_spot σ n p j k u (Some v) o)
+  read_is : (n p : ℕ) (j : Job) (k : ℕ) (u v : Bytes) (o : Option Bytes) → Carries σ u (job_tag j) v → σ.exchange_in u ≡ o → Tells σ s (Entry n p j k) (Bulk u) (read_spot σ n p j k u (Some v) o)
   read_is n p j k u v None carries e = Unnamed n p j k u v carries e
   read_is n p j k u v (Some x) carries e = Named n p j k u v x carries e
 
   entry_is : (n p : ℕ) (j : Job) (k : ℕ) (u : Bytes) → Tells σ s (Entry n p j k) (Bulk u) (entry_spot σ n p j k u)
-  entry_is n p j k u = elim (carried_is u (tag_in j) (if_tagged σ (tag_in j) (σ.carried u)) refl) [
+  entry_is n p j k u = elim (carried_is u (job_tag j) (if_tagged σ (job_tag j) (σ.carried u)) refl) [
     | inl h ↦ subst (λ z. Tells σ s (Entry n p j k) (Bulk u) (read_spot σ n p j k u z (σ.exchange_in u))) (sym h.1) (read_is n p j k u h.0 (σ.exchange_in u) h.2 refl)
     | inr h ↦ subst (λ z. Tells σ s (Entry n p j k) (Bulk u) (read_spot σ n p j k u z (σ.exchange_in u))) (sym h.0) (Useless n p j k u h.1)
   ]
@@ -88,7 +88,7 @@ module _ (σ : Setting) (s : ℕ) where
       let x = spot_if_is (not (is_error r)) d c h in
       subst (Tells σ s (Anything d) r) x.1 (Answered d r (not_true (is_error r) x.0))
   told_is (Bindings n p e) r c h =
-      let x = mapped (λ ms. Listed n p e ms) (texts_of r) c h in
+      let x = mapped (λ ms. Listed n p e ms) (bulk_texts_of r) c h in
       subst (λ z. Tells σ s (Bindings n p e) z c) (sym (texts_are r x.0 x.1)) (subst (Tells σ s (Bindings n p e) (bulks x.0)) x.2 (Bound n p e x.0))
   told_is (Message n p) r c h = elim (split (is_null_array (layer r)) (Some (Free n p)) (option_map (λ x. popped_spot n p x.1 (σ.tag_of x.1)) (pair_of r)) c h) [
     | inl x ↦ subst (λ z. Tells σ s (Message n p) z c) (sym (null_array_is r x.0)) (subst (Tells σ s (Message n p) NullArray) (some_parts (Free n p) c x.1) (Nothing_there n p))
@@ -104,7 +104,7 @@ module _ (σ : Setting) (s : ℕ) where
         subst (λ z. Tells σ s (Entry n p j k) z c) (sym (bulk_is r y.0 y.1)) (subst (Tells σ s (Entry n p j k) (Bulk y.0)) y.2 (entry_is n p j k y.0))
   ]
   told_is (Routes n p j k u v) r c h =
-      let x = mapped (λ ms. routed n p j k v (σ.keys_in u ms)) (texts_of r) c h in
+      let x = mapped (λ ms. routed n p j k v (σ.keys_in u ms)) (bulk_texts_of r) c h in
       subst (λ z. Tells σ s (Routes n p j k u v) z c) (sym (texts_are r x.0 x.1)) (subst (Tells σ s (Routes n p j k u v) (bulks x.0)) x.2 (Looked_up n p j k u v x.0))
   told_is (Move n p j k) r c h = elim (split (is_null_array (layer r)) (failed_spot n p j k) (spot_if (are_integers (items_of r)) (finished n p j)) c h) [
     | inl x ↦ subst (λ z. Tells σ s (Move n p j k) z c) (sym (null_array_is r x.0)) (failed_is n p j k c x.1)
@@ -120,7 +120,7 @@ module _ (σ : Setting) (s : ℕ) where
         subst (λ z. Tells σ s (Lock n p) z c) (sym (status_is (codes "OK") r y.0)) (subst (Tells σ s (Lock n p) done) y.1 (Given n p))
   ]
   told_is (Due n p) r c h =
-      let x = mapped (λ ms. Turning n p (tags_among σ ms)) (texts_of r) c h in
+      let x = mapped (λ ms. Turning n p (tags_among σ ms)) (bulk_texts_of r) c h in
       subst (λ z. Tells σ s (Due n p) z c) (sym (texts_are r x.0 x.1)) (subst (Tells σ s (Due n p) (bulks x.0)) x.2 (Members n p x.0))
   told_is (Holder n p) r c h = elim (split (is_null_bulk (layer r)) (Some (Release_foreign n p)) (option_map (holder_spot s n p) (bulk_of r)) c h) [
     | inl x ↦ subst (λ z. Tells σ s (Holder n p) z c) (sym (null_bulk_is r x.0)) (subst (Tells σ s (Holder n p) NullBulk) (some_parts (Release_foreign n p) c x.1) (Nobody n p))
@@ -141,14 +141,14 @@ module _ (σ : Setting) (s : ℕ) where
   tagged-carries : (u t v : Bytes) → Carries σ u t v → if_tagged σ t (σ.carried u) ≡ Some v
   tagged-carries u t v c = ap (if_tagged σ t) c.0 ∙ pick_true (is_text t (σ.tag_of v)) (Some v) None v (is_text-Some t (σ.tag_of v) c.1) refl
 
-  entry-useless : (n p : ℕ) (j : Job) (k : ℕ) (u : Bytes) → ((v : Bytes) → Carries σ u (tag_in j) v → ⊥) → entry_spot σ n p j k u ≡ Leaving n p j
-  entry-useless n p j k u useless = elim (carried_is u (tag_in j) (if_tagged σ (tag_in j) (σ.carried u)) refl) [
+  entry-useless : (n p : ℕ) (j : Job) (k : ℕ) (u : Bytes) → ((v : Bytes) → Carries σ u (job_tag j) v → ⊥) → entry_spot σ n p j k u ≡ Leaving n p j
+  entry-useless n p j k u useless = elim (carried_is u (job_tag j) (if_tagged σ (job_tag j) (σ.carried u)) refl) [
     | inl h ↦ absurd (useless h.0 h.2)
     | inr h ↦ ap (λ z. read_spot σ n p j k u z (σ.exchange_in u)) h.0
   ]
 
-  entry-carries : (n p : ℕ) (j : Job) (k : ℕ) (u v : Bytes) (o : Option Bytes) → Carries σ u (tag_in j) v → σ.exchange_in u ≡ o → entry_spot σ n p j k u ≡ read_spot σ n p j k u (Some v) o
-  entry-carries n p j k u v o carries e = λ i. read_spot σ n p j k u (tagged-carries u (tag_in j) v carries i) (e i)
+  entry-carries : (n p : ℕ) (j : Job) (k : ℕ) (u v : Bytes) (o : Option Bytes) → Carries σ u (job_tag j) v → σ.exchange_in u ≡ o → entry_spot σ n p j k u ≡ read_spot σ n p j k u (Some v) o
+  entry-carries n p j k u v o carries e = λ i. read_spot σ n p j k u (tagged-carries u (job_tag j) v carries i) (e i)
 
   bulk-led : (n p : ℕ) (j : Job) (k : ℕ) (u : Bytes) (c : Spot) → entry_spot σ n p j k u ≡ c → spot_after σ s (Entry n p j k) (Bulk u) ≡ Some c
   bulk-led n p j k u c e = pick_false (is_null_bulk (layer (Bulk u))) _ (option_map (entry_spot σ n p j k) (bulk_of (Bulk u))) c (is_null_bulk-Bulk u) (ap (option_map (entry_spot σ n p j k)) (bulk_of-Bulk u) ∙ ap (λ (z : Spot). Some z) e)

@@ -9,8 +9,8 @@ use Rattle.wire_values.specs.declared.value.Value.TheOpen.{Value-F}
 use Rattle.wire_values.specs.declared.value.Value.TheVariants.{Status, Integer, Bulk, NullBulk, Array, NullArray}
 use Rattle.store_model.specs.Replies.{pair, bulks}
 use Rattle.queue_keys.specs.Names.{Bytes}
-use Rattle.command_blocks.specs.Answers.{integers, bulk_in, bulk_of, number_in, number_of, items_in, items_of, both, pair_among, pair_of}
-use Rattle.manner_laws.specs.Cursor.{is_status, is_null_bulk, is_null_array, all_integers, are_integers, are_two_integers, onto_texts, texts_among, texts_of}
+use Rattle.command_blocks.specs.Answers.{integers, bulk_in, bulk_of, layer_number, number_of, items_in, items_of, both_texts, pair_among, pair_of}
+use Rattle.manner_laws.specs.Cursor.{is_status, is_null_bulk, is_null_array, all_integers, are_integers, are_two_integers, onto_texts, texts_among, bulk_texts_of}
 use Rattle.manner_laws.proofs.Tests.{false_true, none_some, some_parts, bytes_true, and_true, both_true}
 
 -- ---- the layers of values
@@ -76,7 +76,7 @@ null_array_is r h = go (layer r) refl h
 pub number_is : (r : Value) (z : ℤ) → number_of r ≡ Some z → r ≡ Integer z
 number_is r z h = go (layer r) refl h
   where
-    go : (x : Value-F Value) → layer r ≡ x → number_in x ≡ Some z → r ≡ Integer z
+    go : (x : Value-F Value) → layer r ≡ x → layer_number x ≡ Some z → r ≡ Integer z
     go (Value-F.Integer y) e h = layers_tell r (Integer z) (e ∙ ap (λ (y : ℤ). Value-F.Integer y) (some_parts y z h) ∙ sym (layer-Integer z))
     go (Value-F.Status u) e h = none_some _ z h
     go (Value-F.Error u) e h = none_some _ z h
@@ -112,7 +112,7 @@ items_are r vs h = go (layer r) refl h
 -- ---- and what values pass them
 
 pub number_of-Integer : (z : ℤ) → number_of (Integer z) ≡ Some z
-number_of-Integer z = ap number_in (layer-Integer z)
+number_of-Integer z = ap layer_number (layer-Integer z)
 
 pub bulk_of-Bulk : (b : Bytes) → bulk_of (Bulk b) ≡ Some b
 bulk_of-Bulk b = ap bulk_in (layer-Bulk b)
@@ -210,17 +210,17 @@ texts_among-map : (ms : List Bytes) → texts_among (map Bulk ms) ≡ Some ms
 texts_among-map [] = refl
 texts_among-map (m ∷ ms) = λ i. onto_texts (bulk_of-Bulk m i) (texts_among-map ms i)
 
-pub texts_are : (r : Value) (ms : List Bytes) → texts_of r ≡ Some ms → r ≡ bulks ms
+pub texts_are : (r : Value) (ms : List Bytes) → bulk_texts_of r ≡ Some ms → r ≡ bulks ms
 texts_are r ms h = go (items_of r) refl h
   where
     go : (o : Option (List Value)) → items_of r ≡ o → option_and_then texts_among o ≡ Some ms → r ≡ bulks ms
     go None e h = none_some _ ms h
     go (Some vs) e h = items_are r vs e ∙ ap Array (texts_among_are vs ms h)
 
-pub texts_of-bulks : (ms : List Bytes) → texts_of (bulks ms) ≡ Some ms
+pub texts_of-bulks : (ms : List Bytes) → bulk_texts_of (bulks ms) ≡ Some ms
 texts_of-bulks ms = ap (option_and_then texts_among) (items_of-Array (map Bulk ms)) ∙ texts_among-map ms
 
-both_are : (o p : Option Bytes) (x : Bytes × Bytes) → both o p ≡ Some x → (o ≡ Some x.0) × (p ≡ Some x.1)
+both_are : (o p : Option Bytes) (x : Bytes × Bytes) → both_texts o p ≡ Some x → (o ≡ Some x.0) × (p ≡ Some x.1)
 both_are None p x h = none_some _ x h
 both_are (Some k) None x h = none_some _ x h
 both_are (Some k) (Some v) x h = let e = some_parts (k, v) x h in (ap (λ (y : Bytes × Bytes). Some y.0) e, ap (λ (y : Bytes × Bytes). Some y.1) e)
@@ -239,4 +239,4 @@ pair_is r x h = go (items_of r) refl h
     go (Some vs) e h = items_are r vs e ∙ ap Array (pair_among_is vs x h)
 
 pub pair_of-pair : (k v : Bytes) → pair_of (pair k v) ≡ Some (k, v)
-pair_of-pair k v = ap (option_and_then pair_among) (items_of-Array (Bulk k ∷ Bulk v ∷ [])) ∙ (λ i. both (bulk_of-Bulk k i) (bulk_of-Bulk v i))
+pair_of-pair k v = ap (option_and_then pair_among) (items_of-Array (Bulk k ∷ Bulk v ∷ [])) ∙ (λ i. both_texts (bulk_of-Bulk k i) (bulk_of-Bulk v i))

@@ -14,10 +14,10 @@ use Rattle.command_blocks.specs.RouteBlocks.{IsDeclareBlock, IsPublishBlock, IsS
 use Rattle.command_blocks.specs.TakeBlocks.{IsPopBlock, Empty, Unreadable as Unreadable_block, Popped as Popped_block, IsEndBlock, Acknowledged}
 use Rattle.command_blocks.specs.ReturnBlocks.{ReturnEnd, Contended as Was_contended, goes_on, queued_calls, queued_keys, reading, asking, leaving, taking, Carries, Try, whole_try, IsTry, IsTries, Missing as Missing_tries, Useless as Useless_tries, Nowhere, Whole, Eighth, Again}
 use Rattle.command_blocks.specs.PassBlocks.{PassEnd, IsReturns, All_returned, Returned, Returned_until, Ended_early, IsRelease, Own as Own_release, Foreign as Foreign_release, IsPassBlock, tags_among, Is_held, Ran}
-use Rattle.command_blocks.specs.Blocks.{Pings, IsNeutralBlock, Answered as Answered_block, Kind, drawn, passed, IsBlock, Declare, Undeclare, Publish, Publish_short, Pop, End, Return, Pass, Neutral, AreBlocks, IsFrontOfBlocks, IsMannered}
+use Rattle.command_blocks.specs.Blocks.{Pings, IsNeutralBlock, Answered as Answered_block, CounterUse, drawn, passes_after, IsBlock, Declare, Undeclare, Publish, Publish_short, Pop, End, Return, Pass, Neutral, AreBlocks, IsFrontOfBlocks, IsMannered}
 use Rattle.command_blocks.specs.declared.block.Side.{Side}
 use Rattle.command_blocks.specs.declared.block.Side.TheVariants.{Left, Right}
-use Rattle.manner_laws.specs.Spots.{Job, Open, Alone, Of_pass, tag_in, MayPush, settled, Spot, Free, Listed, Pushing, Popped, Pop_begun, Pop_indexed, End_begun, End_removed, Filled, Looking, Waiting, Watched, Leaving, Asking, Ready, Begun, Removed, Putting, Locked, Turning, Release_watched, Release_own, Release_begun, Release_deleted, Release_foreign, pushing, finished, gave_up, routed, Ask, Consent, Entry}
+use Rattle.manner_laws.specs.Spots.{Job, Open, Alone, Of_pass, job_tag, MayPush, sided, Spot, Free, Listed, Pushing, Popped, Pop_begun, Pop_indexed, End_begun, End_removed, Filled, Looking, Waiting, Watched, Leaving, Asking, Ready, Begun, Removed, Putting, Locked, Turning, Release_watched, Release_own, Release_begun, Release_deleted, Release_foreign, pushing, finished, gave_up, routed, Ask, Consent, Entry}
 use Rattle.manner_laws.specs.Machine.{Begins, Declares, Undeclares, Publishes, Lists, Pops, Ends, Returns, Passes, Concerns_none, Asks, Starts, Starts_next, Pushes_first, Pushes, Pop_begins, Pop_indexes, Pop_sets, End_removes, End_deletes, Executes, Names, Tries, Reads, Leaves, Looks_up, Takes, Removes, Deletes, Puts, Moves, Looks, Turns, Lets_go, Inspects, Release_begins, Release_deletes, Release_ends, Leaves_foreign, Tells, Counted, Consented, Was_queued, Counted_both, Answered, Bound, Nothing_there, Unreadable, Readable, Missing, Useless, Unnamed, Named, Looked_up, Moved, Failed, Contended, Taken, Given, Members, Own, Foreign, Nobody, Released, Altered, Goes, Runs, RunsThrough, RunsOff, TellsExchanges}
 use Rattle.std.specs.Prelude.{pos}
 use Rattle.manner_laws.proofs.Steps.{by}
@@ -37,22 +37,22 @@ alone_end : (n p : ℕ) (t : Bytes) (on : Bool) → ended n p (Open t) on ≡ Fr
 alone_end n p t true = refl
 alone_end n p t false = refl
 
-settled_finished : (n p : ℕ) (j : Job) (side : Side) → finished n p (settled j side) ≡ finished n p j
+settled_finished : (n p : ℕ) (j : Job) (side : Side) → finished n p (sided j side) ≡ finished n p j
 settled_finished n p (Open t) side = refl
 settled_finished n p (Alone own t) side = refl
 settled_finished n p (Of_pass t ts) side = refl
 
-settled_gave_up : (n p : ℕ) (j : Job) (side : Side) → gave_up n p (settled j side) ≡ gave_up n p j
+settled_gave_up : (n p : ℕ) (j : Job) (side : Side) → gave_up n p (sided j side) ≡ gave_up n p j
 settled_gave_up n p (Open t) side = refl
 settled_gave_up n p (Alone own t) side = refl
 settled_gave_up n p (Of_pass t ts) side = refl
 
-settled_still : (j : Job) (side : Side) → settled (settled j side) side ≡ settled j side
+settled_still : (j : Job) (side : Side) → sided (sided j side) side ≡ sided j side
 settled_still (Open t) side = refl
 settled_still (Alone own t) side = refl
 settled_still (Of_pass t ts) side = refl
 
-settled_may : (j : Job) (side : Side) → MayPush j side → MayPush (settled j side) side
+settled_may : (j : Job) (side : Side) → MayPush j side → MayPush (sided j side) side
 settled_may (Open t) side may = refl
 settled_may (Alone own t) side may = may
 settled_may (Of_pass t ts) side may = may
@@ -85,19 +85,19 @@ module _ (σ : Setting) (s : ℕ) where
 
   -- ---- tries
 
-  put_runs : (n p : ℕ) (j : Job) (k : ℕ) (v : Bytes) (side : Side) (b : Spot) (rest : List Call) (qs : List (ℕ × Bytes)) → MayPush j side → settled j side ≡ j → Runs σ s (Putting n p j k v []) rest b
+  put_runs : (n p : ℕ) (j : Job) (k : ℕ) (v : Bytes) (side : Side) (b : Spot) (rest : List Call) (qs : List (ℕ × Bytes)) → MayPush j side → sided j side ≡ j → Runs σ s (Putting n p j k v []) rest b
       → Runs σ s (Putting n p j k v (queued_keys qs)) (queued_calls side v qs rest) b
   put_runs n p j k v side b rest [] may same run = run
   put_runs n p j k v side b rest (q ∷ qs) may same run = (
-    Putting n p (settled j side) k v (queued_keys qs),
+    Putting n p (sided j side) k v (queued_keys qs),
     by σ s (Puts n p q.0 j k v q.1 (queued_keys qs) side may) (Was_queued _),
     subst (λ z. Runs σ s (Putting n p z k v (queued_keys qs)) (queued_calls side v qs rest) b) (sym same) (put_runs n p j k v side b rest qs may same run),
   )
 
   -- the transaction of a try, once its keys are known
-  taking_runs : (n p : ℕ) (j : Job) (k : ℕ) (side : Side) (y : Try) (x : Value) (rest : List Call) (b : Spot) (keys : List Bytes) → MayPush j side → queued_keys (y.first ∷ y.others) ≡ keys → Runs σ s (Putting n p (settled j side) k y.envelope []) (call y.g (codes "EXEC" ∷ []) x ∷ rest) b
-      → Runs σ s (routed n p j k y.envelope keys) (taking σ side (tag_in j) y.d y.e y.f y.g y.envelope (y.first ∷ y.others) x rest) b
-  taking_runs n p j k side y x rest b keys may is run = subst (λ z. Runs σ s (routed n p j k y.envelope z) (taking σ side (tag_in j) y.d y.e y.f y.g y.envelope (y.first ∷ y.others) x rest) b) is
+  taking_runs : (n p : ℕ) (j : Job) (k : ℕ) (side : Side) (y : Try) (x : Value) (rest : List Call) (b : Spot) (keys : List Bytes) → MayPush j side → queued_keys (y.first ∷ y.others) ≡ keys → Runs σ s (Putting n p (sided j side) k y.envelope []) (call y.g (codes "EXEC" ∷ []) x ∷ rest) b
+      → Runs σ s (routed n p j k y.envelope keys) (taking σ side (job_tag j) y.d y.e y.f y.g y.envelope (y.first ∷ y.others) x rest) b
+  taking_runs n p j k side y x rest b keys may is run = subst (λ z. Runs σ s (routed n p j k y.envelope z) (taking σ side (job_tag j) y.d y.e y.f y.g y.envelope (y.first ∷ y.others) x rest) b) is
       let q = y.first.1 in
       let qs = queued_keys y.others in (
         Begun n p j k y.envelope q qs,
@@ -109,9 +109,9 @@ module _ (σ : Setting) (s : ℕ) where
             Putting n p j k y.envelope (q ∷ qs),
             by σ s (Deletes n p y.f j k y.envelope q qs) (Was_queued _),
             (
-              Putting n p (settled j side) k y.envelope qs,
+              Putting n p (sided j side) k y.envelope qs,
               by σ s (Puts n p y.first.0 j k y.envelope q qs side may) (Was_queued _),
-              put_runs n p (settled j side) k y.envelope side b _ y.others (settled_may j side may) (settled_still j side) run,
+              put_runs n p (sided j side) k y.envelope side b _ y.others (settled_may j side may) (settled_still j side) run,
             ),
           ),
         ),
@@ -121,9 +121,9 @@ module _ (σ : Setting) (s : ℕ) where
   abbrev EntryRuns : ℕ → ℕ → Job → ℕ → Value → List Call → Spot → Type 0
   EntryRuns n p j k r l b = (mid : Spot) × Tells σ s (Entry n p j k) r mid × Runs σ s mid l b
 
-  asking_runs : IsLawful σ → (n p : ℕ) (j : Job) (k : ℕ) (side : Side) (y : Try) (x : Value) (rest : List Call) (b : Spot) (o : Option Bytes) → σ.exchange_in y.entry ≡ o → MayPush j side → IsTry σ (tag_in j) y
-      → Runs σ s (Putting n p (settled j side) k y.envelope []) (call y.g (codes "EXEC" ∷ []) x ∷ rest) b
-      → EntryRuns n p j k (Bulk y.entry) (asking σ o y.c y.members (taking σ side (tag_in j) y.d y.e y.f y.g y.envelope (y.first ∷ y.others) x rest)) b
+  asking_runs : IsLawful σ → (n p : ℕ) (j : Job) (k : ℕ) (side : Side) (y : Try) (x : Value) (rest : List Call) (b : Spot) (o : Option Bytes) → σ.exchange_in y.entry ≡ o → MayPush j side → IsTry σ (job_tag j) y
+      → Runs σ s (Putting n p (sided j side) k y.envelope []) (call y.g (codes "EXEC" ∷ []) x ∷ rest) b
+      → EntryRuns n p j k (Bulk y.entry) (asking σ o y.c y.members (taking σ side (job_tag j) y.d y.e y.f y.g y.envelope (y.first ∷ y.others) x rest)) b
   asking_runs laws n p j k side y x rest b None is may ok run =
       (routed n p j k y.envelope (σ.keys_in y.entry []), Unnamed n p j k y.entry y.envelope ok.0 is, taking_runs n p j k side y x rest b (σ.keys_in y.entry []) may (ok.1 ∙ laws.keys_in_alone y.entry y.members is) run)
   asking_runs laws n p j k side y x rest b (Some e) is may ok run = (
@@ -135,7 +135,7 @@ module _ (σ : Setting) (s : ℕ) where
   left : (n p : ℕ) (j : Job) (d : ℕ) → Runs σ s (Leaving n p j) (leaving d) (finished n p j)
   left n p j d = (finished n p j, by σ s (Leaves n p d j) (Consented _), refl)
 
-  nowhere_runs : IsLawful σ → (n p : ℕ) (j : Job) (k a d : ℕ) (u v : Bytes) (ms : List Bytes) (o : Option Bytes) → σ.exchange_in u ≡ o → Carries σ u (tag_in j) v → σ.keys_in u ms ≡ []
+  nowhere_runs : IsLawful σ → (n p : ℕ) (j : Job) (k a d : ℕ) (u v : Bytes) (ms : List Bytes) (o : Option Bytes) → σ.exchange_in u ≡ o → Carries σ u (job_tag j) v → σ.keys_in u ms ≡ []
       → EntryRuns n p j k (Bulk u) (asking σ o a ms (leaving d)) (finished n p j)
   nowhere_runs laws n p j k a d u v ms None is carries none =
       (routed n p j k v (σ.keys_in u []), Unnamed n p j k u v carries is, subst (λ z. Runs σ s (routed n p j k v z) (leaving d) (finished n p j)) (sym none ∙ laws.keys_in_alone u ms is) (left n p j d))
@@ -147,9 +147,9 @@ module _ (σ : Setting) (s : ℕ) where
 
   -- the tries after their first two calls
   abbrev TriesRun : ℕ → ℕ → Job → ℕ → Bool → List Call → Type 0
-  TriesRun n p j k on l = (a : ℕ) × (b : ℕ) × (r : Value) × (rest : List Call) × (reading σ (tag_in j) a b r rest ≡ l) × EntryRuns n p j k r rest (ended n p j on)
+  TriesRun n p j k on l = (a : ℕ) × (b : ℕ) × (r : Value) × (rest : List Call) × (reading σ (job_tag j) a b r rest ≡ l) × EntryRuns n p j k r rest (ended n p j on)
 
-  moved_runs : IsLawful σ → (n p : ℕ) (j : Job) (k : ℕ) (side : Side) (y : Try) (zs : List ℤ) → MayPush j side → IsTry σ (tag_in j) y → TriesRun n p j k true (whole_try σ side (tag_in j) y (integers zs) [])
+  moved_runs : IsLawful σ → (n p : ℕ) (j : Job) (k : ℕ) (side : Side) (y : Try) (zs : List ℤ) → MayPush j side → IsTry σ (job_tag j) y → TriesRun n p j k true (whole_try σ side (job_tag j) y (integers zs) [])
   moved_runs laws n p j k side y zs may ok = (
     y.a,
     y.b,
@@ -157,10 +157,10 @@ module _ (σ : Setting) (s : ℕ) where
     _,
     refl,
     asking_runs laws n p j k side y (integers zs) [] (finished n p j) (σ.exchange_in y.entry) refl may ok
-        (finished n p (settled j side), by σ s (Moves n p y.g (settled j side) k y.envelope) (Moved n p (settled j side) k zs), settled_finished n p j side),
+        (finished n p (sided j side), by σ s (Moves n p y.g (sided j side) k y.envelope) (Moved n p (sided j side) k zs), settled_finished n p j side),
   )
 
-  eighth_runs : IsLawful σ → (n p : ℕ) (j : Job) (side : Side) (y : Try) → MayPush j side → IsTry σ (tag_in j) y → TriesRun n p j 7 false (whole_try σ side (tag_in j) y NullArray [])
+  eighth_runs : IsLawful σ → (n p : ℕ) (j : Job) (side : Side) (y : Try) → MayPush j side → IsTry σ (job_tag j) y → TriesRun n p j 7 false (whole_try σ side (job_tag j) y NullArray [])
   eighth_runs laws n p j side y may ok = (
     y.a,
     y.b,
@@ -168,20 +168,20 @@ module _ (σ : Setting) (s : ℕ) where
     _,
     refl,
     asking_runs laws n p j 7 side y NullArray [] (gave_up n p j) (σ.exchange_in y.entry) refl may ok
-        (gave_up n p (settled j side), by σ s (Moves n p y.g (settled j side) 7 y.envelope) (Contended n p (settled j side) 7 refl), settled_gave_up n p j side),
+        (gave_up n p (sided j side), by σ s (Moves n p y.g (sided j side) 7 y.envelope) (Contended n p (sided j side) 7 refl), settled_gave_up n p j side),
   )
 
-  again_runs : IsLawful σ → (n p : ℕ) (j : Job) (k : ℕ) (side : Side) (y : Try) (l : List Call) (b : Spot) → k < 7 → MayPush j side → IsTry σ (tag_in j) y → Runs σ s (Waiting n p (settled j side) (suc k)) l b
-      → EntryRuns n p j k (Bulk y.entry) (asking σ (σ.exchange_in y.entry) y.c y.members (taking σ side (tag_in j) y.d y.e y.f y.g y.envelope (y.first ∷ y.others) NullArray l)) b
+  again_runs : IsLawful σ → (n p : ℕ) (j : Job) (k : ℕ) (side : Side) (y : Try) (l : List Call) (b : Spot) → k < 7 → MayPush j side → IsTry σ (job_tag j) y → Runs σ s (Waiting n p (sided j side) (suc k)) l b
+      → EntryRuns n p j k (Bulk y.entry) (asking σ (σ.exchange_in y.entry) y.c y.members (taking σ side (job_tag j) y.d y.e y.f y.g y.envelope (y.first ∷ y.others) NullArray l)) b
   again_runs laws n p j k side y l b lt may ok run =
-      asking_runs laws n p j k side y NullArray l b (σ.exchange_in y.entry) refl may ok (Waiting n p (settled j side) (suc k), by σ s (Moves n p y.g (settled j side) k y.envelope) (Failed n p (settled j side) k lt), run)
+      asking_runs laws n p j k side y NullArray l b (σ.exchange_in y.entry) refl may ok (Waiting n p (sided j side) (suc k), by σ s (Moves n p y.g (sided j side) k y.envelope) (Failed n p (sided j side) k lt), run)
 
   -- the tries from their first call on
   waiting_runs : (n p : ℕ) (j : Job) (k : ℕ) (on : Bool) (l : List Call) → TriesRun n p j k on l → Runs σ s (Waiting n p j k) l (ended n p j on)
   waiting_runs n p j k on l r = subst (λ z. Runs σ s (Waiting n p j k) z (ended n p j on)) r.4 (Watched n p j k, by σ s (Tries n p r.0 j k) (Consented _), (r.5.0, by σ s (Reads n p r.1 j k) r.5.1, r.5.2))
 
   -- of a job that has shown its side
-  tries_run : IsLawful σ → (n p : ℕ) (j : Job) (side : Side) (k : ℕ) (end : ReturnEnd) (l : List Call) → MayPush j side → settled j side ≡ j → IsTries σ side (tag_in j) k end l → TriesRun n p j k (goes_on end) l
+  tries_run : IsLawful σ → (n p : ℕ) (j : Job) (side : Side) (k : ℕ) (end : ReturnEnd) (l : List Call) → MayPush j side → sided j side ≡ j → IsTries σ side (job_tag j) k end l → TriesRun n p j k (goes_on end) l
   tries_run laws n p j side k end l may same (Missing_tries m a b c) = (a, b, NullBulk, leaving c, refl, (Leaving n p j, Missing n p j k, left n p j c))
   tries_run laws n p j side k end l may same (Useless_tries m a b c u useless) = (a, b, Bulk u, leaving c, refl, (Leaving n p j, Useless n p j k u useless, left n p j c))
   tries_run laws n p j side k end l may same (Nowhere m a b c d u v ms carries none) = (a, b, Bulk u, _, refl, nowhere_runs laws n p j k c d u v ms (σ.exchange_in u) refl carries none)
@@ -308,7 +308,7 @@ module _ (σ : Setting) (s : ℕ) where
     ),
   )
 
-  block_runs : IsLawful σ → TellsExchanges σ → (c : Spot) (n p : ℕ) (kind : Kind) (l : List Call) → IsStart c n p → IsBlock σ s n p kind l → BlockRuns c l (drawn kind n) (passed kind p)
+  block_runs : IsLawful σ → TellsExchanges σ → (c : Spot) (n p : ℕ) (kind : CounterUse) (l : List Call) → IsStart c n p → IsBlock σ s n p kind l → BlockRuns c l (drawn kind n) (passes_after kind p)
   block_runs laws told c n p kind l at (Declare e r x q l' h) = declare_runs c n p e r x q l at h
   block_runs laws told c n p kind l at (Undeclare e r x q l' h) = undeclare_runs c n p e r x q l at h
   block_runs laws told c n p kind l at (Publish v l' h) = publish_runs laws told c n p v l at h
@@ -323,7 +323,7 @@ module _ (σ : Setting) (s : ℕ) where
   blocks_run laws told c n p [] at h = (c, refl)
   blocks_run laws told c n p (b ∷ bs) at h =
       let q = block_runs laws told c n p h.0 b at h.1 in
-      let r = blocks_run laws told q.0 (drawn h.0 n) (passed h.0 p) bs q.1 h.2 in
+      let r = blocks_run laws told q.0 (drawn h.0 n) (passes_after h.0 p) bs q.1 h.2 in
       (r.0, runs_join σ s c q.0 r.0 b (concat bs) q.2 r.1)
 
   pub front_runs : IsLawful σ → TellsExchanges σ → (l : List Call) → IsFrontOfBlocks σ s l → RunsThrough σ s l
@@ -375,7 +375,7 @@ module _ (σ : Setting) (s : ℕ) where
 
   at_putting : (n p : ℕ) (k : ℕ) (v : Bytes) (ks : List Bytes) (j : Job) → EndsSoon (Putting n p j k v ks)
   at_putting n p k v [] j = next _ _ _ (by σ s (Moves n p 0 j k v) (Moved n p j k [])) (at_finished n p j)
-  at_putting n p k v (q ∷ qs) j = let side = a_side j in next _ _ _ (by σ s (Puts n p 0 j k v q qs side.0 side.1) (Was_queued _)) (at_putting n p k v qs (settled j side.0))
+  at_putting n p k v (q ∷ qs) j = let side = a_side j in next _ _ _ (by σ s (Puts n p 0 j k v q qs side.0 side.1) (Was_queued _)) (at_putting n p k v qs (sided j side.0))
 
   at_removed : (n p : ℕ) (j : Job) (k : ℕ) (v q : Bytes) (qs : List Bytes) → EndsSoon (Removed n p j k v q qs)
   at_removed n p j k v q qs = next _ _ _ (by σ s (Deletes n p 0 j k v q qs) (Was_queued _)) (at_putting n p k v (q ∷ qs) j)

@@ -17,7 +17,7 @@ use Rattle.command_blocks.specs.TakeBlocks.{brpop_words}
 use Rattle.command_blocks.specs.PassBlocks.{tags_among, lock_words, due_words}
 use Rattle.command_blocks.specs.declared.block.Side.{Side}
 use Rattle.command_blocks.specs.declared.block.Side.TheVariants.{Left, Right}
-use Rattle.manner_laws.specs.Spots.{Job, Open, Alone, Of_pass, tag_in, settled, Spot, Free, Listed, Pushing, Popped, Pop_begun, Pop_indexed, End_begun, End_removed, Filled, Looking, Waiting, Watched, Leaving, Asking, Ready, Begun, Removed, Putting, Locked, Turning, Release_watched, Release_own, Release_begun, Release_deleted, Release_foreign, pushing, finished, gave_up, routed, Ask, Count, Consent, Queueing, Counts, Anything, Bindings, Message, Entry, Routes, Move, Lock, Due, Holder, Release}
+use Rattle.manner_laws.specs.Spots.{Job, Open, Alone, Of_pass, job_tag, sided, Spot, Free, Listed, Pushing, Popped, Pop_begun, Pop_indexed, End_begun, End_removed, Filled, Looking, Waiting, Watched, Leaving, Asking, Ready, Begun, Removed, Putting, Locked, Turning, Release_watched, Release_own, Release_begun, Release_deleted, Release_foreign, pushing, finished, gave_up, routed, Ask, Count, Consent, Queueing, Counts, Anything, Bindings, Message, Entry, Routes, Move, Lock, Due, Holder, Release}
 use Rattle.manner_laws.specs.Machine.{TellsExchanges}
 
 -- ---- words
@@ -158,9 +158,9 @@ first_push_ask σ s n p e words k v [] = None
 first_push_ask σ s n p e words k v (q ∷ qs) = only_if (is_text (σ.tag s (suc n)) (σ.written_tag v) && is_text e (σ.exchange_of v) && bytes_eq k q) (if_said (codes "LPUSH" ∷ k ∷ v ∷ []) words (Count (pushing n p v qs)))
 
 -- the first, where there is one
-abbrev pub or_else : Option Ask → Option Ask → Option Ask
-or_else None later = later
-or_else (Some q) later = Some q
+abbrev pub or_ask : Option Ask → Option Ask → Option Ask
+or_ask None later = later
+or_ask (Some q) later = Some q
 
 -- the side at which words push
 abbrev pub side_said : Words → Side
@@ -175,7 +175,7 @@ side_for (Of_pass t ts) words = Right
 -- what the words of a client of seed s ask at a spot, at a moment
 abbrev pub ask_at : Setting → (Bytes → Option Bytes) → ℕ → Spot → ℕ → Words → Option Ask
 ask_at σ exchange_at s (Free n p) a words = start_ask σ exchange_at s n p words
-ask_at σ exchange_at s (Listed n p e ms) a words = or_else (first_push_ask σ s n p e words (second words) (third words) (σ.keys_for (third words) ms)) (start_ask σ exchange_at s (suc n) p words)
+ask_at σ exchange_at s (Listed n p e ms) a words = or_ask (first_push_ask σ s n p e words (second words) (third words) (σ.keys_for (third words) ms)) (start_ask σ exchange_at s (suc n) p words)
 ask_at σ exchange_at s (Pushing n p v k ks) a words = if_said (codes "LPUSH" ∷ k ∷ v ∷ []) words (Count (pushing n p v ks))
 ask_at σ exchange_at s (Popped n p v t) a words = if_said (codes "MULTI" ∷ []) words (Consent (Pop_begun n p v t))
 ask_at σ exchange_at s (Pop_begun n p v t) a words = only_if (nat_lt a (2 ^ 40)) (if_said (codes "ZADD" ∷ σ.index ∷ decimal a ∷ t ∷ []) words (Queueing (Pop_indexed n p v t)))
@@ -185,14 +185,14 @@ ask_at σ exchange_at s (End_removed n p t) a words = if_said (codes "HDEL" ∷ 
 ask_at σ exchange_at s (Filled n p) a words = if_said (codes "EXEC" ∷ []) words (Counts (Free n p))
 ask_at σ exchange_at s (Looking n p) a words = only_if (σ.is_tag (third words)) (if_said (codes "HGET" ∷ σ.unacked ∷ third words ∷ []) words (Entry n p (Open (third words)) 0))
 ask_at σ exchange_at s (Waiting n p j k) a words = if_said (codes "WATCH" ∷ σ.unacked ∷ []) words (Consent (Watched n p j k))
-ask_at σ exchange_at s (Watched n p j k) a words = if_said (codes "HGET" ∷ σ.unacked ∷ tag_in j ∷ []) words (Entry n p j k)
+ask_at σ exchange_at s (Watched n p j k) a words = if_said (codes "HGET" ∷ σ.unacked ∷ job_tag j ∷ []) words (Entry n p j k)
 ask_at σ exchange_at s (Leaving n p j) a words = if_said (codes "UNWATCH" ∷ []) words (Consent (finished n p j))
 ask_at σ exchange_at s (Asking n p j k u v e) a words = if_said (codes "SMEMBERS" ∷ σ.binding e ∷ []) words (Routes n p j k u v)
 ask_at σ exchange_at s (Ready n p j k v q qs) a words = if_said (codes "MULTI" ∷ []) words (Consent (Begun n p j k v q qs))
-ask_at σ exchange_at s (Begun n p j k v q qs) a words = if_said (codes "ZREM" ∷ σ.index ∷ tag_in j ∷ []) words (Queueing (Removed n p j k v q qs))
-ask_at σ exchange_at s (Removed n p j k v q qs) a words = if_said (codes "HDEL" ∷ σ.unacked ∷ tag_in j ∷ []) words (Queueing (Putting n p j k v (q ∷ qs)))
+ask_at σ exchange_at s (Begun n p j k v q qs) a words = if_said (codes "ZREM" ∷ σ.index ∷ job_tag j ∷ []) words (Queueing (Removed n p j k v q qs))
+ask_at σ exchange_at s (Removed n p j k v q qs) a words = if_said (codes "HDEL" ∷ σ.unacked ∷ job_tag j ∷ []) words (Queueing (Putting n p j k v (q ∷ qs)))
 ask_at σ exchange_at s (Putting n p j k v []) a words = if_said (codes "EXEC" ∷ []) words (Move n p j k)
-ask_at σ exchange_at s (Putting n p j k v (q ∷ qs)) a words = if_said (push_word (side_for j words) ∷ q ∷ v ∷ []) words (Queueing (Putting n p (settled j (side_for j words)) k v qs))
+ask_at σ exchange_at s (Putting n p j k v (q ∷ qs)) a words = if_said (push_word (side_for j words) ∷ q ∷ v ∷ []) words (Queueing (Putting n p (sided j (side_for j words)) k v qs))
 ask_at σ exchange_at s (Locked n p) a words = only_if (nat_lt (seconds_before a (third words)) (2 ^ 32)) (if_said (due_words σ a (seconds_before a (third words))) words (Due n p))
 ask_at σ exchange_at s (Turning n p []) a words = if_said (codes "WATCH" ∷ σ.mutex ∷ []) words (Consent (Release_watched n p))
 ask_at σ exchange_at s (Turning n p (t ∷ ts)) a words = if_said (codes "WATCH" ∷ σ.unacked ∷ []) words (Consent (Watched n p (Of_pass t ts) 0))
@@ -245,8 +245,8 @@ texts_among [] = Some []
 texts_among (v ∷ vs) = onto_texts (bulk_of v) (texts_among vs)
 
 -- the bytes of an array of bulk strings
-abbrev pub texts_of : Value → Option (List Bytes)
-texts_of r = option_and_then texts_among (items_of r)
+abbrev pub bulk_texts_of : Value → Option (List Bytes)
+bulk_texts_of r = option_and_then texts_among (items_of r)
 
 -- a spot, where the test holds
 abbrev pub spot_if : Bool → Spot → Option Spot
@@ -271,7 +271,7 @@ read_spot σ n p j k u (Some v) (Some e) = Asking n p j k u v e
 
 -- after an entry was read
 abbrev pub entry_spot : Setting → ℕ → ℕ → Job → ℕ → Bytes → Spot
-entry_spot σ n p j k u = read_spot σ n p j k u (if_tagged σ (tag_in j) (σ.carried u)) (σ.exchange_in u)
+entry_spot σ n p j k u = read_spot σ n p j k u (if_tagged σ (job_tag j) (σ.carried u)) (σ.exchange_in u)
 
 -- after a try that failed
 abbrev pub failed_spot : ℕ → ℕ → Job → ℕ → Option Spot
@@ -288,13 +288,13 @@ spot_after σ s (Consent c) r = spot_if (is_status (codes "OK") (layer r)) c
 spot_after σ s (Queueing c) r = spot_if (is_status (codes "QUEUED") (layer r)) c
 spot_after σ s (Counts c) r = spot_if (are_two_integers (items_of r)) c
 spot_after σ s (Anything c) r = spot_if (not (is_error r)) c
-spot_after σ s (Bindings n p e) r = option_map (λ ms. Listed n p e ms) (texts_of r)
+spot_after σ s (Bindings n p e) r = option_map (λ ms. Listed n p e ms) (bulk_texts_of r)
 spot_after σ s (Message n p) r = if is_null_array (layer r) then Some (Free n p) else option_map (λ x. popped_spot n p x.1 (σ.tag_of x.1)) (pair_of r)
 spot_after σ s (Entry n p j k) r = if is_null_bulk (layer r) then Some (Leaving n p j) else option_map (entry_spot σ n p j k) (bulk_of r)
-spot_after σ s (Routes n p j k u v) r = option_map (λ ms. routed n p j k v (σ.keys_in u ms)) (texts_of r)
+spot_after σ s (Routes n p j k u v) r = option_map (λ ms. routed n p j k v (σ.keys_in u ms)) (bulk_texts_of r)
 spot_after σ s (Move n p j k) r = if is_null_array (layer r) then failed_spot n p j k else spot_if (are_integers (items_of r)) (finished n p j)
 spot_after σ s (Lock n p) r = if is_null_bulk (layer r) then Some (Free n (suc p)) else spot_if (is_status (codes "OK") (layer r)) (Locked n p)
-spot_after σ s (Due n p) r = option_map (λ ms. Turning n p (tags_among σ ms)) (texts_of r)
+spot_after σ s (Due n p) r = option_map (λ ms. Turning n p (tags_among σ ms)) (bulk_texts_of r)
 spot_after σ s (Holder n p) r = if is_null_bulk (layer r) then Some (Release_foreign n p) else option_map (holder_spot s n p) (bulk_of r)
 spot_after σ s (Release n p) r = if is_null_array (layer r) then Some (Free n (suc p)) else spot_if (is_some (items_of r)) (Free n (suc p))
 
@@ -312,13 +312,13 @@ cursor_at None = Unlisted
 cursor_at (Some c) = At c
 
 -- once it is known what the words ask
-abbrev pub heard : Setting → ℕ → Option Ask → Value → Cursor
-heard σ s None r = Unmannered
-heard σ s (Some q) r = cursor_at (spot_after σ s q r)
+abbrev pub cursor_after : Setting → ℕ → Option Ask → Value → Cursor
+cursor_after σ s None r = Unmannered
+cursor_after σ s (Some q) r = cursor_at (spot_after σ s q r)
 
 -- after one more call
 abbrev pub judge : Setting → (Bytes → Option Bytes) → ℕ → Cursor → Call → Cursor
-judge σ exchange_at s (At c) x = heard σ s (ask_at σ exchange_at s c x.at x.words) x.answer
+judge σ exchange_at s (At c) x = cursor_after σ s (ask_at σ exchange_at s c x.at x.words) x.answer
 judge σ exchange_at s Unlisted x = Unmannered
 judge σ exchange_at s Unmannered x = Unmannered
 
@@ -340,6 +340,6 @@ pub record IsReadable (σ : Setting) (exchange_at : Bytes → Option Bytes) : Ty
   pub tells : TellsExchanges σ
 
 -- the moments of calls have 64 bits
-abbrev pub AreTimely : List Call → Type 0
-AreTimely [] = Unit {0}
-AreTimely (x ∷ xs) = (x.at < 2 ^ 64) × AreTimely xs
+abbrev pub HaveMomentsOf64Bits : List Call → Type 0
+HaveMomentsOf64Bits [] = Unit {0}
+HaveMomentsOf64Bits (x ∷ xs) = (x.at < 2 ^ 64) × HaveMomentsOf64Bits xs

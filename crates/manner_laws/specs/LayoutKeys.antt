@@ -3,13 +3,13 @@ use Rattle.std.specs.Prelude.{◌≡◌, true, ◌&&◌, nat_le, length, Option,
 use Rattle.std.specs.Str.{is_utf8}
 use Rattle.queue_keys.specs.Names.{Bytes, binding_front}
 use Rattle.queue_keys.specs.Layouts.{Layout, is_layout}
-use Rattle.queue_keys.specs.QueueKeys.{rest_after}
+use Rattle.queue_keys.specs.QueueKeys.{after_front}
 use Rattle.command_blocks.specs.Setting.{Texts, Way, setting_of}
 use Rattle.manner_laws.specs.Cursor.{IsReadable}
 
 -- the exchange whose bindings have this key
 abbrev pub exchange_of_key : Layout → Bytes → Option Bytes
-exchange_of_key l k = option_and_then (rest_after binding_front) (rest_after l.prefix k)
+exchange_of_key l k = option_and_then (after_front binding_front) (after_front l.prefix k)
 
 -- an envelope's exchange is UTF-8 of at most 255 bytes (a short string of AMQP 0-9-1)
 abbrev pub TellsShortExchanges : Texts → Type 0

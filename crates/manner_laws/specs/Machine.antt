@@ -16,7 +16,7 @@ use Rattle.command_blocks.specs.ReturnBlocks.{Carries}
 use Rattle.command_blocks.specs.PassBlocks.{tags_among, lock_words, due_words}
 use Rattle.command_blocks.specs.Blocks.{IsNeutral}
 use Rattle.command_blocks.specs.declared.block.Side.{Side}
-use Rattle.manner_laws.specs.Spots.{Job, Open, Of_pass, tag_in, MayPush, settled, Spot, Free, Listed, Pushing, Popped, Pop_begun, Pop_indexed, End_begun, End_removed, Filled, Looking, Waiting, Watched, Leaving, Asking, Ready, Begun, Removed, Putting, Locked, Turning, Release_watched, Release_own, Release_begun, Release_deleted, Release_foreign, pushing, finished, gave_up, routed, Ask, Count, Consent, Queueing, Counts, Anything, Bindings, Message, Entry, Routes, Move, Lock, Due, Holder, Release}
+use Rattle.manner_laws.specs.Spots.{Job, Open, Of_pass, job_tag, MayPush, sided, Spot, Free, Listed, Pushing, Popped, Pop_begun, Pop_indexed, End_begun, End_removed, Filled, Looking, Waiting, Watched, Leaving, Asking, Ready, Begun, Removed, Putting, Locked, Turning, Release_watched, Release_own, Release_begun, Release_deleted, Release_foreign, pushing, finished, gave_up, routed, Ask, Count, Consent, Queueing, Counts, Anything, Bindings, Message, Entry, Routes, Move, Lock, Due, Holder, Release}
 
 -- words that begin a block of a client of seed s that drew n tags and made p passes, and what they ask
 pub data Begins (σ : Setting) (s n p : ℕ) : Words → Ask → Type 0 where
@@ -48,13 +48,13 @@ pub data Asks (σ : Setting) (s : ℕ) : Spot → ℕ → Words → Ask → Type
   -- a return shows its tag, and its side at the first push
   Names : (n p a : ℕ) (t : Bytes) → σ.is_tag t ≡ true → Asks σ s (Looking n p) a (codes "HGET" ∷ σ.unacked ∷ t ∷ []) (Entry n p (Open t) 0)
   Tries : (n p a : ℕ) (j : Job) (k : ℕ) → Asks σ s (Waiting n p j k) a (codes "WATCH" ∷ σ.unacked ∷ []) (Consent (Watched n p j k))
-  Reads : (n p a : ℕ) (j : Job) (k : ℕ) → Asks σ s (Watched n p j k) a (codes "HGET" ∷ σ.unacked ∷ tag_in j ∷ []) (Entry n p j k)
+  Reads : (n p a : ℕ) (j : Job) (k : ℕ) → Asks σ s (Watched n p j k) a (codes "HGET" ∷ σ.unacked ∷ job_tag j ∷ []) (Entry n p j k)
   Leaves : (n p a : ℕ) (j : Job) → Asks σ s (Leaving n p j) a (codes "UNWATCH" ∷ []) (Consent (finished n p j))
   Looks_up : (n p a : ℕ) (j : Job) (k : ℕ) (u v e : Bytes) → Asks σ s (Asking n p j k u v e) a (codes "SMEMBERS" ∷ σ.binding e ∷ []) (Routes n p j k u v)
   Takes : (n p a : ℕ) (j : Job) (k : ℕ) (v q : Bytes) (qs : List Bytes) → Asks σ s (Ready n p j k v q qs) a (codes "MULTI" ∷ []) (Consent (Begun n p j k v q qs))
-  Removes : (n p a : ℕ) (j : Job) (k : ℕ) (v q : Bytes) (qs : List Bytes) → Asks σ s (Begun n p j k v q qs) a (codes "ZREM" ∷ σ.index ∷ tag_in j ∷ []) (Queueing (Removed n p j k v q qs))
-  Deletes : (n p a : ℕ) (j : Job) (k : ℕ) (v q : Bytes) (qs : List Bytes) → Asks σ s (Removed n p j k v q qs) a (codes "HDEL" ∷ σ.unacked ∷ tag_in j ∷ []) (Queueing (Putting n p j k v (q ∷ qs)))
-  Puts : (n p a : ℕ) (j : Job) (k : ℕ) (v q : Bytes) (qs : List Bytes) (side : Side) → MayPush j side → Asks σ s (Putting n p j k v (q ∷ qs)) a (push_word side ∷ q ∷ v ∷ []) (Queueing (Putting n p (settled j side) k v qs))
+  Removes : (n p a : ℕ) (j : Job) (k : ℕ) (v q : Bytes) (qs : List Bytes) → Asks σ s (Begun n p j k v q qs) a (codes "ZREM" ∷ σ.index ∷ job_tag j ∷ []) (Queueing (Removed n p j k v q qs))
+  Deletes : (n p a : ℕ) (j : Job) (k : ℕ) (v q : Bytes) (qs : List Bytes) → Asks σ s (Removed n p j k v q qs) a (codes "HDEL" ∷ σ.unacked ∷ job_tag j ∷ []) (Queueing (Putting n p j k v (q ∷ qs)))
+  Puts : (n p a : ℕ) (j : Job) (k : ℕ) (v q : Bytes) (qs : List Bytes) (side : Side) → MayPush j side → Asks σ s (Putting n p j k v (q ∷ qs)) a (push_word side ∷ q ∷ v ∷ []) (Queueing (Putting n p (sided j side) k v qs))
   Moves : (n p a : ℕ) (j : Job) (k : ℕ) (v : Bytes) → Asks σ s (Putting n p j k v []) a (codes "EXEC" ∷ []) (Move n p j k)
   Looks : (n p a v : ℕ) → v < 2 ^ 32 → Asks σ s (Locked n p) a (due_words σ a v) (Due n p)
   Turns : (n p a : ℕ) (t : Bytes) (ts : List Bytes) → Asks σ s (Turning n p (t ∷ ts)) a (codes "WATCH" ∷ σ.unacked ∷ []) (Consent (Watched n p (Of_pass t ts) 0))
@@ -77,9 +77,9 @@ pub data Tells (σ : Setting) (s : ℕ) : Ask → Value → Spot → Type 0 wher
   Unreadable : (n p : ℕ) (q v : Bytes) → σ.tag_of v ≡ None → Tells σ s (Message n p) (pair q v) (Free n p)
   Readable : (n p : ℕ) (q v t : Bytes) → σ.tag_of v ≡ Some t → Tells σ s (Message n p) (pair q v) (Popped n p v t)
   Missing : (n p : ℕ) (j : Job) (k : ℕ) → Tells σ s (Entry n p j k) NullBulk (Leaving n p j)
-  Useless : (n p : ℕ) (j : Job) (k : ℕ) (u : Bytes) → ((v : Bytes) → Carries σ u (tag_in j) v → ⊥) → Tells σ s (Entry n p j k) (Bulk u) (Leaving n p j)
-  Unnamed : (n p : ℕ) (j : Job) (k : ℕ) (u v : Bytes) → Carries σ u (tag_in j) v → σ.exchange_in u ≡ None → Tells σ s (Entry n p j k) (Bulk u) (routed n p j k v (σ.keys_in u []))
-  Named : (n p : ℕ) (j : Job) (k : ℕ) (u v e : Bytes) → Carries σ u (tag_in j) v → σ.exchange_in u ≡ Some e → Tells σ s (Entry n p j k) (Bulk u) (Asking n p j k u v e)
+  Useless : (n p : ℕ) (j : Job) (k : ℕ) (u : Bytes) → ((v : Bytes) → Carries σ u (job_tag j) v → ⊥) → Tells σ s (Entry n p j k) (Bulk u) (Leaving n p j)
+  Unnamed : (n p : ℕ) (j : Job) (k : ℕ) (u v : Bytes) → Carries σ u (job_tag j) v → σ.exchange_in u ≡ None → Tells σ s (Entry n p j k) (Bulk u) (routed n p j k v (σ.keys_in u []))
+  Named : (n p : ℕ) (j : Job) (k : ℕ) (u v e : Bytes) → Carries σ u (job_tag j) v → σ.exchange_in u ≡ Some e → Tells σ s (Entry n p j k) (Bulk u) (Asking n p j k u v e)
   Looked_up : (n p : ℕ) (j : Job) (k : ℕ) (u v : Bytes) (ms : List Bytes) → Tells σ s (Routes n p j k u v) (bulks ms) (routed n p j k v (σ.keys_in u ms))
   Moved : (n p : ℕ) (j : Job) (k : ℕ) (zs : List ℤ) → Tells σ s (Move n p j k) (integers zs) (finished n p j)
   Failed : (n p : ℕ) (j : Job) (k : ℕ) → k < 7 → Tells σ s (Move n p j k) NullArray (Waiting n p j (suc k))

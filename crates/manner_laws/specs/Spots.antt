@@ -11,10 +11,10 @@ pub data Job : Type 0 where
   Of_pass : Bytes → List Bytes → Job  -- a pass's, which has these tags still to return
 
 -- the tag that is returned
-abbrev pub tag_in : Job → Bytes
-tag_in (Open t) = t
-tag_in (Alone side t) = t
-tag_in (Of_pass t ts) = t
+abbrev pub job_tag : Job → Bytes
+job_tag (Open t) = t
+job_tag (Alone side t) = t
+job_tag (Of_pass t ts) = t
 
 -- the side may be that of its pushes
 abbrev pub MayPush : Job → Side → Type 0
@@ -23,10 +23,10 @@ MayPush (Alone own t) side = own ≡ side
 MayPush (Of_pass t ts) side = Right ≡ side
 
 -- the same, once it has pushed at this side
-abbrev pub settled : Job → Side → Job
-settled (Open t) side = Alone side t
-settled (Alone own t) side = Alone own t
-settled (Of_pass t ts) side = Of_pass t ts
+abbrev pub sided : Job → Side → Job
+sided (Open t) side = Alone side t
+sided (Alone own t) side = Alone own t
+sided (Of_pass t ts) side = Of_pass t ts
 
 -- where a client is; the first two numbers are the tags drawn and the passes made before its block
 pub data Spot : Type 0 where

@@ -14,7 +14,7 @@ ghost use Rattle.command_blocks.specs.Calls.{Call};
 ghost use Rattle.command_blocks.specs.Blocks.{IsFrontOfBlocks, IsUnlisted, IsMannered};
 ghost use Rattle.manner_laws.specs.Spots.{Spot, Free, Ask};
 ghost use Rattle.manner_laws.specs.Machine.{Asks, Tells, Runs, RunsThrough, RunsOff, TellsExchanges};
-ghost use Rattle.manner_laws.specs.Cursor.{ask_at, spot_after, At, Unlisted, Unmannered, judge, cursor_of, IsReadable, AreTimely};
+ghost use Rattle.manner_laws.specs.Cursor.{ask_at, spot_after, At, Unlisted, Unmannered, judge, cursor_of, IsReadable, HaveMomentsOf64Bits};
 ghost use Rattle.manner_laws.specs.LayoutKeys.{LayoutsTell};
 
 // The prefixes of blocks of a client are just the lists of calls that the exact machine runs through from its start.
@@ -30,11 +30,11 @@ pub fn exact_manner()
 // The cursor judges a client's calls one by one just as its manner does: it comes to a spot just where they are a prefix of
 // blocks, to `Unlisted` just where the answer to the last one isn't listed, and to neither just where they aren't mannered.
 pub fn cursor_exact()
-    ensures front { (σ : Setting) (exchange_at : Bytes → Option Bytes) → IsLawful σ → IsReadable σ exchange_at → (s : ℕ) (l : List Call) → AreTimely l
+    ensures front { (σ : Setting) (exchange_at : Bytes → Option Bytes) → IsLawful σ → IsReadable σ exchange_at → (s : ℕ) (l : List Call) → HaveMomentsOf64Bits l
         → (IsFrontOfBlocks σ s l → (c : Spot) × (cursor_of σ exchange_at s l ≡ At c)) × ((c : Spot) → cursor_of σ exchange_at s l ≡ At c → IsFrontOfBlocks σ s l) }
-    ensures unlisted { (σ : Setting) (exchange_at : Bytes → Option Bytes) → IsLawful σ → IsReadable σ exchange_at → (s : ℕ) (l : List Call) → AreTimely l
+    ensures unlisted { (σ : Setting) (exchange_at : Bytes → Option Bytes) → IsLawful σ → IsReadable σ exchange_at → (s : ℕ) (l : List Call) → HaveMomentsOf64Bits l
         → (IsUnlisted σ s l → cursor_of σ exchange_at s l ≡ Unlisted) × (cursor_of σ exchange_at s l ≡ Unlisted → IsUnlisted σ s l) }
-    ensures mannered { (σ : Setting) (exchange_at : Bytes → Option Bytes) → IsLawful σ → IsReadable σ exchange_at → (s : ℕ) (l : List Call) → AreTimely l
+    ensures mannered { (σ : Setting) (exchange_at : Bytes → Option Bytes) → IsLawful σ → IsReadable σ exchange_at → (s : ℕ) (l : List Call) → HaveMomentsOf64Bits l
         → (IsMannered σ s l → cursor_of σ exchange_at s l ≡ Unmannered → ⊥) × ((cursor_of σ exchange_at s l ≡ Unmannered → ⊥) → IsMannered σ s l) }
 {}
 

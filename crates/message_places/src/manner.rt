@@ -1,6 +1,6 @@
 //! The manner of a client, judged call by call.
 ghost use Rattle.store_model.specs.Words.{Words};
-ghost use Rattle.manner_laws.specs.Cursor.{At, AreTimely, Unlisted, Unmannered, ask_at, cursor_of};
+ghost use Rattle.manner_laws.specs.Cursor.{At, HaveMomentsOf64Bits, Unlisted, Unmannered, ask_at, cursor_of};
 ghost use Rattle.manner_laws.specs.LayoutKeys.{exchange_of_key};
 ghost use Rattle.manner_laws.specs.Machine.{Asks};
 ghost use Rattle.manner_laws.specs.Spots.{Ask, Spot};
@@ -14,11 +14,11 @@ ghost use Rattle.std.specs.Prelude.{◌≡◌, true, ◌^◌, ◌<◌, ℕ, List
 /// The cursor judges a client's calls just as its manner does: it comes to a spot just where they are a prefix of blocks, to
 /// `Unlisted` just where the answer to the last one isn't listed, and to neither just where they aren't mannered.
 pub fn cursor_exact()
-    ensures front { (κ : Layout) → is_layout κ ≡ true → let σ = setting_of κ texts in (s : ℕ) (l : List Call) → AreTimely l
+    ensures front { (κ : Layout) → is_layout κ ≡ true → let σ = setting_of κ texts in (s : ℕ) (l : List Call) → HaveMomentsOf64Bits l
         → (IsFrontOfBlocks σ s l → (c : Spot) × (cursor_of σ (exchange_of_key κ) s l ≡ At c)) × ((c : Spot) → cursor_of σ (exchange_of_key κ) s l ≡ At c → IsFrontOfBlocks σ s l) }
-    ensures unlisted { (κ : Layout) → is_layout κ ≡ true → let σ = setting_of κ texts in (s : ℕ) (l : List Call) → AreTimely l
+    ensures unlisted { (κ : Layout) → is_layout κ ≡ true → let σ = setting_of κ texts in (s : ℕ) (l : List Call) → HaveMomentsOf64Bits l
         → (IsUnlisted σ s l → cursor_of σ (exchange_of_key κ) s l ≡ Unlisted) × (cursor_of σ (exchange_of_key κ) s l ≡ Unlisted → IsUnlisted σ s l) }
-    ensures mannered { (κ : Layout) → is_layout κ ≡ true → let σ = setting_of κ texts in (s : ℕ) (l : List Call) → AreTimely l
+    ensures mannered { (κ : Layout) → is_layout κ ≡ true → let σ = setting_of κ texts in (s : ℕ) (l : List Call) → HaveMomentsOf64Bits l
         → (IsMannered σ s l → cursor_of σ (exchange_of_key κ) s l ≡ Unmannered → ⊥) × ((cursor_of σ (exchange_of_key κ) s l ≡ Unmannered → ⊥) → IsMannered σ s l) }
 {}
 

@@ -9,9 +9,9 @@ use Rattle.place_model.specs.declared.heard.Heard.{Heard}
 use Rattle.place_theorem.proofs.Sound.{placed_one}
 use Rattle.message_places.proofs.Serving.{exchanges, facts, full}
 use Rattle.schedule_model.specs.EachPlaced.{IsEachPlaced}
-use Rattle.schedule_model.specs.Desk.{Desk}
+use Rattle.schedule_model.specs.Desk.{ScheduleReader}
 use Rattle.schedule_model.specs.Programs.{program_craft}
-use Rattle.schedule_model.specs.Schedules.{Determined, Whole, Full, Bad_line, history_of, schedule_run}
+use Rattle.schedule_model.specs.Schedules.{Determined, Whole, Full, Bad_line, reader_history, schedule_run}
 use Rattle.schedule_laws.specs.Sound.{IsCraft, IsSoundlyDetermined}
 use Rattle.schedule_laws.proofs.Crafts.{layout_craft}
 use Rattle.schedule_laws.proofs.Determined.{schedule_sound}
@@ -36,8 +36,8 @@ placed : (h : History Heard) → IsSound plain_setting h → IsEachPlaced h
 placed h is p t front accepted single = placed_one (full plain lawful) h p t is front accepted single
 
 all_placed : (r : Determined) → IsSoundlyDetermined plain_setting r → ArePlaced r
-all_placed (Whole d) s = placed (history_of d) s.history
-all_placed (Full n cost) s = (s.0, placed (history_of s.0) s.1.history, s.2, s.3, s.4)
+all_placed (Whole d) s = placed (reader_history d) s.history
+all_placed (Full n cost) s = (s.0, placed (reader_history s.0) s.1.history, s.2, s.3, s.4)
 all_placed (Bad_line n reason) s = tt
 
 pub each_placed : HistoriesPlaced
@@ -46,13 +46,13 @@ each_placed bytes = all_placed (schedule_run program_craft bytes) (sound bytes)
 -- ---- of a whole history
 
 -- the history that a schedule determines is sound
-pub whole_sound : (bytes : Bytes) (d : Desk) → schedule_run program_craft bytes ≡ Whole d → IsSound plain_setting (history_of d)
+pub whole_sound : (bytes : Bytes) (d : ScheduleReader) → schedule_run program_craft bytes ≡ Whole d → IsSound plain_setting (reader_history d)
 whole_sound bytes d e = (subst (IsSoundlyDetermined plain_setting) e (sound bytes)).history
 
 -- and its messages are in their places
-pub whole_placed : (bytes : Bytes) (d : Desk) → schedule_run program_craft bytes ≡ Whole d → IsEachPlaced (history_of d)
-whole_placed bytes d e = placed (history_of d) (whole_sound bytes d e)
+pub whole_placed : (bytes : Bytes) (d : ScheduleReader) → schedule_run program_craft bytes ≡ Whole d → IsEachPlaced (reader_history d)
+whole_placed bytes d e = placed (reader_history d) (whole_sound bytes d e)
 
 -- and it leaves the desk's store
-pub whole_store : (bytes : Bytes) (d : Desk) → schedule_run program_craft bytes ≡ Whole d → (after (history_of d)).store ≡ d.store
+pub whole_store : (bytes : Bytes) (d : ScheduleReader) → schedule_run program_craft bytes ≡ Whole d → (after (reader_history d)).store ≡ d.store
 whole_store bytes d e = (subst (IsSoundlyDetermined plain_setting) e (sound bytes)).store

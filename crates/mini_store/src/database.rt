@@ -3,7 +3,7 @@ ghost use Rattle.store_model.specs.Commands.{is_queued, run};
 ghost use Rattle.store_model.specs.Connections.{Conns, around, cleared, conn, joined, posted, touched, with_queue, without};
 ghost use Rattle.store_model.specs.Keys.{Keys};
 ghost use Rattle.store_model.specs.Replies.{aborted, channel_answer, done, full, not_inside, number, queued};
-ghost use Rattle.store_model.specs.Store.{State, answer_to, apply_of, discard, empty_state, executed, finds, gone_of, heard_plain, inside, is_heard, multi, plain, quiet, ready_of, refused, run_all, run_one, run_queue, serve, settled, set_conn, spoken, subscribe, to_queue, unsubscribe, unwatch, watch};
+ghost use Rattle.store_model.specs.Store.{State, answer_to, apply_of, discard, empty_state, executed, finds, gone_of, heard_plain, inside, is_heard, multi, outside_transaction, quiet, ready_of, refused, run_all, run_one, run_queue, serve, settled, set_conn, spoken, subscribe, to_queue, unsubscribe, unwatch, watch};
 ghost use Rattle.store_model.specs.Words.{brpop_of, command_of, upper_byte};
 ghost use Rattle.std.specs.FinMap.{insert, remove};
 ghost use Rattle.std.specs.Prelude.{◌≡◌, ◌<◌, ◌^◌, [], ◌∷◌, ◌++◌, ℕ, IfOk, IsTrue, None, OnOk, Some, bytes_eq, codes, false, is_some, length, map as mapped, nat_lt, true};
@@ -250,7 +250,7 @@ impl Database {
         command: Command,
     ) -> Result<Value, AllocError>
         requires { at < 2 ^ 40 }
-        ensures { IfOk result (λ v. (self.new, v) ≡ plain at self.old number (conn self.old.conns number) command) }
+        ensures { IfOk result (λ v. (self.new, v) ≡ outside_transaction at self.old number (conn self.old.conns number) command) }
     {
         match command {
             Command::Multi => self.multi(alloc, number),

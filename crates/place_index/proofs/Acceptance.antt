@@ -13,7 +13,7 @@ use Rattle.envelope.proofs.EnvelopeTags.{tag_text_is}
 use Rattle.place_model.specs.Accepted.{accepted_by, accepted_tags, firsts, places}
 use Rattle.command_blocks.specs.Answers.{number_of}
 use Rattle.command_blocks.specs.EnvelopeTexts.{plain_setting}
-use Rattle.place_index.specs.Gathered.{act_of, gathered, kind_of, listed, number, push_act, push_at, push_of, push_told, walk_called, walk_start, walk_stopped, walked, walked_all}
+use Rattle.place_index.specs.Gathered.{act_of, gathered, kind_of, listed, number_told, push_act, push_at, push_of, push_told, walk_called, walk_start, walk_stopped, walked, walked_all}
 use Rattle.place_model.specs.Histories.{History}
 use Rattle.queue_keys.specs.Names.{Bytes, same}
 use Rattle.place_model.specs.PlaceOf.{place_of}
@@ -98,7 +98,7 @@ first_texts (n ∷ ns) a =
 no_tag : {P : Type 0} (u : Bytes) → tag_of_text u ≡ None → is_tag u ≡ true → P
 no_tag u e f = false_true (ap is_some (sym e) ∙ f)
 
-tag_told : (o : Option Bytes) → ((u : Bytes) → o ≡ Some u → is_tag u ≡ true) → map tag_text (listed (number o)) ≡ tag_list o
+tag_told : (o : Option Bytes) → ((u : Bytes) → o ≡ Some u → is_tag u ≡ true) → map tag_text (listed (number_told o)) ≡ tag_list o
 tag_told None h = refl
 tag_told (Some u) h = go (tag_of_text u) refl
   where
@@ -106,7 +106,7 @@ tag_told (Some u) h = go (tag_of_text u) refl
     go None e = no_tag u e (h u refl)
     go (Some n) e = ap (λ (t : Bytes). t ∷ []) (sym (text_is u n e))
 
-number_own : (o : Option Bytes) → AreOwn (listed (number o))
+number_own : (o : Option Bytes) → AreOwn (listed (number_told o))
 number_own None = tt
 number_own (Some u) = go (tag_of_text u) refl
   where
@@ -127,8 +127,8 @@ pushed_texts : (c : Command) (r : Value) → map tag_text (listed (push_of (kind
 pushed_texts (Lpush k []) r = ap (map tag_text) (none_told (number_of r))
 pushed_texts (Lpush k (v ∷ [])) r = by (number_of r)
   where
-    by_queue : (z : ℤ) (b : Bool) → map tag_text (listed (push_told (if b then push_act (number (plain_setting.tag_of v)) else Nothing) (Some z))) ≡ (if b then tag_list (plain_setting.tag_of v) else [])
-    by_queue z true = ap (map tag_text) (push_listed z (number (plain_setting.tag_of v))) ∙ tag_told (plain_setting.tag_of v) (λ u e. tag_text_is v u e)
+    by_queue : (z : ℤ) (b : Bool) → map tag_text (listed (push_told (if b then push_act (number_told (plain_setting.tag_of v)) else Nothing) (Some z))) ≡ (if b then tag_list (plain_setting.tag_of v) else [])
+    by_queue z true = ap (map tag_text) (push_listed z (number_told (plain_setting.tag_of v))) ∙ tag_told (plain_setting.tag_of v) (λ u e. tag_text_is v u e)
     by_queue z false = refl
 
     by : (o : Option ℤ) → map tag_text (listed (push_told (push_at plain_setting k v) o)) ≡ push_with plain_setting k v o
@@ -141,8 +141,8 @@ pushed_own : (c : Command) (r : Value) → AreOwn (listed (push_of (kind_of c) (
 pushed_own (Lpush k []) r = subst AreOwn (sym (none_told (number_of r))) tt
 pushed_own (Lpush k (v ∷ [])) r = by (number_of r)
   where
-    by_queue : (z : ℤ) (b : Bool) → AreOwn (listed (push_told (if b then push_act (number (plain_setting.tag_of v)) else Nothing) (Some z)))
-    by_queue z true = subst AreOwn (sym (push_listed z (number (plain_setting.tag_of v)))) (number_own (plain_setting.tag_of v))
+    by_queue : (z : ℤ) (b : Bool) → AreOwn (listed (push_told (if b then push_act (number_told (plain_setting.tag_of v)) else Nothing) (Some z)))
+    by_queue z true = subst AreOwn (sym (push_listed z (number_told (plain_setting.tag_of v)))) (number_own (plain_setting.tag_of v))
     by_queue z false = tt
 
     by : (o : Option ℤ) → AreOwn (listed (push_told (push_at plain_setting k v) o))

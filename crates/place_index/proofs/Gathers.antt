@@ -6,7 +6,7 @@ use Rattle.store_model.specs.declared.command.Command.TheVariants.{Brpop, Multi,
 use Rattle.command_blocks.specs.Answers.{pair_of}
 use Rattle.command_blocks.specs.Calls.{Call}
 use Rattle.place_model.specs.Counts.{count, sum_of}
-use Rattle.place_index.specs.Gathered.{act_of, acts_after, hand_after, hand_with, has, kind_of, number, times}
+use Rattle.place_index.specs.Gathered.{act_of, acts_after, hand_after, hand_with, has, kind_of, number_told, times}
 use Rattle.queue_keys.specs.Names.{Bytes}
 use Rattle.place_model.specs.Seen.{Seen, hand_by, hand_from, nothing_seen, seen, seen_by, seen_from, since_by}
 use Rattle.command_blocks.specs.Setting.{Setting, is_queue}
@@ -91,15 +91,15 @@ seen_more σ l y = seen_from-append σ nothing_seen l y
 
 -- ---- hands and acts
 
-pub hand_is : (σ : Setting) (o : Option Bytes) (c : Command) (r : Value) → number (hand_by σ o c r) ≡ hand_after σ (number o) (kind_of c) r
+pub hand_is : (σ : Setting) (o : Option Bytes) (c : Command) (r : Value) → number_told (hand_by σ o c r) ≡ hand_after σ (number_told o) (kind_of c) r
 hand_is σ o Exec r = refl
 hand_is σ o (Brpop ks) r = from (pair_of r)
   where
-    by_queue : (p : Bytes × Bytes) (b : Bool) → number (if b then σ.tag_of p.1 else o) ≡ (if b then number (σ.tag_of p.1) else number o)
+    by_queue : (p : Bytes × Bytes) (b : Bool) → number_told (if b then σ.tag_of p.1 else o) ≡ (if b then number_told (σ.tag_of p.1) else number_told o)
     by_queue p true = refl
     by_queue p false = refl
 
-    from : (q : Option (Bytes × Bytes)) → number (hand_from σ o q) ≡ hand_with σ (number o) q
+    from : (q : Option (Bytes × Bytes)) → number_told (hand_from σ o q) ≡ hand_with σ (number_told o) q
     from None = refl
     from (Some p) = by_queue p (is_queue σ p.0)
 hand_is σ o other r = refl

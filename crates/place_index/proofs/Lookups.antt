@@ -5,12 +5,12 @@ use Rattle.std.specs.FinMap.{empty, entries, get}
 use Rattle.envelope.specs.Tags.{tag_text}
 use Rattle.envelope.specs.declared.tag.Tag.{Tag}
 use Rattle.command_blocks.specs.EnvelopeTexts.{plain_setting}
-use Rattle.place_index.specs.Gathered.{first_of, gathered, has, hands, listed_place, place_by, single_place, times, told_by}
+use Rattle.place_index.specs.Gathered.{first_of, gathered, has, hands, listed_place, place_by, single_place, times, standing_in}
 use Rattle.place_model.specs.Histories.{History, after}
 use Rattle.place_index.specs.Indexed.{IsIndexOf, by_tally, place_in, single_in}
 use Rattle.place_index.specs.Kept.{is_kept}
 use Rattle.queue_keys.specs.Names.{Bytes}
-use Rattle.place_model.specs.PlaceOf.{by_counts, or_else, place_of}
+use Rattle.place_model.specs.PlaceOf.{by_counts, or_place, place_of}
 use Rattle.place_model.specs.Placed.{all_placed, placed}
 use Rattle.place_index.specs.Tallies.{tally}
 use Rattle.place_model.specs.declared.heard.Heard.{Heard}
@@ -36,14 +36,14 @@ has_is t ns o e = ap is_some e ∙ some_tally (times t ns) ∙ positive-times t 
 
 -- a place by what was looked up
 single : Option (Bytes × ℕ) → Bool → Option ℕ → Bool → Option ℕ → Place
-single s k h e l = or_else listed_place s (if k then Unacked else or_else Hand h (if e then Ended else or_else Lost l Never))
+single s k h e l = or_place listed_place s (if k then Unacked else or_place Hand h (if e then Ended else or_place Lost l Never))
 
 module _ (h : History Heard) (x : Index) (i : IsIndexOf h x) (t : ℕ) where
-  single_is : single_in x t ≡ single_place t (gathered plain_setting h) (told_by plain_setting (entries (after h).store.keys)) (is_kept (after h).store.keys t)
+  single_is : single_in x t ≡ single_place t (gathered plain_setting h) (standing_in plain_setting (entries (after h).store.keys)) (is_kept (after h).store.keys t)
   unfolding single
   single_is =
       let k = gathered plain_setting h in
-      let told = told_by plain_setting (entries (after h).store.keys) in
+      let told = standing_in plain_setting (entries (after h).store.keys) in
       let kept = is_kept (after h).store.keys t in
       let e : single_in x t ≡ single (get x.standing t) (is_kept x.store.state.keys t) (get x.hands t) (is_some (get x.ended t)) (get x.losses t) = refl in
       e
@@ -53,10 +53,10 @@ module _ (h : History Heard) (x : Index) (i : IsIndexOf h x) (t : ℕ) where
       ∙ ap (λ b. single (first_of t told) kept (first_of t (hands false (entries k.seats))) b (get x.losses t)) (has_is t k.ended (get x.ended t) (i.ended t))
       ∙ ap (λ o. single (first_of t told) kept (first_of t (hands false (entries k.seats))) (has t k.ended) o) (i.lost t)
 
-  place_by_is : place_in x t ≡ place_by t (gathered plain_setting h) (told_by plain_setting (entries (after h).store.keys)) (is_kept (after h).store.keys t)
+  place_by_is : place_in x t ≡ place_by t (gathered plain_setting h) (standing_in plain_setting (entries (after h).store.keys)) (is_kept (after h).store.keys t)
   place_by_is =
       let k = gathered plain_setting h in
-      let p = single_place t k (told_by plain_setting (entries (after h).store.keys)) (is_kept (after h).store.keys t) in
+      let p = single_place t k (standing_in plain_setting (entries (after h).store.keys)) (is_kept (after h).store.keys t) in
       ap (λ o. by_tally o (is_some (get x.copied t)) (single_in x t)) (i.pushes t)
       ∙ ap (λ b. by_tally (tally (times t k.pushes)) b (single_in x t)) (has_is t k.copied (get x.copied t) (i.copied t))
       ∙ ap (λ q. by_tally (tally (times t k.pushes)) (has t k.copied) q) single_is

@@ -5,7 +5,7 @@ use Rattle.std.specs.FinMap.{FinMap, empty, get, get-empty, insert}
 use Rattle.store_model.specs.Store.{empty_state}
 use Rattle.command_blocks.specs.Calls.{call}
 use Rattle.place_index.specs.Gathered.{new_seat, seated, walk_start}
-use Rattle.place_model.specs.Histories.{Client, World, after_entries, conn_of, new_client, next, next_of, start_from, table}
+use Rattle.place_model.specs.Histories.{Client, SystemState, after_entries, conn_of, new_client, next, next_of, start_from, table}
 use Rattle.place_index.specs.Stored.{store_after, store_next}
 use Rattle.place_model.specs.declared.heard.Heard.{Heard}
 use Rattle.place_model.specs.declared.history.Entry.{Entry}
@@ -23,7 +23,7 @@ still_there m k old new e c = ap is_some (get_put m k new c) ∙ go (k == c) ref
     go false s = refl
 
 -- an entry leaves the store that the code leaves, and the same clients
-one : (w : World) (e : Entry Heard) (o : Option Client) → get w.clients (conn_of e) ≡ o
+one : (w : SystemState) (e : Entry Heard) (o : Option Client) → get w.clients (conn_of e) ≡ o
     → ((next_of w e o).store ≡ store_next (is_some o) w.store e) × ((c : ℕ) → is_some (get (next_of w e o).clients c) ≡ is_some (get w.clients c))
 one w e None is = (refl, λ c. refl)
 one w (Called c at words reply) (Some cl) is = (refl, still_there w.clients c cl (record cl { calls = cl.calls ++ call at words reply.answer ∷ [] }) is)
@@ -31,12 +31,12 @@ one w (Noted c note) (Some cl) is = (refl, λ c. refl)
 one w (Stop c) (Some cl) is = (refl, still_there w.clients c cl (record cl { stopped = true }) is)
 
 -- an entry leaves the same, whatever is known of its client
-step : (w : World) (e : Entry Heard) → ((next w e).store ≡ store_next (is_some (get w.clients (conn_of e))) w.store e) × ((c : ℕ) → is_some (get (next w e).clients c) ≡ is_some (get w.clients c))
+step : (w : SystemState) (e : Entry Heard) → ((next w e).store ≡ store_next (is_some (get w.clients (conn_of e))) w.store e) × ((c : ℕ) → is_some (get (next w e).clients c) ≡ is_some (get w.clients c))
 unfolding next
 step w e = one w e (get w.clients (conn_of e)) refl
 
 -- entries in a row
-steps : {X : Type 0} (known : FinMap nat_cmp X) (es : List (Entry Heard)) (w : World) → ((c : ℕ) → is_some (get known c) ≡ is_some (get w.clients c)) → store_after known w.store es ≡ (after_entries w es).store
+steps : {X : Type 0} (known : FinMap nat_cmp X) (es : List (Entry Heard)) (w : SystemState) → ((c : ℕ) → is_some (get known c) ≡ is_some (get w.clients c)) → store_after known w.store es ≡ (after_entries w es).store
 steps known [] w h = refl
 steps known (e ∷ es) w h =
     let s = step w e in

@@ -12,8 +12,8 @@ use Rattle.store_model.specs.Words.{command_of}
 use Rattle.envelope.specs.Tags.{tag_of_text}
 use Rattle.command_blocks.specs.Calls.{Call, call}
 use Rattle.place_model.specs.Counts.{copy_one, copy_weight, count, end_one, end_weight, over_clients, push_weight, sum_of, total}
-use Rattle.place_index.specs.Gathered.{act_of, copied_by, ended_by, hand_after, has, kind_of, listed, number, push_of, seat_after, seat_of, times, walk_called, walk_stopped, walked, walked_all}
-use Rattle.place_model.specs.Histories.{Client, World, after_entries, conn_of, next, next_of, with_client}
+use Rattle.place_index.specs.Gathered.{act_of, copied_by, ended_by, hand_after, has, kind_of, listed, number_told, push_of, seat_after, seat_of, times, walk_called, walk_stopped, walked, walked_all}
+use Rattle.place_model.specs.Histories.{Client, SystemState, after_entries, conn_of, next, next_of, with_client}
 use Rattle.queue_keys.specs.Names.{Bytes, same}
 use Rattle.place_model.specs.Seen.{Seen, push_by, ran_by, seen, seen_by}
 use Rattle.command_blocks.specs.Setting.{Setting}
@@ -83,7 +83,7 @@ module _ {X : Type 0} where
 -- ---- the walk follows the world
 
 -- what the walk has is what the world has, for the tag of number t and text x
-pub record Follows (σ : Setting) (t : ℕ) (x : Bytes) (w : World) (k : Walk) : Type 0 where
+pub record Follows (σ : Setting) (t : ℕ) (x : Bytes) (w : SystemState) (k : Walk) : Type 0 where
   pub seats : (c : ℕ) → get k.seats c ≡ option_map (seat_of σ) (get w.clients c)
   pub pushes : over_clients w (push_weight σ x) ≡ times t k.pushes
   pub ended : positive (over_clients w (end_weight σ x)) ≡ has t k.ended
@@ -96,12 +96,12 @@ with_call cl y = record cl { calls = cl.calls ++ y ∷ [] }
 seat_more : (σ : Setting) (cl : Client) (y : Call) → seat_of σ (with_call cl y) ≡ seat_after σ (seat_of σ cl) (kind_of (command_of y.words)) (act_of σ (command_of y.words)) y.answer
 seat_more σ cl y =
     let e = seen_more σ cl.calls y in
-    ap (λ (s : Seen). record { hand = number s.hand; acts = map (act_of σ) s.since; stopped = cl.stopped }) e
+    ap (λ (s : Seen). record { hand = number_told s.hand; acts = map (act_of σ) s.since; stopped = cl.stopped }) e
     ∙ ap (λ h. record { hand = h; acts = map (act_of σ) (seen_by σ (seen σ cl.calls) (command_of y.words) y.answer).since; stopped = cl.stopped }) (hand_is σ (seen σ cl.calls).hand (command_of y.words) y.answer)
-    ∙ ap (λ a. record { hand = hand_after σ (number (seen σ cl.calls).hand) (kind_of (command_of y.words)) y.answer; acts = a; stopped = cl.stopped }) (acts_are σ (seen σ cl.calls).since (command_of y.words))
+    ∙ ap (λ a. record { hand = hand_after σ (number_told (seen σ cl.calls).hand) (kind_of (command_of y.words)) y.answer; acts = a; stopped = cl.stopped }) (acts_are σ (seen σ cl.calls).since (command_of y.words))
 
 module _ (σ : Setting) (t : ℕ) (x : Bytes) (tells : (u : Bytes) → same u x ≡ is_number t (tag_of_text u)) where
-  seats_more : (w : World) (k : Walk) (c : ℕ) (new : Client) (seat : Seat) → ((q : ℕ) → get k.seats q ≡ option_map (seat_of σ) (get w.clients q)) → seat_of σ new ≡ seat → (q : ℕ) → get (insert k.seats c seat) q ≡ option_map (seat_of σ) (get (insert w.clients c new) q)
+  seats_more : (w : SystemState) (k : Walk) (c : ℕ) (new : Client) (seat : Seat) → ((q : ℕ) → get k.seats q ≡ option_map (seat_of σ) (get w.clients q)) → seat_of σ new ≡ seat → (q : ℕ) → get (insert k.seats c seat) q ≡ option_map (seat_of σ) (get (insert w.clients c new) q)
   seats_more w k c new seat h is q = go (decided nat_cmp_total nat_cmp-IsAntisymmetric q c)
     where
       go : (q ≡ c) ⊎ (q ≢ c) → get (insert k.seats c seat) q ≡ option_map (seat_of σ) (get (insert w.clients c new) q)
@@ -112,7 +112,7 @@ module _ (σ : Setting) (t : ℕ) (x : Bytes) (tells : (u : Bytes) → same u x 
   or_more : (a b : ℕ) (p q : Bool) → positive a ≡ p → positive b ≡ q → positive (a + b) ≡ (p || q)
   or_more a b p q e f = positive-plus a b ∙ ap (λ z. z || positive b) e ∙ ap (λ z. p || z) f
 
-  called : (w : World) (k : Walk) (s : State) (c : ℕ) (cl : Client) (y : Call) → Follows σ t x w k → get w.clients c ≡ Some cl
+  called : (w : SystemState) (k : Walk) (s : State) (c : ℕ) (cl : Client) (y : Call) → Follows σ t x w k → get w.clients c ≡ Some cl
       → Follows σ t x (with_client s w c (with_call cl y)) (walk_called σ k c (kind_of (command_of y.words)) (act_of σ (command_of y.words)) y.answer (Some (seat_of σ cl)))
   called w k s c cl y h is =
       let m = seen_more σ cl.calls y in
@@ -142,7 +142,7 @@ module _ (σ : Setting) (t : ℕ) (x : Bytes) (tells : (u : Bytes) → same u x 
   less_none_of : (n : ℕ) → n + 0 ≡ n
   less_none_of n = omega arith
 
-  stopped : (w : World) (k : Walk) (s : State) (c : ℕ) (cl : Client) → Follows σ t x w k → get w.clients c ≡ Some cl
+  stopped : (w : SystemState) (k : Walk) (s : State) (c : ℕ) (cl : Client) → Follows σ t x w k → get w.clients c ≡ Some cl
       → Follows σ t x (with_client s w c (record cl { stopped = true })) (walk_stopped k c (Some (seat_of σ cl)))
   stopped w k s c cl h is =
       let new = record cl { stopped = true } in
@@ -154,7 +154,7 @@ module _ (σ : Setting) (t : ℕ) (x : Bytes) (tells : (u : Bytes) → same u x 
       }
 
   -- by what is known of the client
-  step_by : (w : World) (k : Walk) (e : Entry Heard) (o : Option Client) → Follows σ t x w k → get w.clients (conn_of e) ≡ o → Follows σ t x (next_of w e o) (walked σ k e)
+  step_by : (w : SystemState) (k : Walk) (e : Entry Heard) (o : Option Client) → Follows σ t x w k → get w.clients (conn_of e) ≡ o → Follows σ t x (next_of w e o) (walked σ k e)
   step_by w k (Noted c note) None h is = h
   step_by w k (Noted c note) (Some cl) h is = h
   step_by w k (Called c at words reply) None h is =
@@ -169,10 +169,10 @@ module _ (σ : Setting) (t : ℕ) (x : Bytes) (tells : (u : Bytes) → same u x 
       subst (λ q. Follows σ t x (next_of {N = Heard} w (Stop c) (Some cl)) (walk_stopped k c q)) (sym (h.seats c ∙ ap (option_map (seat_of σ)) is))
       (stopped w k (gone_of w.store c) c cl h is)
 
-  pub step : (w : World) (k : Walk) (e : Entry Heard) → Follows σ t x w k → Follows σ t x (next w e) (walked σ k e)
+  pub step : (w : SystemState) (k : Walk) (e : Entry Heard) → Follows σ t x w k → Follows σ t x (next w e) (walked σ k e)
   unfolding next
   step w k e h = step_by w k e (get w.clients (conn_of e)) h refl
 
-  pub steps : (es : List (Entry Heard)) (w : World) (k : Walk) → Follows σ t x w k → Follows σ t x (after_entries w es) (walked_all σ k es)
+  pub steps : (es : List (Entry Heard)) (w : SystemState) (k : Walk) → Follows σ t x w k → Follows σ t x (after_entries w es) (walked_all σ k es)
   steps [] w k h = h
   steps (e ∷ es) w k h = steps es (next w e) (walked σ k e) (step w k e h)

@@ -7,7 +7,7 @@ use Rattle.store_model.specs.declared.command.Command.TheVariants.{Lpush, Rpush,
 use Rattle.envelope.specs.Tags.{tag_of_text}
 use Rattle.command_blocks.specs.Answers.{is_one, items_of, number_of}
 use Rattle.place_model.specs.Counts.{copy_one, count, end_one, one_if_more, one_if_none, sum_of}
-use Rattle.place_index.specs.Gathered.{act_of, copied_by, copied_in, copied_with, ended_by, ended_in, ended_with, has, kind_of, listed, number, push_act, push_at, push_of, push_told, pushed, take_act, take_at, taken, taken_by, times}
+use Rattle.place_index.specs.Gathered.{act_of, copied_by, copied_in, copied_with, ended_by, ended_in, ended_with, has, kind_of, listed, number_told, push_act, push_at, push_of, push_told, pushed, take_act, take_at, taken, taken_by, times}
 use Rattle.queue_keys.specs.Names.{Bytes, same}
 use Rattle.place_model.specs.Seen.{deletes, deletes_one, push_by, push_weight_at, push_with, queued_push, queued_pushes, ran_by, ran_with, tag_list, tag_weight}
 use Rattle.command_blocks.specs.Setting.{Setting, is_queue}
@@ -34,8 +34,8 @@ no_take t (Some n) r = refl
 no_take_at : (σ : Setting) (t : ℕ) (k v : Bytes) (r : Value) → has t (taken_by (push_at σ k v) r) ≡ false
 no_take_at σ t k v r = go (is_queue σ k)
   where
-    go : (b : Bool) → has t (taken_by (if b then push_act (number (σ.tag_of v)) else Nothing) r) ≡ false
-    go true = no_take t (number (σ.tag_of v)) r
+    go : (b : Bool) → has t (taken_by (if b then push_act (number_told (σ.tag_of v)) else Nothing) r) ≡ false
+    go true = no_take t (number_told (σ.tag_of v)) r
     go false = refl
 
 no_push : (t : ℕ) (o : Option ℕ) → times t (pushed (take_act o ∷ [])) ≡ 0
@@ -60,7 +60,7 @@ took_one false true t n e = rw e refl
 took_one false false t n e = refl
 
 module _ (σ : Setting) (t : ℕ) (x : Bytes) (tells : (u : Bytes) → same u x ≡ is_number t (tag_of_text u)) where
-  pub weight_is : (o : Option Bytes) → tag_weight x o ≡ times t (listed (number o))
+  pub weight_is : (o : Option Bytes) → tag_weight x o ≡ times t (listed (number_told o))
   weight_is None = refl
   weight_is (Some u) = ap (λ b. if b then 1 else 0) (tells u) ∙ go (tag_of_text u)
     where
@@ -68,7 +68,7 @@ module _ (σ : Setting) (t : ℕ) (x : Bytes) (tells : (u : Bytes) → same u x 
       go None = refl
       go (Some n) = one_of (n == t)
 
-  list_is : (o : Option Bytes) → count x (tag_list o) ≡ times t (listed (number o))
+  list_is : (o : Option Bytes) → count x (tag_list o) ≡ times t (listed (number_told o))
   list_is None = refl
   list_is (Some u) = plus_none (if same u x then 1 else 0) ∙ weight_is (Some u)
 
@@ -84,8 +84,8 @@ module _ (σ : Setting) (t : ℕ) (x : Bytes) (tells : (u : Bytes) → same u x 
       one z None = refl
       one z (Some n) = refl
 
-      by_queue : (z : Rattle.std.specs.Prelude.ℤ) (b : Bool) → count x (if b then tag_list (σ.tag_of v) else []) ≡ times t (listed (push_told (if b then push_act (number (σ.tag_of v)) else Nothing) (Some z)))
-      by_queue z true = list_is (σ.tag_of v) ∙ one z (number (σ.tag_of v))
+      by_queue : (z : Rattle.std.specs.Prelude.ℤ) (b : Bool) → count x (if b then tag_list (σ.tag_of v) else []) ≡ times t (listed (push_told (if b then push_act (number_told (σ.tag_of v)) else Nothing) (Some z)))
+      by_queue z true = list_is (σ.tag_of v) ∙ one z (number_told (σ.tag_of v))
       by_queue z false = refl
 
       by : (o : Option Rattle.std.specs.Prelude.ℤ) → count x (push_with σ k v o) ≡ times t (listed (push_told (push_at σ k v) o))
@@ -101,8 +101,8 @@ module _ (σ : Setting) (t : ℕ) (x : Bytes) (tells : (u : Bytes) → same u x 
   at_queue : (k v : Bytes) → push_weight_at σ x k v ≡ times t (pushed (push_at σ k v ∷ []))
   at_queue k v = go (is_queue σ k)
     where
-      go : (b : Bool) → (if b then tag_weight x (σ.tag_of v) else 0) ≡ times t (pushed ((if b then push_act (number (σ.tag_of v)) else Nothing) ∷ []))
-      go true = weight_is (σ.tag_of v) ∙ if_push t (number (σ.tag_of v))
+      go : (b : Bool) → (if b then tag_weight x (σ.tag_of v) else 0) ≡ times t (pushed ((if b then push_act (number_told (σ.tag_of v)) else Nothing) ∷ []))
+      go true = weight_is (σ.tag_of v) ∙ if_push t (number_told (σ.tag_of v))
       go false = refl
 
   one_push : (c : Command) → queued_push σ x c ≡ times t (pushed (act_of σ c ∷ []))

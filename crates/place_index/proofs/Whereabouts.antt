@@ -12,10 +12,10 @@ use Rattle.store_model.specs.declared.held.Stored.{Stored}
 use Rattle.store_model.specs.declared.held.Stored.TheVariants.{Items}
 use Rattle.envelope.specs.Tags.{tag_of_text}
 use Rattle.place_model.specs.Counts.{copy_weight, direct_pushes, end_weight, has_field, hand_weight, in_held, in_value, is_field, is_member, loss_weight, over_clients, push_weight, start_count, tagged, total}
-use Rattle.place_index.specs.Gathered.{first_of, gathered, hands, has, listed, listed_place, new_seat, number, place_by, seat_of, seated, single_place, told_at, told_by, told_in, told_under, times, walk_start}
-use Rattle.place_model.specs.Histories.{Client, History, World, after, new_client, start_from, table}
+use Rattle.place_index.specs.Gathered.{first_of, gathered, hands, has, listed, listed_place, new_seat, number_told, place_by, seat_of, seated, single_place, told_at, standing_in, told_in, told_under, times, walk_start}
+use Rattle.place_model.specs.Histories.{Client, History, SystemState, after, new_client, start_from, table}
 use Rattle.queue_keys.specs.Names.{Bytes, same}
-use Rattle.place_model.specs.PlaceOf.{by_counts, first_place, first_with, if_any, list_place, or_else, pick, place_of}
+use Rattle.place_model.specs.PlaceOf.{by_counts, first_place, first_with, if_any, list_place, or_place, pick, place_of}
 use Rattle.place_model.specs.Seen.{seen, tag_weight}
 use Rattle.command_blocks.specs.Setting.{Setting}
 use Rattle.place_model.specs.declared.heard.Heard.{Heard}
@@ -89,15 +89,15 @@ module _ (σ : Setting) (t : ℕ) (x : Bytes) (tells : (u : Bytes) → same u x 
       go true = refl
       go false = refl
 
-  weighs : (o : Option Bytes) → has t (listed (number o)) ≡ positive (tag_weight x o)
-  weighs o = sym (positive-times t (listed (number o))) ∙ ap positive (sym (weight_is σ t x tells o))
+  weighs : (o : Option Bytes) → has t (listed (number_told o)) ≡ positive (tag_weight x o)
+  weighs o = sym (positive-times t (listed (number_told o))) ∙ ap positive (sym (weight_is σ t x tells o))
 
   -- ---- lists
 
   first_told : (p : Bytes × ℕ) (vs : List Bytes) (rest : List (ℕ × (Bytes × ℕ))) → first_of t (told_at σ p vs ++ rest) ≡ (if positive (tagged σ x vs) then Some p else first_of t rest)
   first_told p [] rest = refl
   first_told p (v ∷ vs) rest =
-      let o = number (σ.tag_of v) in
+      let o = number_told (σ.tag_of v) in
       ap (first_of t) (append_assoc (map (λ n. (n, p)) (listed o)) (told_at σ p vs) rest)
       ∙ if_listed o p (told_at σ p vs ++ rest)
       ∙ ap (λ b. if b then Some p else first_of t (told_at σ p vs ++ rest)) (weighs (σ.tag_of v))
@@ -109,30 +109,30 @@ module _ (σ : Setting) (t : ℕ) (x : Bytes) (tells : (u : Bytes) → same u x 
       both true b = refl
       both false b = refl
 
-  list_told : (es : List (Bytes × Held)) (later : Place) → or_else (λ k. list_place (σ.split k)) (first_with (in_held σ x) es) later ≡ or_else listed_place (first_of t (told_by σ es)) later
+  list_told : (es : List (Bytes × Held)) (later : Place) → or_place (λ k. list_place (σ.split k)) (first_with (in_held σ x) es) later ≡ or_place listed_place (first_of t (standing_in σ es)) later
   list_told [] later = refl
   list_told (e ∷ es) later = by (σ.split e.0) refl (list_told es later)
     where
       rest : Option Bytes
       rest = first_with (in_held σ x) es
 
-      chosen : (p : Bytes × ℕ) (b : Bool) → σ.split e.0 ≡ Some p → or_else (λ k. list_place (σ.split k)) (first_with (in_held σ x) es) later ≡ or_else listed_place (first_of t (told_by σ es)) later
-          → or_else (λ k. list_place (σ.split k)) (if b then Some e.0 else first_with (in_held σ x) es) later ≡ or_else listed_place (if b then Some p else first_of t (told_by σ es)) later
+      chosen : (p : Bytes × ℕ) (b : Bool) → σ.split e.0 ≡ Some p → or_place (λ k. list_place (σ.split k)) (first_with (in_held σ x) es) later ≡ or_place listed_place (first_of t (standing_in σ es)) later
+          → or_place (λ k. list_place (σ.split k)) (if b then Some e.0 else first_with (in_held σ x) es) later ≡ or_place listed_place (if b then Some p else first_of t (standing_in σ es)) later
       chosen p true s i = ap list_place s
       chosen p false s i = i
 
-      value : (p : Bytes × ℕ) (v : Stored) → σ.split e.0 ≡ Some p → or_else (λ k. list_place (σ.split k)) (first_with (in_held σ x) es) later ≡ or_else listed_place (first_of t (told_by σ es)) later
-          → or_else (λ k. list_place (σ.split k)) (pick (in_value σ x v) e.0 (first_with (in_held σ x) es)) later ≡ or_else listed_place (first_of t (told_in σ p v ++ told_by σ es)) later
+      value : (p : Bytes × ℕ) (v : Stored) → σ.split e.0 ≡ Some p → or_place (λ k. list_place (σ.split k)) (first_with (in_held σ x) es) later ≡ or_place listed_place (first_of t (standing_in σ es)) later
+          → or_place (λ k. list_place (σ.split k)) (pick (in_value σ x v) e.0 (first_with (in_held σ x) es)) later ≡ or_place listed_place (first_of t (told_in σ p v ++ standing_in σ es)) later
       value p (Items vs) s i =
-          ap (λ q. or_else (λ k. list_place (σ.split k)) q later) (pick_is (tagged σ x vs) e.0 (first_with (in_held σ x) es))
+          ap (λ q. or_place (λ k. list_place (σ.split k)) q later) (pick_is (tagged σ x vs) e.0 (first_with (in_held σ x) es))
           ∙ chosen p (positive (tagged σ x vs)) s i
-          ∙ ap (λ q. or_else listed_place q later) (sym (first_told p vs (told_by σ es)))
+          ∙ ap (λ q. or_place listed_place q later) (sym (first_told p vs (standing_in σ es)))
       value p other s i = i
 
-      by : (o : Option (Bytes × ℕ)) → σ.split e.0 ≡ o → or_else (λ k. list_place (σ.split k)) (first_with (in_held σ x) es) later ≡ or_else listed_place (first_of t (told_by σ es)) later
-          → or_else (λ k. list_place (σ.split k)) (pick (if is_some (σ.split e.0) then in_value σ x e.1.value else 0) e.0 (first_with (in_held σ x) es)) later ≡ or_else listed_place (first_of t (told_under σ (σ.split e.0) e.1 ++ told_by σ es)) later
+      by : (o : Option (Bytes × ℕ)) → σ.split e.0 ≡ o → or_place (λ k. list_place (σ.split k)) (first_with (in_held σ x) es) later ≡ or_place listed_place (first_of t (standing_in σ es)) later
+          → or_place (λ k. list_place (σ.split k)) (pick (if is_some (σ.split e.0) then in_value σ x e.1.value else 0) e.0 (first_with (in_held σ x) es)) later ≡ or_place listed_place (first_of t (told_under σ (σ.split e.0) e.1 ++ standing_in σ es)) later
       by None s i = rw s i
-      by (Some p) s i = subst (λ o. or_else (λ k. list_place (σ.split k)) (pick (if is_some o then in_value σ x e.1.value else 0) e.0 (first_with (in_held σ x) es)) later ≡ or_else listed_place (first_of t (told_under σ o e.1 ++ told_by σ es)) later) (sym s) (value p e.1.value s i)
+      by (Some p) s i = subst (λ o. or_place (λ k. list_place (σ.split k)) (pick (if is_some o then in_value σ x e.1.value else 0) e.0 (first_with (in_held σ x) es)) later ≡ or_place listed_place (first_of t (told_under σ o e.1 ++ standing_in σ es)) later) (sym s) (value p e.1.value s i)
 
   -- ---- hands
 
@@ -143,14 +143,14 @@ module _ (σ : Setting) (t : ℕ) (x : Bytes) (tells : (u : Bytes) → same u x 
     where
       by : (b : Bool) → first_with (hand_weight σ x) es ≡ first_of t (hands false (map (seat_entry σ) es))
           → pick (if b then 0 else tag_weight x (seen σ e.1.calls).hand) e.0 (first_with (hand_weight σ x) es)
-          ≡ first_of t (map (λ n. (n, e.0)) (listed (if b then (if false then number (seen σ e.1.calls).hand else None) else (if false then None else number (seen σ e.1.calls).hand))) ++ hands false (map (seat_entry σ) es))
+          ≡ first_of t (map (λ n. (n, e.0)) (listed (if b then (if false then number_told (seen σ e.1.calls).hand else None) else (if false then None else number_told (seen σ e.1.calls).hand))) ++ hands false (map (seat_entry σ) es))
       by true i = i
       by false i =
           let o = (seen σ e.1.calls).hand in
           pick_is (tag_weight x o) e.0 (first_with (hand_weight σ x) es)
           ∙ ap (λ b. if b then Some e.0 else first_with (hand_weight σ x) es) (sym (weighs o))
-          ∙ ap (λ q. if has t (listed (number o)) then Some e.0 else q) i
-          ∙ sym (if_listed (number o) e.0 (hands false (map (seat_entry σ) es)))
+          ∙ ap (λ q. if has t (listed (number_told o)) then Some e.0 else q) i
+          ∙ sym (if_listed (number_told o) e.0 (hands false (map (seat_entry σ) es)))
 
   loss_told : (es : List (ℕ × Client)) → first_with (loss_weight σ x) es ≡ first_of t (hands true (map (seat_entry σ) es))
   unfolding seat_entry
@@ -159,36 +159,36 @@ module _ (σ : Setting) (t : ℕ) (x : Bytes) (tells : (u : Bytes) → same u x 
     where
       by : (b : Bool) → first_with (loss_weight σ x) es ≡ first_of t (hands true (map (seat_entry σ) es))
           → pick (if b then tag_weight x (seen σ e.1.calls).hand else 0) e.0 (first_with (loss_weight σ x) es)
-          ≡ first_of t (map (λ n. (n, e.0)) (listed (if b then (if true then number (seen σ e.1.calls).hand else None) else (if true then None else number (seen σ e.1.calls).hand))) ++ hands true (map (seat_entry σ) es))
+          ≡ first_of t (map (λ n. (n, e.0)) (listed (if b then (if true then number_told (seen σ e.1.calls).hand else None) else (if true then None else number_told (seen σ e.1.calls).hand))) ++ hands true (map (seat_entry σ) es))
       by false i = i
       by true i =
           let o = (seen σ e.1.calls).hand in
           pick_is (tag_weight x o) e.0 (first_with (loss_weight σ x) es)
           ∙ ap (λ b. if b then Some e.0 else first_with (loss_weight σ x) es) (sym (weighs o))
-          ∙ ap (λ q. if has t (listed (number o)) then Some e.0 else q) i
-          ∙ sym (if_listed (number o) e.0 (hands true (map (seat_entry σ) es)))
+          ∙ ap (λ q. if has t (listed (number_told o)) then Some e.0 else q) i
+          ∙ sym (if_listed (number_told o) e.0 (hands true (map (seat_entry σ) es)))
 
   -- ---- the first place
 
-  first_is : (w : World) (k : Walk) → Follows σ t x w k → first_place σ w x ≡ single_place t k (told_by σ (entries w.store.keys)) (is_field σ w.store.keys x && is_member σ w.store.keys x)
+  first_is : (w : SystemState) (k : Walk) → Follows σ t x w k → first_place σ w x ≡ single_place t k (standing_in σ (entries w.store.keys)) (is_field σ w.store.keys x && is_member σ w.store.keys x)
   first_is w k f =
-      let told = told_by σ (entries w.store.keys) in
+      let told = standing_in σ (entries w.store.keys) in
       let kept = is_field σ w.store.keys x && is_member σ w.store.keys x in
       let es = seats_listed σ k.seats w.clients f.seats in
       let h : first_with (hand_weight σ x) (entries w.clients) ≡ first_of t (hands false (entries k.seats)) = hand_told (entries w.clients) ∙ ap (λ l. first_of t (hands false l)) (sym es) in
       let l : first_with (loss_weight σ x) (entries w.clients) ≡ first_of t (hands true (entries k.seats)) = loss_told (entries w.clients) ∙ ap (λ l. first_of t (hands true l)) (sym es) in
       let ended = over_clients w (end_weight σ x) in
-      let lost = or_else Lost (first_of t (hands true (entries k.seats))) Never in
-      let end_or_lost : if_any ended Ended (or_else Lost (first_with (loss_weight σ x) (entries w.clients)) Never) ≡ (if has t k.ended then Ended else lost) =
-      ap (λ q. if_any ended Ended (or_else Lost q Never)) l ∙ any_is ended Ended lost ∙ ap (λ b. if b then Ended else lost) f.ended in
-      let later = or_else Hand (first_of t (hands false (entries k.seats))) (if has t k.ended then Ended else lost) in
+      let lost = or_place Lost (first_of t (hands true (entries k.seats))) Never in
+      let end_or_lost : if_any ended Ended (or_place Lost (first_with (loss_weight σ x) (entries w.clients)) Never) ≡ (if has t k.ended then Ended else lost) =
+      ap (λ q. if_any ended Ended (or_place Lost q Never)) l ∙ any_is ended Ended lost ∙ ap (λ b. if b then Ended else lost) f.ended in
+      let later = or_place Hand (first_of t (hands false (entries k.seats))) (if has t k.ended then Ended else lost) in
       list_told (entries w.store.keys) _
-      ∙ ap (or_else listed_place (first_of t told))
+      ∙ ap (or_place listed_place (first_of t told))
       (any_is (if kept then 1 else 0) Unacked _
-      ∙ ap (λ b. if b then Unacked else or_else Hand (first_with (hand_weight σ x) (entries w.clients)) (if_any ended Ended (or_else Lost (first_with (loss_weight σ x) (entries w.clients)) Never))) (positive_one kept)
+      ∙ ap (λ b. if b then Unacked else or_place Hand (first_with (hand_weight σ x) (entries w.clients)) (if_any ended Ended (or_place Lost (first_with (loss_weight σ x) (entries w.clients)) Never))) (positive_one kept)
       ∙ ap (λ q. if kept then Unacked else q)
-      (ap (λ q. or_else Hand q (if_any ended Ended (or_else Lost (first_with (loss_weight σ x) (entries w.clients)) Never))) h
-      ∙ ap (or_else Hand (first_of t (hands false (entries k.seats)))) end_or_lost))
+      (ap (λ q. or_place Hand q (if_any ended Ended (or_place Lost (first_with (loss_weight σ x) (entries w.clients)) Never))) h
+      ∙ ap (or_place Hand (first_of t (hands false (entries k.seats)))) end_or_lost))
 
   -- ---- the start
 
@@ -255,12 +255,12 @@ module _ (σ : Setting) (t : ℕ) (x : Bytes) (tells : (u : Bytes) → same u x 
   no_start : start_count σ empty x ≡ 0
   no_start = ap (λ n. n + (if is_field σ empty x then 1 else 0)) nothing_listed ∙ ap (λ o. 0 + (if has_field (value_of o) x then 1 else 0)) (get-empty bytes_cmp σ.unacked)
 
-  pub place_is : (h : History Heard) → h.start ≡ empty → place_of σ h x ≡ place_by t (gathered σ h) (told_by σ (entries (after h).store.keys)) (is_field σ (after h).store.keys x && is_member σ (after h).store.keys x)
+  pub place_is : (h : History Heard) → h.start ≡ empty → place_of σ h x ≡ place_by t (gathered σ h) (standing_in σ (entries (after h).store.keys)) (is_field σ (after h).store.keys x && is_member σ (after h).store.keys x)
   place_is h e =
       let f = steps σ t x tells h.entries (start_from h.start h.clients) (walk_start h.clients) (start_follows h.start h.clients) in
       let w = after h in
       let k = gathered σ h in
-      let told = told_by σ (entries w.store.keys) in
+      let told = standing_in σ (entries w.store.keys) in
       let kept = is_field σ w.store.keys x && is_member σ w.store.keys x in
       let copied = over_clients w (copy_weight σ x) in
       let n : start_count σ h.start x + direct_pushes σ w x ≡ times t k.pushes =

@@ -13,7 +13,7 @@ use Rattle.envelope.specs.Tags.{tag_of_text}
 use Rattle.command_blocks.specs.Answers.{is_one, items_of, number_of, pair_of}
 use Rattle.place_model.specs.Histories.{Client, History}
 use Rattle.queue_keys.specs.Names.{Bytes, same}
-use Rattle.place_model.specs.PlaceOf.{by_counts, or_else}
+use Rattle.place_model.specs.PlaceOf.{by_counts, or_place}
 use Rattle.place_model.specs.Seen.{seen}
 use Rattle.command_blocks.specs.Setting.{Setting, is_queue}
 use Rattle.place_model.specs.declared.heard.Heard.{Heard}
@@ -29,8 +29,8 @@ use Rattle.place_index.specs.declared.seat.Seat.{Seat}
 use Rattle.place_index.specs.declared.walk.Walk.{Walk}
 
 -- the number of a tag's text
-abbrev pub number : Option Bytes → Option ℕ
-number o = option_and_then tag_of_text o
+abbrev pub number_told : Option Bytes → Option ℕ
+number_told o = option_and_then tag_of_text o
 
 -- the number as a list
 abbrev pub listed : Option ℕ → List ℕ
@@ -59,7 +59,7 @@ take_act (Some n) = Take n
 
 -- a push of these bytes to this key
 abbrev pub push_at : Setting → Bytes → Bytes → Act
-push_at σ k v = if is_queue σ k then push_act (number (σ.tag_of v)) else Nothing
+push_at σ k v = if is_queue σ k then push_act (number_told (σ.tag_of v)) else Nothing
 
 -- the taking of a field out of this hash
 abbrev pub take_at : Setting → Bytes → Bytes → Act
@@ -128,12 +128,12 @@ copied_in acts = filter (λ n. nat_le 2 (times n (pushed acts))) (pushed acts)
 
 -- what is kept of a client
 abbrev pub seat_of : Setting → Client → Seat
-seat_of σ cl = record { hand = number (seen σ cl.calls).hand; acts = map (act_of σ) (seen σ cl.calls).since; stopped = cl.stopped }
+seat_of σ cl = record { hand = number_told (seen σ cl.calls).hand; acts = map (act_of σ) (seen σ cl.calls).since; stopped = cl.stopped }
 
 -- what is in hand after a key and an element were popped, if they were
 abbrev pub hand_with : Setting → Option ℕ → Option (Bytes × Bytes) → Option ℕ
 hand_with σ old None = old
-hand_with σ old (Some p) = if is_queue σ p.0 then number (σ.tag_of p.1) else old
+hand_with σ old (Some p) = if is_queue σ p.0 then number_told (σ.tag_of p.1) else old
 
 -- what is in hand after a call
 abbrev pub hand_after : Setting → Option ℕ → Kind → Value → Option ℕ
@@ -227,7 +227,7 @@ first_of t (p ∷ ps) = if p.0 == t then Some p.1 else first_of t ps
 -- each message of a list with its queue and step
 abbrev pub told_at : Setting → Bytes × ℕ → List Bytes → List (ℕ × (Bytes × ℕ))
 told_at σ p [] = []
-told_at σ p (v ∷ vs) = map (λ n. (n, p)) (listed (number (σ.tag_of v))) ++ told_at σ p vs
+told_at σ p (v ∷ vs) = map (λ n. (n, p)) (listed (number_told (σ.tag_of v))) ++ told_at σ p vs
 
 -- the messages of a value
 abbrev pub told_in : Setting → Bytes × ℕ → Stored → List (ℕ × (Bytes × ℕ))
@@ -240,9 +240,9 @@ told_under σ None h = []
 told_under σ (Some p) h = told_in σ p h.value
 
 -- the messages in the lists of queues, with their queues and steps, in the order of the keys
-abbrev pub told_by : Setting → List (Bytes × Held) → List (ℕ × (Bytes × ℕ))
-told_by σ [] = []
-told_by σ (e ∷ es) = told_under σ (σ.split e.0) e.1 ++ told_by σ es
+abbrev pub standing_in : Setting → List (Bytes × Held) → List (ℕ × (Bytes × ℕ))
+standing_in σ [] = []
+standing_in σ (e ∷ es) = told_under σ (σ.split e.0) e.1 ++ standing_in σ es
 
 -- the message in the hand of a client that is gone, or of one that isn't
 abbrev pub hand_if : Bool → Seat → Option ℕ
@@ -279,11 +279,11 @@ listed_place p = InList p.0 p.1
 -- the place of a message of which nothing is pushed twice, by what was gathered, the lists of queues, and whether it is in the table
 abbrev pub single_place : ℕ → Walk → List (ℕ × (Bytes × ℕ)) → Bool → Place
 single_place t w told kept =
-    or_else listed_place (first_of t told)
+    or_place listed_place (first_of t told)
     (if kept then Unacked else
-    or_else Hand (first_of t (hands false (entries w.seats)))
+    or_place Hand (first_of t (hands false (entries w.seats)))
     (if has t w.ended then Ended else
-    or_else Lost (first_of t (hands true (entries w.seats))) Never))
+    or_place Lost (first_of t (hands true (entries w.seats))) Never))
 
 -- the place of a message
 abbrev pub place_by : ℕ → Walk → List (ℕ × (Bytes × ℕ)) → Bool → Place

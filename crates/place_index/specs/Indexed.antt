@@ -2,10 +2,10 @@
 use Rattle.std.specs.Prelude.{◌≡◌, ℕ, Bool, true, false, if◌then◌else◌, Option, None, Some, is_some}
 use Rattle.std.specs.FinMap.{entries, get}
 use Rattle.command_blocks.specs.EnvelopeTexts.{plain_setting}
-use Rattle.place_index.specs.Gathered.{first_of, gathered, hands, listed_place, times, told_by}
+use Rattle.place_index.specs.Gathered.{first_of, gathered, hands, listed_place, times, standing_in}
 use Rattle.place_model.specs.Histories.{History, after}
 use Rattle.place_index.specs.Kept.{is_kept}
-use Rattle.place_model.specs.PlaceOf.{or_else}
+use Rattle.place_model.specs.PlaceOf.{or_place}
 use Rattle.place_index.specs.Tallies.{tally}
 use Rattle.place_model.specs.declared.heard.Heard.{Heard}
 use Rattle.place_index.specs.declared.index.Index.{Index}
@@ -18,7 +18,7 @@ pub record IsIndexOf (h : History Heard) (x : Index) : Type 0 where
   pub pushes : (t : ℕ) → get x.pushes t ≡ tally (times t (gathered plain_setting h).pushes)
   pub ended : (t : ℕ) → get x.ended t ≡ tally (times t (gathered plain_setting h).ended)
   pub copied : (t : ℕ) → get x.copied t ≡ tally (times t (gathered plain_setting h).copied)
-  pub standing : (t : ℕ) → get x.standing t ≡ first_of t (told_by plain_setting (entries (after h).store.keys))
+  pub standing : (t : ℕ) → get x.standing t ≡ first_of t (standing_in plain_setting (entries (after h).store.keys))
   pub in_hands : (t : ℕ) → get x.hands t ≡ first_of t (hands false (entries (gathered plain_setting h).seats))
   pub lost : (t : ℕ) → get x.losses t ≡ first_of t (hands true (entries (gathered plain_setting h).seats))
   pub store : x.store.state ≡ (after h).store
@@ -33,11 +33,11 @@ by_tally (Some false) false p = p
 -- the place of a message of which nothing is pushed twice
 abbrev pub single_in : Index → ℕ → Place
 single_in x t =
-    or_else listed_place (get x.standing t)
+    or_place listed_place (get x.standing t)
     (if is_kept x.store.state.keys t then Unacked else
-    or_else Hand (get x.hands t)
+    or_place Hand (get x.hands t)
     (if is_some (get x.ended t) then Ended else
-    or_else Lost (get x.losses t) Never))
+    or_place Lost (get x.losses t) Never))
 
 -- the place of a message
 abbrev pub place_in : Index → ℕ → Place

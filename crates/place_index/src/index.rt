@@ -4,7 +4,7 @@ ghost use Rattle.std.specs.FinMap.{entries, get};
 ghost use Rattle.command_blocks.specs.EnvelopeTexts.{plain_setting};
 ghost use Rattle.place_model.specs.Histories.{after};
 ghost use Rattle.place_model.specs.Shown.{history_of};
-ghost use Rattle.place_index.specs.Gathered.{first_of, hands, times, told_by};
+ghost use Rattle.place_index.specs.Gathered.{first_of, hands, times, standing_in};
 ghost use Rattle.place_index.specs.Tallies.{tally};
 
 use crate::kept::is_kept;

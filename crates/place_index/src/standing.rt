@@ -2,7 +2,7 @@
 ghost use Rattle.std.specs.Prelude.{◌≡◌, ◌++◌, IfOk, OnOk, map as mapped};
 ghost use Rattle.std.specs.FinMap.{entries};
 ghost use Rattle.command_blocks.specs.EnvelopeTexts.{plain_setting};
-ghost use Rattle.place_index.specs.Gathered.{listed, number, told_at, told_by, told_under};
+ghost use Rattle.place_index.specs.Gathered.{listed, number_told, told_at, standing_in, told_under};
 
 use crate::told::message_of;
 use letters::Letters;
@@ -22,7 +22,7 @@ pub(crate) fn told_by(
     letters: &mut Letters,
     keys: &Keyspace,
 ) -> Result<List<(u128, Standing)>, AllocError>
-    ensures { IfOk result (λ told. told ≡ told_by plain_setting (entries keys.now)) }
+    ensures { IfOk result (λ told. told ≡ standing_in plain_setting (entries keys.now)) }
 {
     let mut told = List::new();
     for (key, held) in keys.iter() {
@@ -76,7 +76,7 @@ fn add_item(
     step: u8,
     item: &Bytes,
 ) -> Result<(), AllocError>
-    ensures { OnOk result (told.new ≡ told.old ++ mapped (λ n. (n, (queue.now, step))) (listed (number (plain_setting.tag_of item.now)))) }
+    ensures { OnOk result (told.new ≡ told.old ++ mapped (λ n. (n, (queue.now, step))) (listed (number_told (plain_setting.tag_of item.now)))) }
 {
     let number = message_of(alloc, letters, item.as_slice())?;
     if let Some(number) = number {

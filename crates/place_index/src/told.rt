@@ -2,7 +2,7 @@
 ghost use Rattle.std.specs.Prelude.{◌≡◌, IfOk, Some, None};
 ghost use Rattle.store_model.specs.Words.{command_of};
 ghost use Rattle.command_blocks.specs.EnvelopeTexts.{plain_setting};
-ghost use Rattle.place_index.specs.Gathered.{act_of, kind_of, number, only, push_one, take_one};
+ghost use Rattle.place_index.specs.Gathered.{act_of, kind_of, number_told, only, push_one, take_one};
 ghost use Rattle.letters.specs.Letters.{letter_of};
 ghost use Rattle.queue_keys.specs.Names.{Bytes as Text};
 ghost use Rattle.command_blocks.specs.Setting.{is_queue};
@@ -137,7 +137,7 @@ pub(crate) fn message_of(
     letters: &mut Letters,
     bytes: &[u8],
 ) -> Result<Option<u128>, AllocError>
-    ensures { IfOk result (λ n. n ≡ number (plain_setting.tag_of bytes.now)) }
+    ensures { IfOk result (λ n. n ≡ number_told (plain_setting.tag_of bytes.now)) }
 {
     match letters.known(bytes) {
         Some(letter) => Ok(number_in(letter)),
@@ -147,7 +147,7 @@ pub(crate) fn message_of(
 
 /// The number that a text tells as an envelope, by what it spells.
 fn number_in(letter: Letter) -> Option<u128>
-    ensures { (b : Text) → letter_of b ≡ Some letter → result ≡ number (plain_setting.tag_of b) }
+    ensures { (b : Text) → letter_of b ≡ Some letter → result ≡ number_told (plain_setting.tag_of b) }
 {
     match letter {
         Letter::Envelope { number, marked: _ } => Some(number),
@@ -161,7 +161,7 @@ fn read_message(
     letters: &mut Letters,
     bytes: &[u8],
 ) -> Result<Option<u128>, AllocError>
-    ensures { IfOk result (λ n. n ≡ number (plain_setting.tag_of bytes.now)) }
+    ensures { IfOk result (λ n. n ≡ number_told (plain_setting.tag_of bytes.now)) }
 {
     match envelope::read(alloc, bytes) {
         Ok(message) => {

@@ -7,7 +7,7 @@ use Rattle.store_model.specs.declared.held.Stored.{Stored}
 use Rattle.store_model.specs.declared.held.Stored.TheVariants.{Items, Hash, Scores}
 use Rattle.queue_keys.specs.Names.{Bytes, same}
 use Rattle.command_blocks.specs.Setting.{Setting, is_queue}
-use Rattle.place_model.specs.Histories.{History, Client, World, after}
+use Rattle.place_model.specs.Histories.{History, Client, SystemState, after}
 use Rattle.place_model.specs.Seen.{Ran, seen, tag_weight, deletes, queued_pushes}
 
 -- how often the tag is among them
@@ -26,7 +26,7 @@ total f [] = 0
 total f (e ∷ es) = f e.0 e.1 + total f es
 
 -- the sum of f over the clients
-abbrev pub over_clients : World → (ℕ → Client → ℕ) → ℕ
+abbrev pub over_clients : SystemState → (ℕ → Client → ℕ) → ℕ
 over_clients w f = total f (entries w.clients)
 
 -- ---- lists
@@ -66,8 +66,8 @@ has_member (Some (Scores h)) t = is_some (get h t)
 has_member other t = false
 
 -- what the table has of a tag
-abbrev pub entry_at : Setting → Keys → Bytes → Option Bytes
-entry_at σ m t = field_of (value_at m σ.unacked) t
+abbrev pub table_entry : Setting → Keys → Bytes → Option Bytes
+table_entry σ m t = field_of (value_at m σ.unacked) t
 
 -- whether t is in the table
 abbrev pub is_field : Setting → Keys → Bytes → Bool
@@ -123,27 +123,27 @@ abbrev pub push_weight : Setting → Bytes → ℕ → Client → ℕ
 push_weight σ t c cl = count t (seen σ cl.calls).pushes
 
 -- how many clients have t in hand
-abbrev pub hand_count : Setting → World → Bytes → ℕ
+abbrev pub hand_count : Setting → SystemState → Bytes → ℕ
 hand_count σ w t = over_clients w (hand_weight σ t)
 
 -- how many stopped clients had t in hand
-abbrev pub loss_count : Setting → World → Bytes → ℕ
+abbrev pub loss_count : Setting → SystemState → Bytes → ℕ
 loss_count σ w t = over_clients w (loss_weight σ t)
 
 -- how many transactions ended t
-abbrev pub end_count : Setting → World → Bytes → ℕ
+abbrev pub end_count : Setting → SystemState → Bytes → ℕ
 end_count σ w t = over_clients w (end_weight σ t)
 
 -- how many transactions pushed t more than once
-abbrev pub copy_count : Setting → World → Bytes → ℕ
+abbrev pub copy_count : Setting → SystemState → Bytes → ℕ
 copy_count σ w t = over_clients w (copy_weight σ t)
 
 -- how many direct pushes of t there are
-abbrev pub direct_pushes : Setting → World → Bytes → ℕ
+abbrev pub direct_pushes : Setting → SystemState → Bytes → ℕ
 direct_pushes σ w t = over_clients w (push_weight σ t)
 
 -- the five counts together
-abbrev pub place_count : Setting → World → Bytes → ℕ
+abbrev pub place_count : Setting → SystemState → Bytes → ℕ
 place_count σ w t = list_count σ w.store.keys t + table_count σ w.store.keys t + hand_count σ w t + loss_count σ w t + end_count σ w t
 
 -- ---- accepted, single and placed
@@ -161,7 +161,7 @@ abbrev pub IsSingle : {N : Type 0} → Setting → History N → Bytes → Type 
 IsSingle σ h t = (start_count σ h.start t + direct_pushes σ (after h) t ≤ 1) × (copy_count σ (after h) t ≡ 0)
 
 -- t is in one place, and a field of the table just where it is a member of the index
-abbrev pub IsPlacedIn : Setting → World → Bytes → Type 0
+abbrev pub IsPlacedIn : Setting → SystemState → Bytes → Type 0
 IsPlacedIn σ w t = (place_count σ w t ≡ 1) × (is_field σ w.store.keys t ≡ is_member σ w.store.keys t)
 
 -- the same after a history

@@ -53,27 +53,27 @@ pub record Client : Type 0 where
   pub stopped : Bool
 
 -- the store, and the clients by their connections
-pub record World : Type 0 where
+pub record SystemState : Type 0 where
   pub store : State
   pub clients : FinMap nat_cmp Client
 
 -- the world with this state and this client
-abbrev pub with_client : State → World → ℕ → Client → World
+abbrev pub with_client : State → SystemState → ℕ → Client → SystemState
 with_client s w c cl = record { store = s; clients = insert w.clients c cl }
 
 -- the world after an entry, by what is known of its client: a call is taken by the store, and a stop leaves nothing of the connection there
-abbrev pub next_of : {N : Type 0} → World → Entry N → Option Client → World
+abbrev pub next_of : {N : Type 0} → SystemState → Entry N → Option Client → SystemState
 next_of w e None = w
 next_of w (Called c at words reply) (Some cl) = with_client (apply_of w.store at c words).0 w c (record cl { calls = cl.calls ++ call at words reply.answer ∷ [] })
 next_of w (Heard c note) (Some cl) = w
 next_of w (Stop c) (Some cl) = with_client (gone_of w.store c) w c (record cl { stopped = true })
 
 -- the world after an entry
-unfoldable pub next : {N : Type 0} → World → Entry N → World
+unfoldable pub next : {N : Type 0} → SystemState → Entry N → SystemState
 next w e = next_of w e (get w.clients (conn_of e))
 
 -- the world after entries in a row
-abbrev pub after_entries : {N : Type 0} → World → List (Entry N) → World
+abbrev pub after_entries : {N : Type 0} → SystemState → List (Entry N) → SystemState
 after_entries w [] = w
 after_entries w (e ∷ es) = after_entries (next w e) es
 
@@ -87,27 +87,27 @@ table [] = empty
 table (c ∷ cs) = insert (table cs) c.0 (new_client c.1)
 
 -- the world that begins with these keys and these clients, of which the store knows no connection
-abbrev pub start_from : Keys → List (ℕ × ℕ) → World
+abbrev pub start_from : Keys → List (ℕ × ℕ) → SystemState
 start_from m cs = record { store = record { keys = m; conns = empty }; clients = table cs }
 
 -- the world after a history
-abbrev pub after : {N : Type 0} → History N → World
+abbrev pub after : {N : Type 0} → History N → SystemState
 after h = after_entries (start_from h.start h.clients) h.entries
 
 -- ---- legal
 
 -- the reply is the one that the store gives
-abbrev pub AnswersRight : {N : Type 0} → World → Entry N → Type 0
+abbrev pub AnswersRight : {N : Type 0} → SystemState → Entry N → Type 0
 AnswersRight w (Called c at words reply) = reply ≡ (apply_of w.store at c words).1
 AnswersRight w (Heard c note) = Unit {0}
 AnswersRight w (Stop c) = Unit {0}
 
 -- the entry may come next: its client is known and not stopped, and its reply is the store's
-abbrev pub MayCome : {N : Type 0} → World → Entry N → Type 0
+abbrev pub MayCome : {N : Type 0} → SystemState → Entry N → Type 0
 MayCome w e = (cl : Client) × (get w.clients (conn_of e) ≡ Some cl) × (cl.stopped ≡ false) × AnswersRight w e
 
 -- each of the entries may come in its turn
-abbrev pub AllMayCome : {N : Type 0} → World → List (Entry N) → Type 0
+abbrev pub AllMayCome : {N : Type 0} → SystemState → List (Entry N) → Type 0
 AllMayCome w [] = Unit {0}
 AllMayCome w (e ∷ es) = MayCome w e × AllMayCome (next w e) es
 

@@ -11,14 +11,14 @@ use Rattle.queue_keys.specs.QueueKeys.{Among}
 use Rattle.command_blocks.specs.Answers.{number_of}
 use Rattle.command_blocks.specs.Setting.{Setting, is_queue}
 use Rattle.command_blocks.specs.Calls.{Call}
-use Rattle.place_model.specs.Histories.{History, World, Client, after}
-use Rattle.place_model.specs.Counts.{copy_count, direct_pushes, entry_at, is_field, is_member, place_count, start_count}
+use Rattle.place_model.specs.Histories.{History, SystemState, Client, after}
+use Rattle.place_model.specs.Counts.{copy_count, direct_pushes, table_entry, is_field, is_member, place_count, start_count}
 use Rattle.place_model.specs.Starts.{elements_at}
 
 -- an envelope with this tag, which is b but for its two marks, stands in the list of a queue or in the table
 pub data HasEnvelope (σ : Setting) (m : Keys) (t b : Bytes) : Type 0 where
   In_a_list : (k v : Bytes) → is_queue σ k ≡ true → Among v (elements_at m k) → σ.tag_of v ≡ Some t → σ.body_of v ≡ b → HasEnvelope σ m t b
-  In_the_table : (u : Bytes) → entry_at σ m t ≡ Some u → σ.body_in u ≡ b → HasEnvelope σ m t b
+  In_the_table : (u : Bytes) → table_entry σ m t ≡ Some u → σ.body_in u ≡ b → HasEnvelope σ m t b
 
 -- the call published it
 pub record IsPush (σ : Setting) (t b : Bytes) (command : Command) (answer : Value) : Type 0 where
@@ -37,7 +37,7 @@ PushedIn σ t b [] = ⊥
 PushedIn σ t b (x ∷ xs) = IsPush σ t b (command_of x.words) x.answer ⊎ PushedIn σ t b xs
 
 -- a client published it
-abbrev pub IsPublished : Setting → World → Bytes → Bytes → Type 0
+abbrev pub IsPublished : Setting → SystemState → Bytes → Bytes → Type 0
 IsPublished σ w t b = (c : ℕ) × (cl : Client) × (get w.clients c ≡ Some cl) × PushedIn σ t b cl.calls
 
 -- it stood in the start, or a client published it

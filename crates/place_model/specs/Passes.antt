@@ -11,7 +11,7 @@ use Rattle.queue_keys.specs.Names.{Bytes}
 use Rattle.command_blocks.specs.Setting.{Setting}
 use Rattle.command_blocks.specs.ReturnBlocks.{ReturnEnd, Moved, Gone, Stayed}
 use Rattle.command_blocks.specs.PassBlocks.{Done, IsRelease, IsReturns, due_words, lock_words, tags_among}
-use Rattle.place_model.specs.Histories.{World, History, IsHistoryPrefix, after, and_then, calls_of}
+use Rattle.place_model.specs.Histories.{SystemState, History, IsHistoryPrefix, after, and_then, calls_of}
 use Rattle.place_model.specs.declared.history.Entry.TheVariants.{Call as Called}
 use Rattle.command_blocks.specs.Calls.{Call, call}
 
@@ -21,7 +21,7 @@ ranks_of high low skip most (Some (Scores h)) = ranks high low skip most h
 ranks_of high low skip most other = []
 
 -- what was read at this moment are the members of the index with these scores, the highest first, and each of them is a tag
-pub record ReadsTags (σ : Setting) (w : World) (at : ℕ) (high low : ℤ) (skip most : ℕ) (ms : List Bytes) : Type 0 where
+pub record ReadsTags (σ : Setting) (w : SystemState) (at : ℕ) (high low : ℤ) (skip most : ℕ) (ms : List Bytes) : Type 0 where
   pub members : ms ≡ ranks_of high low skip most (value_at (settled w.store at).keys σ.index)
   pub tags : tags_among σ ms ≡ ms
 
@@ -30,7 +30,7 @@ abbrev pub less : ℕ → ℕ → ℤ
 less a b = if nat_le b a then pos (a - b) else negsuc (b - a - 1)
 
 -- the ten oldest messages of the table that were taken at least v seconds before this moment, the youngest of them first
-abbrev pub due_members : Setting → World → ℕ → ℕ → List Bytes
+abbrev pub due_members : Setting → SystemState → ℕ → ℕ → List Bytes
 due_members σ w at v = ranks_of (less at v) (pos 0) 0 10 (value_at (settled w.store at).keys σ.index)
 
 -- how many returns moved their message

@@ -3,7 +3,7 @@ use Rattle.std.specs.Prelude.{◌≡◌, ◌⊎◌, ℕ, suc, zero, ◌+◌, Lis
 use Rattle.std.specs.FinMap.{entries}
 use Rattle.queue_keys.specs.Names.{Bytes}
 use Rattle.command_blocks.specs.Setting.{Setting}
-use Rattle.place_model.specs.Histories.{History, World, and_then, after}
+use Rattle.place_model.specs.Histories.{History, SystemState, and_then, after}
 use Rattle.place_model.specs.Counts.{in_held, table_count, hand_weight, loss_weight, end_count, direct_pushes, copy_count, start_count}
 use Rattle.place_model.specs.declared.history.Entry.TheVariants.{Stop}
 use Rattle.place_model.specs.declared.place.Place.{Place}
@@ -20,9 +20,9 @@ first_with f [] = None
 first_with f (e ∷ es) = pick (f e.0 e.1) e.0 (first_with f es)
 
 -- the place of a key that was found, else what comes later
-abbrev pub or_else : {K : Type 0} → (K → Place) → Option K → Place → Place
-or_else f None later = later
-or_else f (Some k) later = f k
+abbrev pub or_place : {K : Type 0} → (K → Place) → Option K → Place → Place
+or_place f None later = later
+or_place f (Some k) later = f k
 
 -- the place where the count is above 0, else what comes later
 abbrev pub if_any : ℕ → Place → Place → Place
@@ -35,13 +35,13 @@ list_place None = Never
 list_place (Some p) = InList p.0 p.1
 
 -- the first that holds: the list of the least key that has it, the table, the hand of the least client, ended, or lost with the least stopped client
-abbrev pub first_place : Setting → World → Bytes → Place
+abbrev pub first_place : Setting → SystemState → Bytes → Place
 first_place σ w t =
-    or_else (λ k. list_place (σ.split k)) (first_with (in_held σ t) (entries w.store.keys))
+    or_place (λ k. list_place (σ.split k)) (first_with (in_held σ t) (entries w.store.keys))
     (if_any (table_count σ w.store.keys t) Unacked
-    (or_else Hand (first_with (hand_weight σ t) (entries w.clients))
+    (or_place Hand (first_with (hand_weight σ t) (entries w.clients))
     (if_any (end_count σ w t) Ended
-    (or_else Lost (first_with (loss_weight σ t) (entries w.clients)) Never))))
+    (or_place Lost (first_with (loss_weight σ t) (entries w.clients)) Never))))
 
 -- by how often the tag was accepted, and how often it was copied
 abbrev pub by_counts : ℕ → ℕ → Place → Place

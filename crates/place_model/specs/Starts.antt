@@ -10,7 +10,7 @@ use Rattle.command_blocks.specs.Setting.{Setting, is_queue}
 use Rattle.command_blocks.specs.ReturnBlocks.{Carries}
 use Rattle.command_blocks.specs.Blocks.{IsMannered}
 use Rattle.place_model.specs.Histories.{History, calls_of, IsLegal, IsTable}
-use Rattle.place_model.specs.Counts.{entry_at, is_field, is_member, start_count}
+use Rattle.place_model.specs.Counts.{table_entry, is_field, is_member, start_count}
 
 -- a list or nothing
 abbrev pub IsListOrNone : Option Stored → Type 0
@@ -50,7 +50,7 @@ pub record IsSoundStart (σ : Setting) (m : Keys) (used : List ℕ) : Type 0 whe
   -- the fields of the table are the members of its index; each is a tag's text, and its value is an entry of that tag
   pub alike : (t : Bytes) → is_field σ m t ≡ is_member σ m t
   pub tags : (t : Bytes) → is_field σ m t ≡ true → σ.is_tag t ≡ true
-  pub carries : (t u : Bytes) → entry_at σ m t ≡ Some u → (v : Bytes) × Carries σ u t v
+  pub carries : (t u : Bytes) → table_entry σ m t ≡ Some u → (v : Bytes) × Carries σ u t v
   -- each tag stands once in all, and its seed was used
   pub once : (t : Bytes) → start_count σ m t ≤ 1
   pub known : (t : Bytes) → 1 ≤ start_count σ m t → (s : ℕ) × (n : ℕ) × Among s used × (t ≡ σ.tag s n)

@@ -10,7 +10,7 @@ use Rattle.store_model.specs.declared.command.Command.{Command}
 use Rattle.store_model.specs.declared.command.Command.TheVariants.{Lpush}
 use Rattle.command_blocks.specs.Answers.{integers, number_of}
 use Rattle.queue_keys.specs.Bindings.{member}
-use Rattle.command_blocks.specs.Blocks.{Announces, Answered, AreBlocks, Declare, End, IsBlock, IsNeutral, IsNeutralBlock, Kind, Limits, Measures, Neutral, Pass, Pings, Pop, Publish, Publish_short, Receives, Replies, Return, Selects, Subscribes, Undeclare, Unsubscribes, drawn, drawn_by, passed}
+use Rattle.command_blocks.specs.Blocks.{Announces, Answered, AreBlocks, Declare, End, IsBlock, IsNeutral, IsNeutralBlock, CounterUse, Limits, Measures, Neutral, Pass, Pings, Pop, Publish, Publish_short, Receives, Replies, Return, Selects, Subscribes, Undeclare, Unsubscribes, drawn, drawn_by, passes_after}
 use Rattle.command_blocks.specs.Calls.{Call, call, concat}
 use Rattle.place_model.specs.Histories.{next}
 use Rattle.place_model.specs.Identity.{IsPush, PushedIn}
@@ -203,7 +203,7 @@ module _ (σ : Full) where
   unfolding command_of
   short_draws s n l o (Asked a e ms is named) = (None, (suc n, None, Draws n o _ _ tt, (refl, refl)))
 
-  pub block_draws : (s n p : ℕ) (kind : Kind) (l : List Call) (o : Option Bytes) → IsBlock σ.names s n p kind l → (a : Option Bytes) × DrawRuns σ s n o l (drawn kind n) a
+  pub block_draws : (s n p : ℕ) (kind : CounterUse) (l : List Call) (o : Option Bytes) → IsBlock σ.names s n p kind l → (a : Option Bytes) × DrawRuns σ s n o l (drawn kind n) a
   block_draws s n p kind l o (Declare e r x q l' h) = (o, quiet_runs s n o l (quiet_declare _ e r x q l' (inl refl) h))
   block_draws s n p kind l o (Undeclare e r x q l' h) = (o, quiet_runs s n o l (quiet_declare _ e r x q l' (inr refl) h))
   block_draws s n p kind l o (Publish v l' h) = publish_draws s n v l' o h
@@ -218,8 +218,8 @@ module _ (σ : Full) where
   blocks_draw s n p o [] h = (o, (refl, refl))
   blocks_draw s n p o (b ∷ bs) h =
       let r = block_draws s n p h.0 b o h.1 in
-      let q = blocks_draw s (drawn h.0 n) (passed h.0 p) r.0 bs h.2 in
-      (q.0, draws_join σ s n o b (drawn h.0 n) r.0 (concat bs) (drawn_by σ.names s (drawn h.0 n) (passed h.0 p) bs h.2) q.0 r.1 q.1)
+      let q = blocks_draw s (drawn h.0 n) (passes_after h.0 p) r.0 bs h.2 in
+      (q.0, draws_join σ s n o b (drawn h.0 n) r.0 (concat bs) (drawn_by σ.names s (drawn h.0 n) (passes_after h.0 p) bs h.2) q.0 r.1 q.1)
 
 -- ---- what the draws say of the pushes
 

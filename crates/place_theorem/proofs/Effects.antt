@@ -8,7 +8,7 @@ use Rattle.store_model.specs.Connections.{Conns, around, conn}
 use Rattle.store_model.specs.Hashes.{field_answer}
 use Rattle.store_model.specs.Keys.{value_at}
 use Rattle.store_model.specs.Replies.{bulk, pair, queued}
-use Rattle.store_model.specs.Store.{State, inside, is_heard, plain, run_all, run_one, run_queue, serve, set_conn, spoken, to_queue}
+use Rattle.store_model.specs.Store.{State, inside, is_heard, outside_transaction, run_all, run_one, run_queue, serve, set_conn, spoken, to_queue}
 use Rattle.store_model.specs.declared.command.Command.{Command}
 use Rattle.store_model.specs.declared.command.Command.TheVariants.{Brpop, Del, Discard, Exec, Faulty, Hget, Hset, Lpush, Multi, Ping, Smembers, Subscribe, Unsubscribe, Unwatch, Watch, Zadd}
 use Rattle.store_model.specs.declared.connection.Conn.{Conn}
@@ -19,7 +19,7 @@ use Rattle.store_laws.proofs.Changes.{Brpopped, brpop_done, lpush_done}
 use Rattle.store_laws.proofs.Connections.{run_one_conns}
 use Rattle.store_laws.proofs.Law.{ToldBy, framed}
 use Rattle.command_blocks.specs.Answers.{items_of, number_of, pair_of}
-use Rattle.place_model.specs.Counts.{count, entry_at, field_of, is_field}
+use Rattle.place_model.specs.Counts.{count, table_entry, field_of, is_field}
 use Rattle.queue_keys.specs.Names.{Bytes}
 use Rattle.place_model.specs.Returns.{push_commands, take_out}
 use Rattle.place_model.specs.Seen.{Seen, asked_by, hand_by, hand_from, push_with, ran_with, seen, seen_by, since_by, tag_list, tag_weight}
@@ -50,7 +50,7 @@ field_is t u (Some (Hash h)) e = bulk_is u (get h t) e
 field_is t u (Some other) e = absurd (cc e)
 
 -- such a command runs at once
-pub aside_plain : (at : ℕ) (s : State) (c : ℕ) (cn : Conn) (cm : Command) → is_aside cm ≡ true → plain at s c cn cm ≡ run_one at s cm
+pub aside_plain : (at : ℕ) (s : State) (c : ℕ) (cn : Conn) (cm : Command) → is_aside cm ≡ true → outside_transaction at s c cn cm ≡ run_one at s cm
 aside_plain at s c cn Multi h = absurd (cc h)
 aside_plain at s c cn (Watch ks) h = absurd (cc h)
 aside_plain at s c cn Unwatch h = absurd (cc h)
@@ -225,7 +225,7 @@ module _ (σ : Full) (at : ℕ) (s : State) (c : ℕ) (sn : Seen) (kinds : Kinds
   whole_safe cs w h r false ms reply (Whole_pop t v n tag) ok is = pop_safe t v n ms reply tag ok.is is
   whole_safe cs w h r false ms reply (Whole_end t) ok is = taking_safe t Right [] [] ms reply tt (inl refl) ok.is.hand ok.is.since (inr refl) is
   whole_safe cs w h r false ms reply (Whole_return side t u v xs a carries asked) ok is =
-      taking_safe t side v (σ.names.keys_in u xs) ms reply (σ.laws.keys_in_are u xs) (inr carries.1) ok.is.hand ok.is.since (inl (has_entry (entry_at σ.names s.keys t) u (ok.mark_ok.held.1 refl))) is
+      taking_safe t side v (σ.names.keys_in u xs) ms reply (σ.laws.keys_in_are u xs) (inr carries.1) ok.is.hand ok.is.since (inl (has_entry (table_entry σ.names s.keys t) u (ok.mark_ok.held.1 refl))) is
   whole_safe cs w h r false ms reply (Whole_free ks w' far) ok is = free_safe ks w ms reply far ok.is is
 
   -- ---- whatever the reply is: the call is safe where a block allows its command

@@ -19,7 +19,7 @@ use Rattle.command_blocks.specs.Answers.{number_of}
 use Rattle.command_blocks.specs.Blocks.{AreBlocks, IsFrontOfBlocks, IsMannered, drawn_by}
 use Rattle.command_blocks.specs.Calls.{Call, call, concat}
 use Rattle.place_model.specs.Counts.{start_count}
-use Rattle.place_model.specs.Histories.{AllMayCome, Client, History, IsHistoryPrefix, MayCome, World, after, after_entries, and_then, conn_of, next, next_of, start_from, table, with_client}
+use Rattle.place_model.specs.Histories.{AllMayCome, Client, History, IsHistoryPrefix, MayCome, SystemState, after, after_entries, and_then, conn_of, next, next_of, start_from, table, with_client}
 use Rattle.place_model.specs.Identity.{HasEnvelope, HasOrigin, IsNowhere, IsPublished, IsPush, PushedIn}
 use Rattle.queue_keys.specs.Names.{Bytes, same}
 use Rattle.command_blocks.specs.Setting.{is_queue}
@@ -73,10 +73,10 @@ no_number at s c cs w h r mark (x ∷ xs) ps k v (inl z) = absurd (cc z)
 no_number at s c cs w h r mark (x ∷ xs) ps k v (inr z) = let q : queue_in (At (Some cs) w h r) ≡ None = ap queue_in z in absurd (cc q)
 
 -- each client was in no transaction where it published last
-pub AllTidy : Full → World → Type 0
+pub AllTidy : Full → SystemState → Type 0
 AllTidy σ w = (c : ℕ) (cl : Client) → get w.clients c ≡ Some cl → Tidy σ cl.calls
 
-module _ (σ : Full) (base : Bytes → ℕ) (w : World) (inv : Inv σ base w) (tidy : AllTidy σ w) (c : ℕ) (cl : Client) (is : get w.clients c ≡ Some cl) (runs_on : cl.stopped ≡ false) where
+module _ (σ : Full) (base : Bytes → ℕ) (w : SystemState) (inv : Inv σ base w) (tidy : AllTidy σ w) (c : ℕ) (cl : Client) (is : get w.clients c ≡ Some cl) (runs_on : cl.stopped ≡ false) where
   free_at : (at : ℕ) (words : Words) (reply : Reply) → reply ≡ (apply_of w.store at c words).1 → (t b : Bytes) → IsPush σ.names t b (command_of words) reply.answer → (from : Cursor) → Runs σ Idle cl.calls from → queue_in from ≡ None
   free_at at words reply right t b p Halted runs = refl
   free_at at words reply right t b p (At None w' h r) runs = refl
@@ -125,12 +125,12 @@ module _ (σ : Full) (base : Bytes → ℕ) (w : World) (inv : Inv σ base w) (t
           subst (λ y. Tidy σ y.calls) they (tidy c cl is)
       go (inr n) = tidy d dl (sym (get-insert_other nat_cmp nat_cmp_total nat_cmp-IsAntisymmetric w.clients c halted d n) ∙ at_d)
 
-one_tidy : {N : Type 0} (σ : Full) (base : Bytes → ℕ) (w : World) (e : Entry N) → Inv σ base w → AllTidy σ w → MayCome w e → AllTidy σ (next w e)
+one_tidy : {N : Type 0} (σ : Full) (base : Bytes → ℕ) (w : SystemState) (e : Entry N) → Inv σ base w → AllTidy σ w → MayCome w e → AllTidy σ (next w e)
 one_tidy {N = N} σ base w (Stop c) inv tidy may = tidy_stopped σ base w inv tidy c may.0 may.1 may.2 N
 one_tidy σ base w (Heard c note) inv tidy may = subst (AllTidy σ) (sym (next_heard w c note)) tidy
 one_tidy {N = N} σ base w (Called c at words reply) inv tidy may = tidy_called σ base w inv tidy c may.0 may.1 may.2 N at words reply may.3
 
-tidy_after : {N : Type 0} (σ : Full) (base : Bytes → ℕ) (w : World) (h : List (Entry N)) → Inv σ base w → AllTidy σ w → AllMayCome w h → AllMannered σ (after_entries w h) → AllTidy σ (after_entries w h)
+tidy_after : {N : Type 0} (σ : Full) (base : Bytes → ℕ) (w : SystemState) (h : List (Entry N)) → Inv σ base w → AllTidy σ w → AllMayCome w h → AllMannered σ (after_entries w h) → AllTidy σ (after_entries w h)
 tidy_after σ base w [] inv tidy legal all = tidy
 tidy_after σ base w (e ∷ h) inv tidy legal all = tidy_after σ base (next w e) h (one_entry σ base w e h inv legal.0 all) (one_tidy σ base w e inv tidy legal.0) legal.1 all
 
@@ -195,10 +195,10 @@ manner_pushes σ s l (inr h) tidy =
 -- ---- the pushes of all clients
 
 -- a client keeps its seed
-abbrev Seeded : World → ℕ → ℕ → Type 0
+abbrev Seeded : SystemState → ℕ → ℕ → Type 0
 Seeded w c s = (cl : Client) × (get w.clients c ≡ Some cl) × (cl.seed ≡ s)
 
-seed_before : {N : Type 0} (w : World) (e : Entry N) (c s : ℕ) → Seeded (next w e) c s → Seeded w c s
+seed_before : {N : Type 0} (w : SystemState) (e : Entry N) (c s : ℕ) → Seeded (next w e) c s → Seeded w c s
 unfolding next
 seed_before {N = N} w e c s g = by e (get w.clients (conn_of e)) refl g
   where
@@ -218,7 +218,7 @@ seed_before {N = N} w e c s g = by e (get w.clients (conn_of e)) refl g
     by (Heard d note) (Some cl) is h = h
     by (Stop d) (Some cl) is h = put (gone_of w.store d) d cl (record cl { stopped = true }) is refl h
 
-seed_start : {N : Type 0} (w : World) (es : List (Entry N)) (c s : ℕ) → Seeded (after_entries w es) c s → Seeded w c s
+seed_start : {N : Type 0} (w : SystemState) (es : List (Entry N)) (c s : ℕ) → Seeded (after_entries w es) c s → Seeded w c s
 seed_start w [] c s h = h
 seed_start w (e ∷ es) c s h = seed_before w e c s (seed_start (next w e) es c s h)
 
@@ -226,11 +226,11 @@ module _ {N : Type 0} (σ : Full) (h p : History N) (sound : IsSound σ.names h)
   abbrev s : IsSound σ.names (and_then p pre.0)
   s = parted σ h p sound pre
 
-  abbrev first : World
+  abbrev first : SystemState
   first = start_from p.start p.clients
 
   -- the world in the end
-  abbrev pub end : World
+  abbrev pub end : SystemState
   end = after_entries first (p.entries ++ pre.0)
 
   manners : AllMannered σ end

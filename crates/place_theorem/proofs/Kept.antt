@@ -9,7 +9,7 @@ use Rattle.store_laws.proofs.Live.{live}
 use Rattle.store_laws.proofs.Maps.{conn_or, get-insert_other, get-insert_same, get-remove_other, total-insert, total-remove, weight}
 use Rattle.command_blocks.specs.Calls.{Call}
 use Rattle.place_model.specs.Counts.{copy_count, copy_one, copy_weight, count, direct_pushes, end_one, end_weight, hand_weight, loss_weight, place_count, push_weight, sum_of, total}
-use Rattle.place_model.specs.Histories.{Client, World, next, next_of, with_client}
+use Rattle.place_model.specs.Histories.{Client, SystemState, next, next_of, with_client}
 use Rattle.queue_keys.specs.Names.{Bytes}
 use Rattle.place_model.specs.Seen.{Seen, hand_by, nothing_seen, push_by, ran_by, seen, seen_by, seen_from, tag_weight}
 use Rattle.place_model.specs.declared.history.Entry.TheVariants.{Stop}
@@ -19,7 +19,7 @@ use Rattle.place_theorem.proofs.Machine.{Cursor, Idle, Live, Runs, Step, runs_sp
 use Rattle.place_theorem.proofs.Safe.{Effect, Stands, conn_in, touched_stands}
 
 -- `base t` is the number of places of t at the start
-pub record Inv (σ : Full) (base : Bytes → ℕ) (w : World) : Type 0 where
+pub record Inv (σ : Full) (base : Bytes → ℕ) (w : SystemState) : Type 0 where
   pub kinds : Kinds σ w.store.keys
   pub alike : Alike σ w.store.keys
   pub clients : (c : ℕ) (cl : Client) (cur : Cursor) → get w.clients c ≡ Some cl → cl.stopped ≡ false → Runs σ Idle cl.calls cur → Live cur → Stands σ w.store c cur (seen σ.names cl.calls)
@@ -44,7 +44,7 @@ pub sum_of-append : {A : Type 0} (f : A → ℕ) (xs ys : List A) → sum_of f (
 sum_of-append f [] ys = omega arith
 sum_of-append f (x ∷ xs) ys = let r = sum_of-append f xs ys in omega (arith, r)
 
-module _ (σ : Full) (base : Bytes → ℕ) (w : World) (inv : Inv σ base w) (c : ℕ) (cl : Client) (known : get w.clients c ≡ Some cl) (runs_on : cl.stopped ≡ false) where
+module _ (σ : Full) (base : Bytes → ℕ) (w : SystemState) (inv : Inv σ base w) (c : ℕ) (cl : Client) (known : get w.clients c ≡ Some cl) (runs_on : cl.stopped ≡ false) where
   pub sums : (f : ℕ → Client → ℕ) (new : Client) → total f (entries (insert w.clients c new)) + f c cl ≡ total f (entries w.clients) + f c new
   sums f new = subst (λ o. total f (entries (insert w.clients c new)) + weight f c o ≡ total f (entries w.clients) + f c new) known (total-insert nat_cmp nat_cmp_total nat_cmp-IsAntisymmetric f w.clients c new)
 
@@ -76,7 +76,7 @@ module _ (σ : Full) (base : Bytes → ℕ) (w : World) (inv : Inv σ base w) (c
     client_ok to r live = subst (Stands σ s' c to) (sym (seen-push σ cl.calls x)) ((effect to r).lands live)
 
     -- the world after it
-    abbrev pub w' : World
+    abbrev pub w' : SystemState
     w' = with_client s' w c new
 
     clients' : (to₀ : Cursor) → Runs σ Idle (cl.calls ++ x ∷ []) to₀ → (d : ℕ) (dl : Client) (cur : Cursor) → get w'.clients d ≡ Some dl → dl.stopped ≡ false → Runs σ Idle dl.calls cur → Live cur → Stands σ w'.store d cur (seen σ.names dl.calls)
@@ -134,7 +134,7 @@ module _ (σ : Full) (base : Bytes → ℕ) (w : World) (inv : Inv σ base w) (c
   stop = record { seed = cl.seed; calls = cl.calls; stopped = true }
 
   -- the world without its connection
-  abbrev pub w'' : World
+  abbrev pub w'' : SystemState
   w'' = with_client (gone_of w.store c) w c stop
 
   pub stopped : Inv σ base w''

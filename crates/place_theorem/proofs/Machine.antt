@@ -20,7 +20,7 @@ use Rattle.command_blocks.specs.RouteBlocks.{IsDeclareBlock, Told, direct_calls,
 use Rattle.command_blocks.specs.TakeBlocks.{IsPop, brpop_words, IsPopBlock, Empty, Unreadable, Popped, IsEndBlock, Acknowledged}
 use Rattle.command_blocks.specs.ReturnBlocks.{ReturnEnd, queued_calls, queued_keys, asking, leaving, Carries, Try, whole_try, IsTry, IsTries, Missing, Useless, Nowhere, Whole as Whole_try, Eighth, Again}
 use Rattle.command_blocks.specs.PassBlocks.{PassEnd, IsReturns, All_returned, Returned, Returned_until, Ended_early, IsRelease, Own, Foreign, tags_among, due_words, IsPassBlock, Is_held, Ran as Ran_pass}
-use Rattle.command_blocks.specs.Blocks.{IsNeutral, Pings, Selects, Measures, Subscribes, Unsubscribes, Announces, Replies, Receives, Limits, IsNeutralBlock, Answered, Kind, drawn, passed, IsBlock, Declare, Undeclare, Publish, Publish_short, Pop, End, Return, Pass, Neutral, AreBlocks, IsFrontOfBlocks, IsMannered}
+use Rattle.command_blocks.specs.Blocks.{IsNeutral, Pings, Selects, Measures, Subscribes, Unsubscribes, Announces, Replies, Receives, Limits, IsNeutralBlock, Answered, CounterUse, drawn, passes_after, IsBlock, Declare, Undeclare, Publish, Publish_short, Pop, End, Return, Pass, Neutral, AreBlocks, IsFrontOfBlocks, IsMannered}
 use Rattle.place_model.specs.Returns.{push_command, push_commands, take_out}
 use Rattle.command_blocks.specs.declared.block.Side.{Side}
 use Rattle.command_blocks.specs.declared.block.Side.TheVariants.{Left, Right}
@@ -385,7 +385,7 @@ module _ (σ : Full) where
   neutral_run : (words : Words) (l : List Call) → IsNeutralBlock σ.names words l → Runs σ Idle l Idle
   neutral_run words l (Answered a r h right) = (Idle, neutral_step words r h, refl)
 
-  pub block_run : (s n p : ℕ) (kind : Kind) (l : List Call) → IsBlock σ.names s n p kind l → Runs σ Idle l Idle
+  pub block_run : (s n p : ℕ) (kind : CounterUse) (l : List Call) → IsBlock σ.names s n p kind l → Runs σ Idle l Idle
   block_run s n p kind l (Declare e r x q l' h) = add_run e r x q l' h
   block_run s n p kind l (Undeclare e r x q l' h) = remove_run e r x q l' h
   block_run s n p kind l (Publish v l' h) = publish_run _ v l' h
@@ -398,7 +398,7 @@ module _ (σ : Full) where
 
   pub blocks_run : (s n p : ℕ) (bs : List (List Call)) → AreBlocks σ.names s n p bs → Runs σ Idle (concat bs) Idle
   blocks_run s n p [] h = refl
-  blocks_run s n p (b ∷ bs) h = runs_join σ Idle Idle Idle b (concat bs) (block_run s n p h.0 b h.1) (blocks_run s (drawn h.0 n) (passed h.0 p) bs h.2)
+  blocks_run s n p (b ∷ bs) h = runs_join σ Idle Idle Idle b (concat bs) (block_run s n p h.0 b h.1) (blocks_run s (drawn h.0 n) (passes_after h.0 p) bs h.2)
 
   runs_live : (a : Cursor) (xs : List Call) → Runs σ a xs Idle → Live a
   runs_live a [] r = subst Live (sym r) tt

@@ -3,9 +3,9 @@ use Rattle.std.proofs.Common.{◌+◌, List, None, Option, Some, [], arith, if�
 use Rattle.std.specs.FinMap.{entries}
 use Rattle.store_model.specs.declared.held.Held.{Held}
 use Rattle.place_model.specs.Counts.{IsAccepted, IsSingle, direct_pushes, end_weight, hand_weight, in_held, in_value, loss_weight, over_clients, place_count, start_count, table_count, total}
-use Rattle.place_model.specs.Histories.{History, IsHistoryPrefix, World, after}
+use Rattle.place_model.specs.Histories.{History, IsHistoryPrefix, SystemState, after}
 use Rattle.queue_keys.specs.Names.{Bytes}
-use Rattle.place_model.specs.PlaceOf.{by_counts, first_place, first_with, if_any, list_place, or_else, pick, place_of}
+use Rattle.place_model.specs.PlaceOf.{by_counts, first_place, first_with, if_any, list_place, or_place, pick, place_of}
 use Rattle.place_model.specs.Starts.{IsSound}
 use Rattle.place_model.specs.declared.place.Place.{Place}
 use Rattle.place_model.specs.declared.place.Place.TheVariants.{Ended, Hand, Lost, Never, Unacked}
@@ -29,7 +29,7 @@ first_found {K = K} {X = X} f k (e ∷ es) is = go (f e.0 e.1) refl is (λ r. fi
     go zero n is' rest = rest is'
     go (suc j) n is' rest = let s : e.0 ≡ k = cc is' in (e.1, subst (λ y. 1 ≤ f y e.1) s (omega (arith, n)))
 
-or_never : {K : Type 0} (f : K → Place) (o : Option K) (p : Place) → ((k : K) → o ≡ Some k → f k ≡ Never → ⊥) → or_else f o p ≡ Never → (o ≡ None) × (p ≡ Never)
+or_never : {K : Type 0} (f : K → Place) (o : Option K) (p : Place) → ((k : K) → o ≡ Some k → f k ≡ Never → ⊥) → or_place f o p ≡ Never → (o ≡ None) × (p ≡ Never)
 or_never f None p some e = (refl, e)
 or_never f (Some k) p some e = absurd (some k refl e)
 
@@ -38,7 +38,7 @@ any_never zero here later some e = (refl, e)
 any_never (suc n) here later some e = absurd (some e)
 
 -- the key of a list that was found is a queue's
-listed : (σ : Full) (w : World) (t k : Bytes) → first_with (in_held σ.names t) (entries w.store.keys) ≡ Some k → list_place (σ.names.split k) ≡ Never → ⊥
+listed : (σ : Full) (w : SystemState) (t k : Bytes) → first_with (in_held σ.names t) (entries w.store.keys) ≡ Some k → list_place (σ.names.split k) ≡ Never → ⊥
 listed σ w t k found = let x = first_found (in_held σ.names t) k (entries w.store.keys) found in go x.0 (σ.names.split k) x.1
   where
     go : (h : Held) (o : Option (Bytes × ℕ)) → 1 ≤ (if is_some o then in_value σ.names t h.value else 0) → list_place o ≡ Never → ⊥
@@ -46,7 +46,7 @@ listed σ w t k found = let x = first_found (in_held σ.names t) k (entries w.st
     go h (Some q) le e = absurd (cc e)
 
 -- with no place nothing is counted
-nowhere : (σ : Full) (w : World) (t : Bytes) → first_place σ.names w t ≡ Never → place_count σ.names w t ≡ 0
+nowhere : (σ : Full) (w : SystemState) (t : Bytes) → first_place σ.names w t ≡ Never → place_count σ.names w t ≡ 0
 nowhere σ w t e =
     let a = or_never (λ k. list_place (σ.names.split k)) (first_with (in_held σ.names t) (entries w.store.keys)) _ (λ k found z. listed σ w t k found z) e in
     let b = any_never (table_count σ.names w.store.keys t) Unacked _ (λ z. cc z) a.1 in

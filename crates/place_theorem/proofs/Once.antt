@@ -7,7 +7,7 @@ use Rattle.store_model.specs.declared.held.Held.{Held}
 use Rattle.store_model.specs.declared.held.Stored.{Stored}
 use Rattle.store_model.specs.declared.held.Stored.TheVariants.{Items}
 use Rattle.store_laws.proofs.Maps.{get-remove_other, total-remove, weight}
-use Rattle.place_model.specs.Counts.{entry_at, in_held, in_value, is_field, start_count, tagged, total}
+use Rattle.place_model.specs.Counts.{table_entry, in_held, in_value, is_field, start_count, tagged, total}
 use Rattle.place_model.specs.Histories.{AreUnused, Client, IsTable, seeds, table}
 use Rattle.place_model.specs.Identity.{HasEnvelope, In_a_list, In_the_table}
 use Rattle.queue_keys.specs.Names.{Bytes, same}
@@ -68,13 +68,13 @@ module _ (σ : Full) (m : Keys) (used : List ℕ) (fit : IsSoundStart σ.names m
   in_list : (k v : Bytes) → is_queue σ.names k ≡ true → Among v (elements_at m k) → σ.names.tag_of v ≡ Some t → 1 ≤ weight (in_held σ.names t) k (get m k)
   in_list k v q is tag = let w = queue_weight σ t k (get m k) q in let s = tagged_some σ t v (elements_at m k) tag is in omega (arith, w, s)
 
-  in_field : (u : Bytes) → entry_at σ.names m t ≡ Some u → is_field σ.names m t ≡ true
+  in_field : (u : Bytes) → table_entry σ.names m t ≡ Some u → is_field σ.names m t ≡ true
   in_field u e = ap is_some e
 
-  field_count : (u : Bytes) → entry_at σ.names m t ≡ Some u → one_if (is_field σ.names m t) ≡ 1
+  field_count : (u : Bytes) → table_entry σ.names m t ≡ Some u → one_if (is_field σ.names m t) ≡ 1
   field_count u e = ap one_if (in_field u e)
 
-  list_and_field : (k v u : Bytes) → is_queue σ.names k ≡ true → Among v (elements_at m k) → σ.names.tag_of v ≡ Some t → entry_at σ.names m t ≡ Some u → ⊥
+  list_and_field : (k v u : Bytes) → is_queue σ.names k ≡ true → Among v (elements_at m k) → σ.names.tag_of v ≡ Some t → table_entry σ.names m t ≡ Some u → ⊥
   list_and_field k v u q is tag e =
       let a = in_list k v q is tag in
       let b = one_part (in_held σ.names t) m k in

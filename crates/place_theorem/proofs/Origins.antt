@@ -11,7 +11,7 @@ use Rattle.store_model.specs.declared.reply.Reply.{Reply}
 use Rattle.store_laws.proofs.Maps.{conn_or, get-insert_other, get-insert_same}
 use Rattle.command_blocks.specs.Calls.{Call}
 use Rattle.place_model.specs.Counts.{field_of, start_count}
-use Rattle.place_model.specs.Histories.{AllMayCome, Client, History, IsHistoryPrefix, MayCome, World, after, after_entries, and_then, next, start_from, with_client}
+use Rattle.place_model.specs.Histories.{AllMayCome, Client, History, IsHistoryPrefix, MayCome, SystemState, after, after_entries, and_then, next, start_from, with_client}
 use Rattle.place_model.specs.Identity.{HasEnvelope, HasOrigin, In_a_list, In_the_table, IsPublished, IsPush, PushedIn}
 use Rattle.queue_keys.specs.Names.{Bytes}
 use Rattle.queue_keys.specs.QueueKeys.{Among}
@@ -30,11 +30,11 @@ use Rattle.place_theorem.proofs.Standing.{Holds, comes, held_before}
 use Rattle.place_theorem.proofs.Whole.{AllMannered, call_in, grows_one, inv_ready, next_called, next_heard, one_entry, prefix_self, ready, ready_keys, runs_to, served, table_get}
 
 -- it stood in the start, or a client published it
-abbrev pub OriginIn : Full → Keys → World → Bytes → Bytes → Type 0
+abbrev pub OriginIn : Full → Keys → SystemState → Bytes → Bytes → Type 0
 OriginIn σ m w t b = HasEnvelope σ.names m t b ⊎ IsPublished σ.names w t b
 
 -- what is known of each envelope that stands in the store, or that a client has in hand
-pub record AllKnown (σ : Full) (m : Keys) (w : World) : Type 0 where
+pub record AllKnown (σ : Full) (m : Keys) (w : SystemState) : Type 0 where
   pub stored : (t b : Bytes) → HasEnvelope σ.names w.store.keys t b → OriginIn σ m w t b
   pub hands : (c : ℕ) (cl : Client) (cur : Cursor) (h : Bytes × Bytes) → get w.clients c ≡ Some cl → cl.stopped ≡ false → Runs σ Idle cl.calls cur → held_in cur ≡ Some h → OriginIn σ m w h.0 (σ.names.body_of h.1)
 
@@ -50,7 +50,7 @@ pushed_last σ t b [] x p = inl p
 pushed_last σ t b (y ∷ xs) x p = inr (pushed_last σ t b xs x p)
 
 -- what was published stays so
-origin_kept : {N : Type 0} (σ : Full) (m : Keys) (w : World) (e : Entry N) (t b : Bytes) → OriginIn σ m w t b → OriginIn σ m (next w e) t b
+origin_kept : {N : Type 0} (σ : Full) (m : Keys) (w : SystemState) (e : Entry N) (t b : Bytes) → OriginIn σ m w t b → OriginIn σ m (next w e) t b
 origin_kept σ m w e t b (inl st) = inl st
 origin_kept σ m w e t b (inr o) =
     let g = grows_one w e o.0 o.1.calls (o.1, o.2, prefix_self o.1.calls) in
@@ -60,11 +60,11 @@ settled_stood : (σ : Full) (m : Keys) (at : ℕ) (t b : Bytes) → Kinds σ m �
 settled_stood σ m at t b kinds (In_a_list k v q is tag body) = In_a_list k v q (subst (Among v) (ap (λ o. elements_of (value_of o)) (get-lasting σ m at kinds k (kinds.lists_last k q))) is) tag body
 settled_stood σ m at t b kinds (In_the_table u is body) = In_the_table u (sym (ap (λ o. field_of (value_of o) t) (unacked_kept σ m at kinds)) ∙ is) body
 
-held_origin : (σ : Full) (m : Keys) (w : World) (t b : Bytes) (o : Option (Bytes × Bytes)) → ((h : Bytes × Bytes) → o ≡ Some h → OriginIn σ m w h.0 (σ.names.body_of h.1)) → Holds σ t b o → OriginIn σ m w t b
+held_origin : (σ : Full) (m : Keys) (w : SystemState) (t b : Bytes) (o : Option (Bytes × Bytes)) → ((h : Bytes × Bytes) → o ≡ Some h → OriginIn σ m w h.0 (σ.names.body_of h.1)) → Holds σ t b o → OriginIn σ m w t b
 held_origin σ m w t b None all is = absurd is
 held_origin σ m w t b (Some h) all is = subst (λ y. OriginIn σ m w t y) is.1 (subst (λ x. OriginIn σ m w x (σ.names.body_of h.1)) is.0 (all h refl))
 
-module _ (σ : Full) (base : Bytes → ℕ) (m : Keys) (w : World) (inv : Inv σ base w) (known : AllKnown σ m w) where
+module _ (σ : Full) (base : Bytes → ℕ) (m : Keys) (w : SystemState) (inv : Inv σ base w) (known : AllKnown σ m w) where
   -- ---- a call
   module _ (N : Type 0) (c at : ℕ) (words : Words) (reply : Reply) (cl : Client) (is : get w.clients c ≡ Some cl) (runs_on : cl.stopped ≡ false) (right : reply ≡ (apply_of w.store at c words).1) (to₀ : Cursor) (runs₀ : Runs σ Idle (cl.calls ++ call_in at words reply ∷ []) to₀) where
     -- the call
@@ -194,14 +194,14 @@ known_start σ m cs = record {
       absurd (cc no_hand);
 }
 
-one_known : {N : Type 0} (σ : Full) (base : Bytes → ℕ) (m : Keys) (w : World) (e : Entry N) (rest : List (Entry N)) → Inv σ base w → AllKnown σ m w → MayCome w e → AllMannered σ (after_entries (next w e) rest) → AllKnown σ m (next w e)
+one_known : {N : Type 0} (σ : Full) (base : Bytes → ℕ) (m : Keys) (w : SystemState) (e : Entry N) (rest : List (Entry N)) → Inv σ base w → AllKnown σ m w → MayCome w e → AllMannered σ (after_entries (next w e) rest) → AllKnown σ m (next w e)
 one_known {N = N} σ base m w (Stop c) rest inv known may all = known_stopped σ base m w inv known N c may.0 may.1 may.2
 one_known σ base m w (Heard c note) rest inv known may all = subst (AllKnown σ m) (sym (next_heard w c note)) known
 one_known {N = N} σ base m w (Called c at words reply) rest inv known may all =
     let r = runs_to σ w c at words reply rest may.0 may.1 all in
     known_called σ base m w inv known N c at words reply may.0 may.1 may.2 may.3 r.0 r.1
 
-known_after : {N : Type 0} (σ : Full) (base : Bytes → ℕ) (m : Keys) (w : World) (p rest : List (Entry N)) → Inv σ base w → AllKnown σ m w → AllMayCome w (p ++ rest) → AllMannered σ (after_entries w (p ++ rest)) → AllKnown σ m (after_entries w p)
+known_after : {N : Type 0} (σ : Full) (base : Bytes → ℕ) (m : Keys) (w : SystemState) (p rest : List (Entry N)) → Inv σ base w → AllKnown σ m w → AllMayCome w (p ++ rest) → AllMannered σ (after_entries w (p ++ rest)) → AllKnown σ m (after_entries w p)
 known_after σ base m w [] rest inv known legal all = known
 known_after σ base m w (e ∷ p) rest inv known legal all = known_after σ base m (next w e) p rest (one_entry σ base w e (p ++ rest) inv legal.0 all) (one_known σ base m w e (p ++ rest) inv known legal.0 all) legal.1 all
 

@@ -11,7 +11,7 @@ use Rattle.store_model.specs.declared.connection.Queue.{Queue}
 use Rattle.store_model.specs.declared.reply.Reply.{Reply}
 use Rattle.store_laws.proofs.Ranks.{among_ranks, ranks_are}
 use Rattle.command_blocks.specs.Calls.{Call, call}
-use Rattle.place_model.specs.Counts.{entry_at, has_member, is_member}
+use Rattle.place_model.specs.Counts.{table_entry, has_member, is_member}
 use Rattle.place_model.specs.Histories.{History, IsHistoryPrefix, after, and_then, calls_among, calls_of, conn_of, own_entries}
 use Rattle.place_model.specs.Identity.{HasOrigin, In_the_table}
 use Rattle.queue_keys.specs.Names.{Bytes, same}
@@ -41,7 +41,7 @@ pub members_tags : {N : Type 0} (σ : Full) (h p : History N) (t : Bytes) → Is
 members_tags σ h p t sound pre is =
     let inv = inv_of σ h p sound pre in
     let s = parted σ h p sound pre in
-    let e = some_is (entry_at σ.names (after p).store.keys t) (inv.alike t ∙ is) in
+    let e = some_is (table_entry σ.names (after p).store.keys t) (inv.alike t ∙ is) in
     go s.start (σ.names.body_in e.0) (identity σ h p t (σ.names.body_in e.0) sound pre (In_the_table e.0 e.1 refl))
   where
     go : IsSoundStart σ.names p.start p.used → (b : Bytes) → HasOrigin σ.names p t b → σ.names.is_tag t ≡ true

@@ -2,7 +2,7 @@
 use Rattle.std.proofs.Common.{◌++◌, List, [], ap, append_assoc, drop, inl, inr, refl, subst, sym, ℕ, ◌∙◌, ◌∷◌, ◌≡◌, ◌⊎◌}
 use Rattle.command_blocks.specs.Blocks.{IsFrontOfBlocks, IsMannered}
 use Rattle.command_blocks.specs.Calls.{Call, call}
-use Rattle.place_model.specs.Histories.{AllMayCome, History, IsHistoryPrefix, World, and_then, calls_of, next, start_from}
+use Rattle.place_model.specs.Histories.{AllMayCome, History, IsHistoryPrefix, SystemState, and_then, calls_of, next, start_from}
 use Rattle.command_blocks.specs.Setting.{Setting}
 use Rattle.place_model.specs.Starts.{IsSound}
 use Rattle.place_model.specs.declared.history.Entry.{Entry}
@@ -47,7 +47,7 @@ mannered_part σ s xs ys (inr h) = elim (last_or xs ys h.0 (call h.1 h.2 h.4) h.
       inl (front_part σ s xs part.0 (subst (IsFrontOfBlocks σ s) (sym part.1) before))
 ]
 
-legal_front : {N : Type 0} (w : World) (p rest : List (Entry N)) → AllMayCome w (p ++ rest) → AllMayCome w p
+legal_front : {N : Type 0} (w : SystemState) (p rest : List (Entry N)) → AllMayCome w (p ++ rest) → AllMayCome w p
 legal_front w [] rest h = tt
 legal_front w (e ∷ p) rest h = (h.0, legal_front (next w e) p rest h.1)
 

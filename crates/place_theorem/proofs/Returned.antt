@@ -5,7 +5,7 @@ use Rattle.wire_values.specs.declared.value.Value.{Value}
 use Rattle.wire_values.specs.declared.value.Value.TheVariants.{Array}
 use Rattle.store_model.specs.Commands.{Around, is_queued, run}
 use Rattle.store_model.specs.Connections.{Conns, around, conn}
-use Rattle.store_model.specs.Keys.{Keys, is_due, live_at, value_of}
+use Rattle.store_model.specs.Keys.{Keys, is_expired, live_at, value_of}
 use Rattle.store_model.specs.Replies.{bulks}
 use Rattle.store_model.specs.Store.{State, run_all, serve, settled}
 use Rattle.store_model.specs.Words.{Words, command_of}
@@ -18,8 +18,8 @@ use Rattle.store_laws.proofs.Settled.{get-live_at}
 use Rattle.store_laws.proofs.Table.{Turned}
 use Rattle.command_blocks.specs.Answers.{items_of}
 use Rattle.command_blocks.specs.Calls.{Call}
-use Rattle.place_model.specs.Counts.{entry_at, field_of, has_field, has_member, is_field, is_member, start_count}
-use Rattle.place_model.specs.Histories.{Client, History, IsHistoryPrefix, World, after, and_then, start_from}
+use Rattle.place_model.specs.Counts.{table_entry, field_of, has_field, has_member, is_field, is_member, start_count}
+use Rattle.place_model.specs.Histories.{Client, History, IsHistoryPrefix, SystemState, after, and_then, start_from}
 use Rattle.queue_keys.specs.Lookup.{lookup}
 use Rattle.queue_keys.specs.Names.{Bytes}
 use Rattle.queue_keys.specs.QueueKeys.{Among, IsAway}
@@ -116,7 +116,7 @@ module _ (σ : Full) (at : ℕ) (cs : Conns) (s : State) (c : ℕ) (sn : Seen) (
   }
 
 -- and from the keys before what was due was dropped
-whole_from : (σ : Full) (m m' : Keys) (at : ℕ) (side : Side) (t u v : Bytes) (ms : List Bytes) → Kinds σ m → Carries σ.names u t v → entry_at σ.names (live_at at m) t ≡ Some u → Taken σ (live_at at m) m' side t v (σ.names.keys_in u ms) → IsWholeReturn σ.names m m' at side t u v (σ.names.keys_in u ms)
+whole_from : (σ : Full) (m m' : Keys) (at : ℕ) (side : Side) (t u v : Bytes) (ms : List Bytes) → Kinds σ m → Carries σ.names u t v → table_entry σ.names (live_at at m) t ≡ Some u → Taken σ (live_at at m) m' side t v (σ.names.keys_in u ms) → IsWholeReturn σ.names m m' at side t u v (σ.names.keys_in u ms)
 whole_from σ m m' at side t u v ms kinds carries was taken =
     let ua : get (live_at at m) σ.names.unacked ≡ get m σ.names.unacked = unacked_kept σ m at kinds in
     let ia : get (live_at at m) σ.names.index ≡ get m σ.names.index = index_kept σ m at kinds in
@@ -127,16 +127,16 @@ whole_from σ m m' at side t u v ms kinds carries was taken =
       no_member = taken.no_member;
       gained = λ k is. taken.gained k is ∙ ap (λ o. gain side v (elements_of (value_of o))) (get-lasting σ m at kinds k (kinds.lists_last k (among_queue σ k (σ.names.keys_in u ms) (σ.laws.keys_in_are u ms) is)));
       others = λ x n. ((taken.others x n).0 ∙ ap (λ o. has_field (value_of o) x) ua, (taken.others x n).1 ∙ ap (λ o. has_member (value_of o) x) ia);
-      elsewhere = λ k far. go k (is_due at (get m k)) refl (taken.elsewhere k far ∙ get-live_at at m k);
+      elsewhere = λ k far. go k (is_expired at (get m k)) refl (taken.elsewhere k far ∙ get-live_at at m k);
     }
   where
-    go : (k : Bytes) (b : Bool) → is_due at (get m k) ≡ b → get m' k ≡ (if is_due at (get m k) then None else get m k) → (get m' k ≡ get m k) ⊎ ((is_due at (get m k) ≡ true) × (get m' k ≡ None))
+    go : (k : Bytes) (b : Bool) → is_expired at (get m k) ≡ b → get m' k ≡ (if is_expired at (get m k) then None else get m k) → (get m' k ≡ get m k) ⊎ ((is_expired at (get m k) ≡ true) × (get m' k ≡ None))
     go k true b is = inr (b, is ∙ ap (λ x. if x then None else get m k) b)
     go k false b is = inl (is ∙ ap (λ x. if x then None else get m k) b)
 
 -- at the machine: EXEC answered an array, and more than two commands were queued
 abbrev Made : Full → State → ℕ → Seen → Type 0
-Made σ s c sn = (side : Side) × (t : Bytes) × (u : Bytes) × (v : Bytes) × (ms : List Bytes) × Carries σ.names u t v × (entry_at σ.names s.keys t ≡ Some u) × (sn.since ≡ take_out σ.names t (push_commands side v (σ.names.keys_in u ms)))
+Made σ s c sn = (side : Side) × (t : Bytes) × (u : Bytes) × (v : Bytes) × (ms : List Bytes) × Carries σ.names u t v × (table_entry σ.names s.keys t ≡ Some u) × (sn.since ≡ take_out σ.names t (push_commands side v (σ.names.keys_in u ms)))
     × ((σ.names.exchange_in u ≡ None) ⊎ (sn.asked ≡ bulks ms))
 
 asked_is : (σ : Full) (t u v : Bytes) (ms : List Bytes) (a : Option Value) (x : Value) → (σ.names.exchange_in u ≡ None) ⊎ (a ≡ Some (bulks ms)) → AskedIs (Some (t, u, a)) x → (σ.names.exchange_in u ≡ None) ⊎ (x ≡ bulks ms)
@@ -160,7 +160,7 @@ exec_ran σ at s c cs w h r b (y ∷ ys) ps xs (inl z) is = absurd (cc z)
 exec_ran σ at s c cs w h r b (y ∷ ys) ps xs (inr z) is = let q : queue_in (At (Some cs) w h r) ≡ None = ap queue_in z in absurd (cc q)
 
 -- one entry of a client in order
-returns_at : (σ : Full) (base : Bytes → ℕ) (w : World) (inv : Inv σ base w) (c : ℕ) (x : Call) (cl : Client) (to : Cursor) (xs : List Value) (a b q : Command) (qs : List Command)
+returns_at : (σ : Full) (base : Bytes → ℕ) (w : SystemState) (inv : Inv σ base w) (c : ℕ) (x : Call) (cl : Client) (to : Cursor) (xs : List Value) (a b q : Command) (qs : List Command)
     → get w.clients c ≡ Some cl → cl.stopped ≡ false → x.answer ≡ (serve x.at (ready w x.at c).store c (command_of x.words) (conn (ready w x.at c).store.conns c)).1 → Runs σ Idle (cl.calls ++ x ∷ []) to
     → command_of x.words ≡ Exec → x.answer ≡ Array xs → (seen σ.names cl.calls).since ≡ a ∷ b ∷ q ∷ qs → ReturnsWhole σ.names (seen σ.names cl.calls) w.store.keys (serve x.at (ready w x.at c).store c (command_of x.words) (conn (ready w x.at c).store.conns c)).0.keys x.at
 returns_at σ base w inv c x cl to xs a b q qs known runs_on right runs exec array more =
@@ -191,7 +191,7 @@ returns_at σ base w inv c x cl to xs a b q qs known runs_on right runs exec arr
       commands = it.7;
       lookup = it.8;
       whole = subst (λ k. IsWholeReturn σ.names w.store.keys k x.at it.0 it.1 it.2 it.3 (σ.names.keys_in it.2 it.4)) (sym keys)
-          (whole_from σ w.store.keys m' x.at it.0 it.1 it.2 it.3 it.4 inv.kinds it.5 (subst (λ k. entry_at σ.names k it.1 ≡ Some it.2) live it.6) (subst (λ k. Taken σ k m' it.0 it.1 it.3 (σ.names.keys_in it.2 it.4)) live took));
+          (whole_from σ w.store.keys m' x.at it.0 it.1 it.2 it.3 it.4 inv.kinds it.5 (subst (λ k. table_entry σ.names k it.1 ≡ Some it.2) live it.6) (subst (λ k. Taken σ k m' it.0 it.1 it.3 (σ.names.keys_in it.2 it.4)) live took));
     }
 
 -- a return that ran returned its message whole

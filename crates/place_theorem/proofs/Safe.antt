@@ -22,7 +22,7 @@ use Rattle.store_laws.proofs.Live.{total-same}
 use Rattle.store_laws.proofs.Maps.{weight}
 use Rattle.store_laws.specs.Laws.{IsTouched}
 use Rattle.command_blocks.specs.Answers.{number_of, pair_of}
-use Rattle.place_model.specs.Counts.{copy_one, count, end_one, entry_at, field_of, has_field, has_member, in_held, in_value, list_count, sum_of, table_count}
+use Rattle.place_model.specs.Counts.{copy_one, count, end_one, table_entry, field_of, has_field, has_member, in_held, in_value, list_count, sum_of, table_count}
 use Rattle.queue_keys.specs.Names.{Bytes, same}
 use Rattle.queue_keys.specs.QueueKeys.{IsAway}
 use Rattle.place_model.specs.Seen.{Seen, hand_by, hand_from, push_by, push_with, ran_by, seen, seen_by, tag_list, tag_weight}
@@ -77,7 +77,7 @@ conn_in cur b ch ms = record { queue = queue_in cur; watched = watched_in cur; m
 -- where an entry was read and its reader isn't marked, the table still has that entry
 abbrev pub ReadOk : Full → Option (Bytes × Bytes × Option Value) → List Bytes → Keys → Bool → Type 0
 ReadOk σ None w m b = Unit {0}
-ReadOk σ (Some r) w m b = (w ≡ σ.names.unacked ∷ []) × (b ≡ false → entry_at σ.names m r.0 ≡ Some r.1)
+ReadOk σ (Some r) w m b = (w ≡ σ.names.unacked ∷ []) × (b ≡ false → table_entry σ.names m r.0 ≡ Some r.1)
 
 -- the mark: only who watches has it
 pub record MarkOk (σ : Full) (cur : Cursor) (m : Keys) (b : Bool) : Type 0 where
@@ -157,7 +157,7 @@ read_kept : (σ : Full) (r : Option (Bytes × Bytes × Option Value)) (w : List 
 read_kept σ None w m m' b ks told ok = tt
 read_kept σ (Some r) w m m' b ks told ok = (ok.0, λ not_yet. go told not_yet)
   where
-    go : ToldBy m σ.names.unacked ks m' → (b || hit ks w) ≡ false → entry_at σ.names m' r.0 ≡ Some r.1
+    go : ToldBy m σ.names.unacked ks m' → (b || hit ks w) ≡ false → table_entry σ.names m' r.0 ≡ Some r.1
     go (inl h) not_yet = let z : hit ks (σ.names.unacked ∷ []) ≡ false = subst (λ x. hit ks x ≡ false) ok.0 (or_right_false b _ not_yet) in absurd (cc (h, z))
     go (inr e) not_yet = ap (λ o. field_of (value_of o) r.0) e ∙ ok.1 (or_left_false b _ not_yet)
 

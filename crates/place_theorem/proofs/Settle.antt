@@ -4,7 +4,7 @@ use Rattle.std.specs.FinMap.{entries, get, insert}
 use Rattle.wire_values.specs.Order.{bytes_cmp}
 use Rattle.wire_values.specs.declared.value.Value.{Value}
 use Rattle.store_model.specs.Connections.{conn}
-use Rattle.store_model.specs.Keys.{Keys, due_keys, expiry_of, is_due, is_over, live_at, value_of}
+use Rattle.store_model.specs.Keys.{Keys, due_keys, expiry_of, is_expired, is_over, live_at, value_of}
 use Rattle.store_model.specs.Store.{State, answer_to, quiet, serve, set_conn, settled}
 use Rattle.store_model.specs.Words.{Words, command_of}
 use Rattle.store_model.specs.declared.connection.Conn.{Conn}
@@ -13,7 +13,7 @@ use Rattle.store_laws.proofs.Connections.{marks_kept, set_other, set_same, untou
 use Rattle.store_laws.proofs.Live.{get-live, total-live}
 use Rattle.store_laws.proofs.Maps.{conn_or, weight}
 use Rattle.place_model.specs.Counts.{has_field, has_member, in_held, in_value, table_count, total}
-use Rattle.place_model.specs.Histories.{World}
+use Rattle.place_model.specs.Histories.{SystemState}
 use Rattle.queue_keys.specs.Names.{Bytes}
 use Rattle.place_model.specs.Seen.{Seen, seen}
 use Rattle.command_blocks.specs.Setting.{is_queue}
@@ -25,11 +25,11 @@ use Rattle.place_theorem.proofs.Safe.{Stands, touched_stands}
 use Rattle.store_tables.proofs.Maps.{bytes_anti, bytes_total}
 
 -- the world in which nothing is due
-abbrev pub settle : World → ℕ → World
+abbrev pub settle : SystemState → ℕ → SystemState
 settle w at = record { store = settled w.store at; clients = w.clients }
 
 module _ (σ : Full) (m : Keys) (at : ℕ) (ks : Kinds σ m) where
-  lasting : (o : Option Held) → expiry_of o ≡ None → is_due at o ≡ false
+  lasting : (o : Option Held) → expiry_of o ≡ None → is_expired at o ≡ false
   lasting None e = refl
   lasting (Some h) e = ap (is_over at) e
 
@@ -37,7 +37,7 @@ module _ (σ : Full) (m : Keys) (at : ℕ) (ks : Kinds σ m) where
   pub get-lasting : (k : Bytes) → expiry_of (get m k) ≡ None → get (live_at at m) k ≡ get m k
   get-lasting k e = get-live bytes_cmp bytes_total bytes_anti (λ h. is_over at h.expiry) m k ∙ ap (λ b. cond (not b) (get m k) None) (lasting (get m k) e)
 
-  light : (t q : Bytes) → is_due at (get m q) ≡ true → weight (in_held σ.names t) q (get m q) ≡ 0
+  light : (t q : Bytes) → is_expired at (get m q) ≡ true → weight (in_held σ.names t) q (get m q) ≡ 0
   light t q due = go (is_queue σ.names q) refl
     where
       other : (o : Option Held) → is_queue σ.names q ≡ false → weight (in_held σ.names t) q o ≡ 0
@@ -68,7 +68,7 @@ module _ (σ : Full) (m : Keys) (at : ℕ) (ks : Kinds σ m) where
   }
 
 -- dropping what is due keeps the invariant
-pub inv_settled : (σ : Full) (base : Bytes → ℕ) (w : World) (at : ℕ) → Inv σ base w → Inv σ base (settle w at)
+pub inv_settled : (σ : Full) (base : Bytes → ℕ) (w : SystemState) (at : ℕ) → Inv σ base w → Inv σ base (settle w at)
 inv_settled σ base w at inv =
     let u = unacked_kept σ w.store.keys at inv.kinds in
     let i = index_kept σ w.store.keys at inv.kinds in
@@ -92,7 +92,7 @@ abbrev pub quieted : State → ℕ → State
 quieted s c = quiet s c (conn s.conns c) (conn s.conns c).pending
 
 -- the world in which a connection was told its messages
-abbrev pub hush : World → ℕ → World
+abbrev pub hush : SystemState → ℕ → SystemState
 hush w c = record { store = quieted w.store c; clients = w.clients }
 
 -- the connection with no pending messages
@@ -123,7 +123,7 @@ told_stands σ s c d cur sn ok (inr n) = record {
 }
 
 -- telling them keeps the invariant
-pub inv_hushed : (σ : Full) (base : Bytes → ℕ) (w : World) (c : ℕ) → Inv σ base w → Inv σ base (hush w c)
+pub inv_hushed : (σ : Full) (base : Bytes → ℕ) (w : SystemState) (c : ℕ) → Inv σ base w → Inv σ base (hush w c)
 inv_hushed σ base w c inv = go (conn w.store.conns c).pending
   where
     go : (ms : List Value) → Inv σ base (record { store = quiet w.store c (conn w.store.conns c) ms; clients = w.clients })

@@ -8,7 +8,7 @@ use Rattle.store_laws.proofs.Maps.{conn_or, get-insert_other, get-insert_same}
 use Rattle.command_blocks.specs.Blocks.{IsMannered}
 use Rattle.command_blocks.specs.Calls.{Call}
 use Rattle.place_model.specs.Counts.{IsAccepted, IsPlaced, IsSingle, direct_pushes, list_count, start_count}
-use Rattle.place_model.specs.Histories.{AllMayCome, Client, History, IsHistoryPrefix, MayCome, World, after, after_entries, and_then, calls_among, calls_of, conn_of, new_client, next, next_of, onto_calls, own_entries, start_from, table, with_client}
+use Rattle.place_model.specs.Histories.{AllMayCome, Client, History, IsHistoryPrefix, MayCome, SystemState, after, after_entries, and_then, calls_among, calls_of, conn_of, new_client, next, next_of, onto_calls, own_entries, start_from, table, with_client}
 use Rattle.queue_keys.specs.Names.{Bytes, same}
 use Rattle.queue_keys.specs.QueueKeys.{Among}
 use Rattle.place_model.specs.Starts.{IsSound, IsSoundStart}
@@ -35,17 +35,17 @@ calls-first {N = N} c e es = elim (conn_of e == c) as (λ b. calls_among (if b t
     here (Stop d) = refl
 
 -- what the world has of the client is this one with these further calls
-abbrev GoesOn : World → ℕ → Client → List Call → Type 0
+abbrev GoesOn : SystemState → ℕ → Client → List Call → Type 0
 GoesOn w c cl l = (now : Client) × (get w.clients c ≡ Some now) × (now.seed ≡ cl.seed) × (now.calls ≡ cl.calls ++ l)
 
-stays : (w : World) (c : ℕ) (cl : Client) → get w.clients c ≡ Some cl → GoesOn w c cl []
+stays : (w : SystemState) (c : ℕ) (cl : Client) → get w.clients c ≡ Some cl → GoesOn w c cl []
 stays w c cl is = (cl, is, refl, sym (append-nil cl.calls))
 
 own_calls : {N : Type 0} (c : ℕ) (e : Entry N) (b : Bool) → (conn_of e == c) ≡ b → calls_of c (e ∷ []) ≡ (if b then onto_calls e [] else [])
 own_calls c e true i = ap (λ b. calls_among (if b then e ∷ [] else [])) i
 own_calls c e false i = ap (λ b. calls_among (if b then e ∷ [] else [])) i
 
-module _ (N : Type 0) (w : World) (c : ℕ) (cl : Client) (is : get w.clients c ≡ Some cl) where
+module _ (N : Type 0) (w : SystemState) (c : ℕ) (cl : Client) (is : get w.clients c ≡ Some cl) where
   -- another client's entry
   aside : (s : State) (d : ℕ) (new : Client) → c ≢ d → GoesOn (with_client s w d new) c cl []
   aside s d new n = (cl, get-insert_other nat_cmp nat_cmp_total nat_cmp-IsAntisymmetric w.clients d new c n ∙ is, refl, sym (append-nil cl.calls))
@@ -75,7 +75,7 @@ module _ (N : Type 0) (w : World) (c : ℕ) (cl : Client) (is : get w.clients c 
       go b i = subst (GoesOn (next_of w e (get w.clients (conn_of e))) c cl) (sym (own_calls c e b i)) (by_client e (get w.clients (conn_of e)) refl b i)
 
 -- the world goes on with a client's calls
-pub client_goes : {N : Type 0} (w : World) (es : List (Entry N)) (c : ℕ) (cl : Client) → get w.clients c ≡ Some cl → GoesOn (after_entries w es) c cl (calls_of c es)
+pub client_goes : {N : Type 0} (w : SystemState) (es : List (Entry N)) (c : ℕ) (cl : Client) → get w.clients c ≡ Some cl → GoesOn (after_entries w es) c cl (calls_of c es)
 client_goes w [] c cl is = stays w c cl is
 client_goes {N = N} w (e ∷ es) c cl is =
     let a = goes_one N w c cl is e in
@@ -83,7 +83,7 @@ client_goes {N = N} w (e ∷ es) c cl is =
     (r.0, r.1, r.2 ∙ a.2, r.3 ∙ ap (λ l. l ++ calls_of c es) a.3 ∙ append_assoc cl.calls (calls_of c (e ∷ [])) (calls_of c es) ∙ ap (λ l. cl.calls ++ l) (sym (calls-first c e es)))
 
 -- who isn't known stays so
-unknown_one : {N : Type 0} (w : World) (e : Entry N) (c : ℕ) → get w.clients c ≡ None → get (next w e).clients c ≡ None
+unknown_one : {N : Type 0} (w : SystemState) (e : Entry N) (c : ℕ) → get w.clients c ≡ None → get (next w e).clients c ≡ None
 unfolding next
 unknown_one {N = N} w e c none = go e (get w.clients (conn_of e)) refl
   where
@@ -101,7 +101,7 @@ unknown_one {N = N} w e c none = go e (get w.clients (conn_of e)) refl
     go (Stop d) (Some old) was = put (gone_of w.store d) d old (record old { stopped = true }) was
 
 -- no connection comes to be known
-pub unknown : {N : Type 0} (w : World) (es : List (Entry N)) (c : ℕ) → get w.clients c ≡ None → get (after_entries w es).clients c ≡ None
+pub unknown : {N : Type 0} (w : SystemState) (es : List (Entry N)) (c : ℕ) → get w.clients c ≡ None → get (after_entries w es).clients c ≡ None
 unknown w [] c none = none
 unknown w (e ∷ es) c none = unknown (next w e) es c (unknown_one w e c none)
 
@@ -154,7 +154,7 @@ start_counts : (σ : Full) (m : Keys) → Alike σ m → (t : Bytes) → lists_o
 start_counts σ m alike t = ap (λ n. list_count σ.names m t + n) (table_is σ m alike t)
 
 -- the invariant with another base that is the same
-rebased : (σ : Full) (base base' : Bytes → ℕ) (w : World) → ((t : Bytes) → base t ≡ base' t) → Inv σ base w → Inv σ base' w
+rebased : (σ : Full) (base base' : Bytes → ℕ) (w : SystemState) → ((t : Bytes) → base t ≡ base' t) → Inv σ base w → Inv σ base' w
 rebased σ base base' w same inv = record {
   kinds = inv.kinds;
   alike = inv.alike;
@@ -186,7 +186,7 @@ placed_one σ h p t sound pre accepted single =
     (inv.placed t single.0 single.1 ∙ n, inv.alike t)
 
 -- the world after further entries
-pub after-append : {N : Type 0} (w : World) (p rest : List (Entry N)) → after_entries w (p ++ rest) ≡ after_entries (after_entries w p) rest
+pub after-append : {N : Type 0} (w : SystemState) (p rest : List (Entry N)) → after_entries w (p ++ rest) ≡ after_entries (after_entries w p) rest
 after-append w [] rest = refl
 after-append w (e ∷ p) rest = after-append (next w e) p rest
 

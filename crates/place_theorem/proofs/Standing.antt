@@ -20,7 +20,7 @@ use Rattle.store_laws.proofs.Elements.{among_append, brpop_gives, shortened_amon
 use Rattle.store_laws.proofs.Fields.{hdel_from, hset_from}
 use Rattle.store_laws.proofs.Law.{altering, framed}
 use Rattle.command_blocks.specs.Answers.{number_of}
-use Rattle.place_model.specs.Counts.{entry_at, field_of}
+use Rattle.place_model.specs.Counts.{table_entry, field_of}
 use Rattle.place_model.specs.Identity.{HasEnvelope, In_a_list, In_the_table, IsPush}
 use Rattle.queue_keys.specs.Names.{Bytes, same}
 use Rattle.queue_keys.specs.QueueKeys.{Among, IsAway}
@@ -155,7 +155,7 @@ module _ (σ : Full) (t b : Bytes) where
           | inl old ↦ inl (stood_index e s.keys (Zrem σ.names.index (x ∷ [])) refl (stood_cut e (run e s.keys (Zrem σ.names.index (x ∷ []))).keys x (hash_after e (Zrem σ.names.index (x ∷ [])) refl) old))
           | inr new ↦
               let same : x ≡ t = some_inj x t (sym carries.1 ∙ new.0) in
-              let was : entry_at σ.names s.keys t ≡ Some u = subst (λ z. entry_at σ.names s.keys z ≡ Some u) same (ok.mark_ok.held.1 refl) in
+              let was : table_entry σ.names s.keys t ≡ Some u = subst (λ z. table_entry σ.names s.keys z ≡ Some u) same (ok.mark_ok.held.1 refl) in
               inl (In_the_table u was (sym (σ.laws.carried_body u v carries.0) ∙ new.1))
         ]
     whole_comes cs w h r false ps reply (Whole_free ks w' far) ok st = inl (stood_same s.keys _ (far_same σ (around at (insert s.conns c (conn_in Idle false [] ps))) s.keys (Del ks) far) st)

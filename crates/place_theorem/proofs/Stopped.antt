@@ -6,9 +6,9 @@ use Rattle.store_model.specs.Keys.{Keys}
 use Rattle.store_model.specs.Store.{gone_of}
 use Rattle.store_laws.proofs.Maps.{get-insert_same}
 use Rattle.place_model.specs.Counts.{copy_count, copy_weight, direct_pushes, end_weight, hand_weight, in_held, loss_weight, over_clients, place_count, push_weight, start_count, table_count, total}
-use Rattle.place_model.specs.Histories.{Client, History, IsHistoryPrefix, World, after, and_then, start_from, with_client}
+use Rattle.place_model.specs.Histories.{Client, History, IsHistoryPrefix, SystemState, after, and_then, start_from, with_client}
 use Rattle.queue_keys.specs.Names.{Bytes}
-use Rattle.place_model.specs.PlaceOf.{StopMoves, by_counts, first_place, first_with, if_any, list_place, or_else}
+use Rattle.place_model.specs.PlaceOf.{StopMoves, by_counts, first_place, first_with, if_any, list_place, or_place}
 use Rattle.place_model.specs.Seen.{seen, tag_weight}
 use Rattle.place_model.specs.Starts.{IsSound}
 use Rattle.place_model.specs.declared.history.Entry.TheVariants.{Stop}
@@ -39,16 +39,16 @@ single_or (suc zero) (suc k) = inr (λ p q. refl)
 single_or (suc (suc n)) k = inr (λ p q. refl)
 
 -- the place of a tag in a world that began with these keys
-abbrev pub place_at : Full → Keys → World → Bytes → Place
+abbrev pub place_at : Full → Keys → SystemState → Bytes → Place
 place_at σ m w t = by_counts (start_count σ.names m t + direct_pushes σ.names w t) (copy_count σ.names w t) (first_place σ.names w t)
 
-module _ (σ : Full) (m : Keys) (w : World) (inv : Inv σ (start_count σ.names m) w) (c : ℕ) (cl : Client) (known : get w.clients c ≡ Some cl) (runs_on : cl.stopped ≡ false) where
+module _ (σ : Full) (m : Keys) (w : SystemState) (inv : Inv σ (start_count σ.names m) w) (c : ℕ) (cl : Client) (known : get w.clients c ≡ Some cl) (runs_on : cl.stopped ≡ false) where
   -- the client, stopped
   abbrev pub new : Client
   new = record { seed = cl.seed; calls = cl.calls; stopped = true }
 
   -- the world without its connection
-  abbrev pub after_stop : World
+  abbrev pub after_stop : SystemState
   after_stop = with_client (gone_of w.store c) w c new
 
   hand_before : (t : Bytes) → hand_weight σ.names t c cl ≡ tag_weight t (seen σ.names cl.calls).hand
@@ -69,7 +69,7 @@ module _ (σ : Full) (m : Keys) (w : World) (inv : Inv σ (start_count σ.names 
       let h : first_with (hand_weight σ.names t) (entries (insert w.clients c new)) ≡ first_with (hand_weight σ.names t) (entries w.clients) = again (hand_weight σ.names t) (sym (hand_before t ∙ none)) in
       let l : first_with (loss_weight σ.names t) (entries (insert w.clients c new)) ≡ first_with (loss_weight σ.names t) (entries w.clients) = again (loss_weight σ.names t) (none ∙ sym (loss_before t)) in
       let e : over_clients after_stop (end_weight σ.names t) ≡ over_clients w (end_weight σ.names t) = total_again (end_weight σ.names t) refl in
-      λ i. or_else (λ k. list_place (σ.names.split k)) (first_with (in_held σ.names t) (entries w.store.keys)) (if_any (table_count σ.names w.store.keys t) Unacked (or_else Hand (h i) (if_any (e i) Ended (or_else Lost (l i) Never))))
+      λ i. or_place (λ k. list_place (σ.names.split k)) (first_with (in_held σ.names t) (entries w.store.keys)) (if_any (table_count σ.names w.store.keys t) Unacked (or_place Hand (h i) (if_any (e i) Ended (or_place Lost (l i) Never))))
 
   known_same : (t : Bytes) → start_count σ.names m t + direct_pushes σ.names after_stop t ≡ start_count σ.names m t + direct_pushes σ.names w t
   known_same t = ap (λ n. start_count σ.names m t + n) (total_again (push_weight σ.names t) refl)
@@ -108,8 +108,8 @@ module _ (σ : Full) (m : Keys) (w : World) (inv : Inv σ (start_count σ.names 
 
     before : first_place σ.names w t ≡ Hand c
     before =
-        (λ i. or_else (λ k. list_place (σ.names.split k)) (first_none (in_held σ.names t) (entries w.store.keys) no_list i) (if_any (table_count σ.names w.store.keys t) Unacked
-        (or_else Hand (first_only nat_cmp nat_cmp_total nat_cmp-IsAntisymmetric (hand_weight σ.names t) w.clients c cl known (hand_before t ∙ held) one_hand i) (if_any (over_clients w (end_weight σ.names t)) Ended (or_else Lost (first_with (loss_weight σ.names t) (entries w.clients)) Never)))))
+        (λ i. or_place (λ k. list_place (σ.names.split k)) (first_none (in_held σ.names t) (entries w.store.keys) no_list i) (if_any (table_count σ.names w.store.keys t) Unacked
+        (or_place Hand (first_only nat_cmp nat_cmp_total nat_cmp-IsAntisymmetric (hand_weight σ.names t) w.clients c cl known (hand_before t ∙ held) one_hand i) (if_any (over_clients w (end_weight σ.names t)) Ended (or_place Lost (first_with (loss_weight σ.names t) (entries w.clients)) Never)))))
         ∙ pick_any (table_count σ.names w.store.keys t) Unacked (Hand c) no_table
 
     hands_then : over_clients after_stop (hand_weight σ.names t) ≡ 0
@@ -123,9 +123,9 @@ module _ (σ : Full) (m : Keys) (w : World) (inv : Inv σ (start_count σ.names 
 
     then_lost : first_place σ.names after_stop t ≡ Lost c
     then_lost =
-        (λ i. or_else (λ k. list_place (σ.names.split k)) (first_none (in_held σ.names t) (entries w.store.keys) no_list i) (if_any (table_count σ.names w.store.keys t) Unacked
-        (or_else Hand (first_none (hand_weight σ.names t) (entries (insert w.clients c new)) hands_then i) (if_any (over_clients after_stop (end_weight σ.names t)) Ended
-        (or_else Lost (first_only nat_cmp nat_cmp_total nat_cmp-IsAntisymmetric (loss_weight σ.names t) (insert w.clients c new) c new (get-insert_same nat_cmp nat_cmp_total nat_cmp-IsAntisymmetric w.clients c new) held losses_then i) Never)))))
+        (λ i. or_place (λ k. list_place (σ.names.split k)) (first_none (in_held σ.names t) (entries w.store.keys) no_list i) (if_any (table_count σ.names w.store.keys t) Unacked
+        (or_place Hand (first_none (hand_weight σ.names t) (entries (insert w.clients c new)) hands_then i) (if_any (over_clients after_stop (end_weight σ.names t)) Ended
+        (or_place Lost (first_only nat_cmp nat_cmp_total nat_cmp-IsAntisymmetric (loss_weight σ.names t) (insert w.clients c new) c new (get-insert_same nat_cmp nat_cmp_total nat_cmp-IsAntisymmetric w.clients c new) held losses_then i) Never)))))
         ∙ pick_any (table_count σ.names w.store.keys t) Unacked _ no_table
         ∙ pick_any (over_clients after_stop (end_weight σ.names t)) Ended (Lost c) ends_then
 

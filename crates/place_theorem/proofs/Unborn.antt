@@ -24,8 +24,8 @@ use Rattle.command_blocks.specs.Calls.{Call}
 use Rattle.command_blocks.specs.Setting.{is_queue}
 use Rattle.command_blocks.specs.declared.block.Side.{Side}
 use Rattle.command_blocks.specs.declared.block.Side.TheVariants.{Left, Right}
-use Rattle.place_model.specs.Counts.{IsAccepted, copy_count, copy_one, copy_weight, count, direct_pushes, entry_at, field_of, in_held, in_value, is_field, list_count, one_if_more, place_count, push_weight, start_count, sum_of, table_count, tagged, total}
-use Rattle.place_model.specs.Histories.{AllMayCome, Client, History, IsHistoryPrefix, MayCome, World, after, after_entries, and_then, next, start_from}
+use Rattle.place_model.specs.Counts.{IsAccepted, copy_count, copy_one, copy_weight, count, direct_pushes, table_entry, field_of, in_held, in_value, is_field, list_count, one_if_more, place_count, push_weight, start_count, sum_of, table_count, tagged, total}
+use Rattle.place_model.specs.Histories.{AllMayCome, Client, History, IsHistoryPrefix, MayCome, SystemState, after, after_entries, and_then, next, start_from}
 use Rattle.place_model.specs.Identity.{HasEnvelope, In_a_list, In_the_table, IsPublished, IsPush, PushedIn}
 use Rattle.place_model.specs.Returns.{push_command, push_commands, take_out}
 use Rattle.place_model.specs.Seen.{Seen, nothing_seen, push_by, push_weight_at, push_with, queued_pushes, ran_by, ran_with, seen, seen_by, seen_from, tag_list, tag_weight}
@@ -78,16 +78,16 @@ whole_pushes σ t cs w h r (Whole_free ks w' far) none = refl
 -- ---- one call
 
 -- what isn't in the table is copied by no call
-module _ (σ : Full) (base : Bytes → ℕ) (w : World) (inv : Inv σ base w) (c : ℕ) (x : Call) (cl : Client) (to : Cursor) (known : get w.clients c ≡ Some cl) (runs_on : cl.stopped ≡ false) (right : x.answer ≡ (serve x.at (ready w x.at c).store c (command_of x.words) (conn (ready w x.at c).store.conns c)).1) (runs : Runs σ Idle (cl.calls ++ x ∷ []) to) (t : Bytes) (absent : is_field σ.names w.store.keys t ≡ false) where
+module _ (σ : Full) (base : Bytes → ℕ) (w : SystemState) (inv : Inv σ base w) (c : ℕ) (x : Call) (cl : Client) (to : Cursor) (known : get w.clients c ≡ Some cl) (runs_on : cl.stopped ≡ false) (right : x.answer ≡ (serve x.at (ready w x.at c).store c (command_of x.words) (conn (ready w x.at c).store.conns c)).1) (runs : Runs σ Idle (cl.calls ++ x ∷ []) to) (t : Bytes) (absent : is_field σ.names w.store.keys t ≡ false) where
   abbrev s : State
   s = (ready w x.at c).store
 
   abbrev sn : Seen
   sn = seen σ.names cl.calls
 
-  not_there : (u : Bytes) → entry_at σ.names s.keys t ≡ Some u → ⊥
+  not_there : (u : Bytes) → table_entry σ.names s.keys t ≡ Some u → ⊥
   not_there u e =
-      let here : entry_at σ.names w.store.keys t ≡ Some u = sym (ap (λ o. field_of (value_of o) t) (unacked_kept σ w.store.keys x.at inv.kinds)) ∙ sym (ap (λ k. entry_at σ.names k t) (ready_keys w x.at c)) ∙ e in
+      let here : table_entry σ.names w.store.keys t ≡ Some u = sym (ap (λ o. field_of (value_of o) t) (unacked_kept σ w.store.keys x.at inv.kinds)) ∙ sym (ap (λ k. table_entry σ.names k t) (ready_keys w x.at c)) ∙ e in
       let there : is_field σ.names w.store.keys t ≡ true = ap is_some here in
       cc (there, absent)
 
@@ -122,7 +122,7 @@ module _ (σ : Full) (base : Bytes → ℕ) (w : World) (inv : Inv σ base w) (c
 -- ---- each entry
 
 -- what wasn't accepted isn't copied
-abbrev pub Unborn : Full → (Bytes → ℕ) → World → Type 0
+abbrev pub Unborn : Full → (Bytes → ℕ) → SystemState → Type 0
 Unborn σ base w = (t : Bytes) → base t + direct_pushes σ.names w t ≡ 0 → copy_count σ.names w t ≡ 0
 
 -- what has no place isn't in the table
@@ -133,7 +133,7 @@ out_of_table σ m t alike none = go (is_field σ.names m t) refl
     go false i = i
     go true i = let z : 1 ≡ 0 = sym (table_is σ m alike t ∙ ap (λ b. cond b 1 0) i) ∙ none in absurd (omega (arith, z))
 
-module _ (σ : Full) (base : Bytes → ℕ) (w : World) (inv : Inv σ base w) (unborn : Unborn σ base w) (c : ℕ) (cl : Client) (is : get w.clients c ≡ Some cl) (runs_on : cl.stopped ≡ false) where
+module _ (σ : Full) (base : Bytes → ℕ) (w : SystemState) (inv : Inv σ base w) (unborn : Unborn σ base w) (c : ℕ) (cl : Client) (is : get w.clients c ≡ Some cl) (runs_on : cl.stopped ≡ false) where
   called : (N : Type 0) (at : ℕ) (words : Words) (reply : Reply) (to : Cursor) → reply ≡ (apply_of w.store at c words).1 → Runs σ Idle (cl.calls ++ call_in at words reply ∷ []) to → Unborn σ base (next {N = N} w (Called c at words reply))
   called N at words reply to right runs t none =
       let x : Call = call_in at words reply in
@@ -166,14 +166,14 @@ module _ (σ : Full) (base : Bytes → ℕ) (w : World) (inv : Inv σ base w) (u
       let after' : total (copy_weight σ.names t) (entries (insert w.clients c stop)) ≡ 0 = omega (arith, y, uncopied) in
       ap (λ z. copy_count σ.names z t) now ∙ after'
 
-one_unborn : {N : Type 0} (σ : Full) (base : Bytes → ℕ) (w : World) (e : Entry N) (rest : List (Entry N)) → Inv σ base w → Unborn σ base w → MayCome w e → AllMannered σ (after_entries (next w e) rest) → Unborn σ base (next w e)
+one_unborn : {N : Type 0} (σ : Full) (base : Bytes → ℕ) (w : SystemState) (e : Entry N) (rest : List (Entry N)) → Inv σ base w → Unborn σ base w → MayCome w e → AllMannered σ (after_entries (next w e) rest) → Unborn σ base (next w e)
 one_unborn {N = N} σ base w (Stop c) rest inv unborn may all = halted σ base w inv unborn c may.0 may.1 may.2 N
 one_unborn σ base w (Heard c note) rest inv unborn may all = subst (Unborn σ base) (sym (next_heard w c note)) unborn
 one_unborn {N = N} σ base w (Called c at words reply) rest inv unborn may all =
     let r = runs_to σ w c at words reply rest may.0 may.1 all in
     called σ base w inv unborn c may.0 may.1 may.2 N at words reply r.0 may.3 r.1
 
-unborn_after : {N : Type 0} (σ : Full) (base : Bytes → ℕ) (w : World) (p rest : List (Entry N)) → Inv σ base w → Unborn σ base w → AllMayCome w (p ++ rest) → AllMannered σ (after_entries w (p ++ rest)) → Unborn σ base (after_entries w p)
+unborn_after : {N : Type 0} (σ : Full) (base : Bytes → ℕ) (w : SystemState) (p rest : List (Entry N)) → Inv σ base w → Unborn σ base w → AllMayCome w (p ++ rest) → AllMannered σ (after_entries w (p ++ rest)) → Unborn σ base (after_entries w p)
 unborn_after σ base w [] rest inv unborn legal all = unborn
 unborn_after σ base w (e ∷ p) rest inv unborn legal all = unborn_after σ base (next w e) p rest (one_entry σ base w e (p ++ rest) inv legal.0 all) (one_unborn σ base w e (p ++ rest) inv unborn legal.0 all) legal.1 all
 
@@ -223,7 +223,7 @@ tagged_none σ t (x ∷ xs) none = let a = go (σ.names.tag_of x) refl in let r 
 
 -- no list has it, and no field
 pub nothing_stored : (σ : Full) (m : Keys) (t : Bytes) → ((b : Bytes) → HasEnvelope σ.names m t b → ⊥) → (list_count σ.names m t ≡ 0) × (is_field σ.names m t ≡ false)
-nothing_stored σ m t none = (total_zero bytes_cmp bytes_total bytes_anti (in_held σ.names t) m lists, field (entry_at σ.names m t) refl)
+nothing_stored σ m t none = (total_zero bytes_cmp bytes_total bytes_anti (in_held σ.names t) m lists, field (table_entry σ.names m t) refl)
   where
     lists : (k : Bytes) → weight (in_held σ.names t) k (get m k) ≡ 0
     lists k = go (is_queue σ.names k) refl
@@ -236,7 +236,7 @@ nothing_stored σ m t none = (total_zero bytes_cmp bytes_total bytes_anti (in_he
         go false i = aside (get m k) i
         go true i = queue_weight σ t k (get m k) i ∙ tagged_none σ t (elements_at m k) (λ v am tag. none (σ.names.body_of v) (In_a_list k v i am tag refl))
 
-    field : (o : Option Bytes) → entry_at σ.names m t ≡ o → is_field σ.names m t ≡ false
+    field : (o : Option Bytes) → table_entry σ.names m t ≡ o → is_field σ.names m t ≡ false
     field None i = ap is_some i
     field (Some u) i = absurd (none (σ.names.body_in u) (In_the_table u i refl))
 
@@ -270,7 +270,7 @@ unfolding seen
 calls_unpushed σ t l none = seen_unpushed σ t l nothing_seen none
 
 -- no direct push has the tag
-pub nothing_pushed : (σ : Full) (w : World) (t : Bytes) → ((b : Bytes) → IsPublished σ.names w t b → ⊥) → direct_pushes σ.names w t ≡ 0
+pub nothing_pushed : (σ : Full) (w : SystemState) (t : Bytes) → ((b : Bytes) → IsPublished σ.names w t b → ⊥) → direct_pushes σ.names w t ≡ 0
 nothing_pushed σ w t none = total_zero nat_cmp nat_cmp_total nat_cmp-IsAntisymmetric (push_weight σ.names t) w.clients (λ c. go c (get w.clients c) refl)
   where
     go : (c : ℕ) (o : Option Client) → get w.clients c ≡ o → weight (push_weight σ.names t) c o ≡ 0

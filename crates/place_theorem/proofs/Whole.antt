@@ -13,7 +13,7 @@ use Rattle.store_laws.proofs.Maps.{conn_or, get-insert_other, get-insert_same, t
 use Rattle.command_blocks.specs.Blocks.{IsMannered}
 use Rattle.command_blocks.specs.Calls.{Call, IsPrefixOf, call}
 use Rattle.place_model.specs.Counts.{count, end_one, end_weight, hand_weight, loss_weight, push_weight, sum_of, total}
-use Rattle.place_model.specs.Histories.{AllMayCome, Client, MayCome, World, after_entries, conn_of, next, next_of, start_from, table, with_client}
+use Rattle.place_model.specs.Histories.{AllMayCome, Client, MayCome, SystemState, after_entries, conn_of, next, next_of, start_from, table, with_client}
 use Rattle.queue_keys.specs.Names.{Bytes}
 use Rattle.place_model.specs.Seen.{nothing_seen, seen, tag_weight}
 use Rattle.place_model.specs.declared.history.Entry.{Entry}
@@ -95,11 +95,11 @@ prefix_trans : {A : Type 0} (xs ys zs : List A) → IsPrefixOf xs ys → IsPrefi
 prefix_trans xs ys zs p q = (p.0 ++ q.0, sym (append_assoc xs p.0 q.0) ∙ ap (λ w. w ++ q.0) p.1 ∙ q.1)
 
 -- the client's calls begin with these
-abbrev pub Grown : World → ℕ → List Call → Type 0
+abbrev pub Grown : SystemState → ℕ → List Call → Type 0
 Grown w c l = (cl : Client) × (get w.clients c ≡ Some cl) × IsPrefixOf l cl.calls
 
 -- one entry
-pub grows_one : {N : Type 0} (w : World) (e : Entry N) (c : ℕ) (l : List Call) → Grown w c l → Grown (next w e) c l
+pub grows_one : {N : Type 0} (w : SystemState) (e : Entry N) (c : ℕ) (l : List Call) → Grown w c l → Grown (next w e) c l
 unfolding next
 grows_one {N = N} w e c l g = go (get w.clients (conn_of e)) refl
   where
@@ -125,14 +125,14 @@ grows_one {N = N} w e c l g = go (get w.clients (conn_of e)) refl
     go o is = by e o is
 
 -- and so they do after further entries
-pub grows : {N : Type 0} (w : World) (es : List (Entry N)) (c : ℕ) (l : List Call) → Grown w c l → Grown (after_entries w es) c l
+pub grows : {N : Type 0} (w : SystemState) (es : List (Entry N)) (c : ℕ) (l : List Call) → Grown w c l → Grown (after_entries w es) c l
 grows w [] c l g = g
 grows w (e ∷ es) c l g = grows (next w e) es c l (grows_one w e c l g)
 
 -- ---- one entry, and then all
 
 -- each client keeps its manner
-abbrev pub AllMannered : Full → World → Type 0
+abbrev pub AllMannered : Full → SystemState → Type 0
 AllMannered σ w = (c : ℕ) (cl : Client) → get w.clients c ≡ Some cl → IsMannered σ.names cl.seed cl.calls
 
 -- the call of an entry
@@ -140,12 +140,12 @@ abbrev pub call_in : ℕ → Words → Reply → Call
 call_in at words reply = call at words reply.answer
 
 -- the world after a call
-pub next_called : (N : Type 0) (w : World) (c at : ℕ) (words : Words) (reply : Reply) (cl : Client) → get w.clients c ≡ Some cl → next {N = N} w (Called c at words reply) ≡ with_client (apply_of w.store at c words).0 w c (record cl { calls = cl.calls ++ call_in at words reply ∷ [] })
+pub next_called : (N : Type 0) (w : SystemState) (c at : ℕ) (words : Words) (reply : Reply) (cl : Client) → get w.clients c ≡ Some cl → next {N = N} w (Called c at words reply) ≡ with_client (apply_of w.store at c words).0 w c (record cl { calls = cl.calls ++ call_in at words reply ∷ [] })
 unfolding next
 next_called N w c at words reply cl known = ap (next_of {N = N} w (Called c at words reply)) known
 
 -- a note changes nothing
-pub next_heard : {N : Type 0} (w : World) (c : ℕ) (note : N) → next w (Heard c note) ≡ w
+pub next_heard : {N : Type 0} (w : SystemState) (c : ℕ) (note : N) → next w (Heard c note) ≡ w
 unfolding next
 next_heard w c note = go (get w.clients c)
   where
@@ -154,7 +154,7 @@ next_heard w c note = go (get w.clients c)
     go (Some cl) = refl
 
 -- the calls of a client up to one that it makes
-pub runs_to : {N : Type 0} (σ : Full) (w : World) (c at : ℕ) (words : Words) (reply : Reply) (rest : List (Entry N)) (cl : Client) → get w.clients c ≡ Some cl → AllMannered σ (after_entries (next {N = N} w (Called c at words reply)) rest) → (to : Cursor) × Runs σ Idle (cl.calls ++ call_in at words reply ∷ []) to
+pub runs_to : {N : Type 0} (σ : Full) (w : SystemState) (c at : ℕ) (words : Words) (reply : Reply) (rest : List (Entry N)) (cl : Client) → get w.clients c ≡ Some cl → AllMannered σ (after_entries (next {N = N} w (Called c at words reply)) rest) → (to : Cursor) × Runs σ Idle (cl.calls ++ call_in at words reply ∷ []) to
 runs_to {N = N} σ w c at words reply rest cl known all =
     let x : Call = call_in at words reply in
     let new : Client = record cl { calls = cl.calls ++ x ∷ [] } in
@@ -168,24 +168,24 @@ runs_to {N = N} σ w c at words reply rest cl known all =
     (p.0, p.1)
 
 -- the same of a call after a prefix
-pub called_runs : {N : Type 0} (σ : Full) (w : World) (p : List (Entry N)) (c at : ℕ) (words : Words) (reply : Reply) (rest : List (Entry N)) (cl : Client) → get (after_entries w p).clients c ≡ Some cl → AllMannered σ (after_entries w (p ++ Called c at words reply ∷ rest)) → (to : Cursor) × Runs σ Idle (cl.calls ++ call_in at words reply ∷ []) to
+pub called_runs : {N : Type 0} (σ : Full) (w : SystemState) (p : List (Entry N)) (c at : ℕ) (words : Words) (reply : Reply) (rest : List (Entry N)) (cl : Client) → get (after_entries w p).clients c ≡ Some cl → AllMannered σ (after_entries w (p ++ Called c at words reply ∷ rest)) → (to : Cursor) × Runs σ Idle (cl.calls ++ call_in at words reply ∷ []) to
 called_runs σ w [] c at words reply rest cl known all = runs_to σ w c at words reply rest cl known all
 called_runs σ w (e ∷ p) c at words reply rest cl known all = called_runs σ (next w e) p c at words reply rest cl known all
 
 -- the world in which a call is served: what is due is dropped, and the pending messages were told
-abbrev pub ready : World → ℕ → ℕ → World
+abbrev pub ready : SystemState → ℕ → ℕ → SystemState
 ready w at c = hush (settle w at) c
 
 -- the invariant holds there
-pub inv_ready : (σ : Full) (base : Bytes → ℕ) (w : World) (at c : ℕ) → Inv σ base w → Inv σ base (ready w at c)
+pub inv_ready : (σ : Full) (base : Bytes → ℕ) (w : SystemState) (at c : ℕ) → Inv σ base w → Inv σ base (ready w at c)
 inv_ready σ base w at c inv = inv_hushed σ base (settle w at) c (inv_settled σ base w at inv)
 
 -- the reply is what is served there
-pub served : (w : World) (c at : ℕ) (words : Words) (reply : Reply) → reply ≡ (apply_of w.store at c words).1 → reply.answer ≡ (serve at (ready w at c).store c (command_of words) (conn (ready w at c).store.conns c)).1
+pub served : (w : SystemState) (c at : ℕ) (words : Words) (reply : Reply) → reply ≡ (apply_of w.store at c words).1 → reply.answer ≡ (serve at (ready w at c).store c (command_of words) (conn (ready w at c).store.conns c)).1
 served w c at words reply right = ap (λ r. r.answer) right ∙ answer_is at (settled w.store at) c words
 
 -- each entry keeps the invariant
-pub one_entry : {N : Type 0} (σ : Full) (base : Bytes → ℕ) (w : World) (e : Entry N) (rest : List (Entry N)) → Inv σ base w → MayCome w e → AllMannered σ (after_entries (next w e) rest) → Inv σ base (next w e)
+pub one_entry : {N : Type 0} (σ : Full) (base : Bytes → ℕ) (w : SystemState) (e : Entry N) (rest : List (Entry N)) → Inv σ base w → MayCome w e → AllMannered σ (after_entries (next w e) rest) → Inv σ base (next w e)
 one_entry {N = N} σ base w (Stop c) rest inv may all = subst (Inv σ base) (sym (stopped_is σ base w inv c may.0 may.1 may.2 N)) (stopped σ base w inv c may.0 may.1 may.2)
 one_entry σ base w (Heard c note) rest inv may all = subst (Inv σ base) (sym (next_heard w c note)) inv
 one_entry {N = N} σ base w (Called c at words reply) rest inv may all =
@@ -196,17 +196,17 @@ one_entry {N = N} σ base w (Called c at words reply) rest inv may all =
     subst (Inv σ base) (sym (next_called N w c at words reply may.0 may.1)) (subst (λ s. Inv σ base (with_client s w c new)) (sym (state_is at (settled w.store at) c words)) now)
 
 -- and so do entries in a row
-pub inv_after : {N : Type 0} (σ : Full) (base : Bytes → ℕ) (w : World) (p rest : List (Entry N)) → Inv σ base w → AllMayCome w (p ++ rest) → AllMannered σ (after_entries w (p ++ rest)) → Inv σ base (after_entries w p)
+pub inv_after : {N : Type 0} (σ : Full) (base : Bytes → ℕ) (w : SystemState) (p rest : List (Entry N)) → Inv σ base w → AllMayCome w (p ++ rest) → AllMannered σ (after_entries w (p ++ rest)) → Inv σ base (after_entries w p)
 inv_after σ base w [] rest inv legal all = inv
 inv_after σ base w (e ∷ p) rest inv legal all = inv_after σ base (next w e) p rest (one_entry σ base w e (p ++ rest) inv legal.0 all) legal.1 all
 
 -- what follows a prefix is legal after it
-pub legal_part : {N : Type 0} (w : World) (p rest : List (Entry N)) → AllMayCome w (p ++ rest) → AllMayCome (after_entries w p) rest
+pub legal_part : {N : Type 0} (w : SystemState) (p rest : List (Entry N)) → AllMayCome w (p ++ rest) → AllMayCome (after_entries w p) rest
 legal_part w [] rest h = h
 legal_part w (e ∷ p) rest h = legal_part (next w e) p rest h.1
 
 -- its keys are those that are live
-pub ready_keys : (w : World) (at c : ℕ) → (ready w at c).store.keys ≡ live_at at w.store.keys
+pub ready_keys : (w : SystemState) (at c : ℕ) → (ready w at c).store.keys ≡ live_at at w.store.keys
 ready_keys w at c = go (conn (settled w.store at).conns c).pending
   where
     go : (ms : List Value) → (quiet (settled w.store at) c (conn (settled w.store at).conns c) ms).keys ≡ live_at at w.store.keys

@@ -8,7 +8,7 @@ use Rattle.std.proofs.lemmas.Bool.Decides.{Decides-eqb}
 use Rattle.std.proofs.lemmas.List.{reverse-append}
 use Rattle.std.proofs.lemmas.Slice.Eq.{starts_is, ends_is}
 use Rattle.queue_keys.specs.Names.{Bytes, same, has_front, has_end, is_free, all_free, is_reserved, is_name}
-use Rattle.queue_keys.specs.NameFaults.{parting_place, byte_fault, name_fault, told}
+use Rattle.queue_keys.specs.NameFaults.{parting_place, byte_fault, name_fault, told_fault}
 use Rattle.queue_keys.specs.declared.queue_name.NameFault.{NameFault}
 use Rattle.queue_keys.specs.declared.queue_name.NameFault.TheVariants.{Empty, Long, Byte, Reserved}
 use Rattle.queue_keys.proofs.Basics.{eqb_true, false_true, has_front-front}
@@ -88,20 +88,20 @@ unfolding name_fault same
 lawful_none [] = refl
 lawful_none (b ∷ bs) = by_place (b ∷ bs) (is_reserved (b ∷ bs)) (all_free (b ∷ bs)) (nat_lt (length bs) 255) (parting_place (b ∷ bs)) refl (free_none (b ∷ bs))
 
-by_byte : (q : Bytes) (p : Option ℕ) (f : NameFault) → byte_fault q p ≡ Some f → byte_fault q p ≡ told f
+by_byte : (q : Bytes) (p : Option ℕ) (f : NameFault) → byte_fault q p ≡ Some f → byte_fault q p ≡ told_fault f
 by_byte q None f e = go (is_reserved q) refl e
   where
-    go : (r : Bool) → is_reserved q ≡ r → (if r then Some Reserved else None) ≡ Some f → (if is_reserved q then Some Reserved else None) ≡ told f
-    go true i e = let g : Reserved ≡ f = cc in rw i (ap told g)
+    go : (r : Bool) → is_reserved q ≡ r → (if r then Some Reserved else None) ≡ Some f → (if is_reserved q then Some Reserved else None) ≡ told_fault f
+    go true i e = let g : Reserved ≡ f = cc in rw i (ap told_fault g)
     go false i e = cc
-by_byte q (Some k) f e = let g : Byte k ≡ f = cc in ap told g
+by_byte q (Some k) f e = let g : Byte k ≡ f = cc in ap told_fault g
 
 -- a text's fault is one that an answer tells
-pub fault_told : (q : Bytes) (f : NameFault) → name_fault q ≡ Some f → name_fault q ≡ told f
+pub fault_told : (q : Bytes) (f : NameFault) → name_fault q ≡ Some f → name_fault q ≡ told_fault f
 unfolding name_fault
-fault_told [] f e = let g : Empty ≡ f = cc in ap told g
+fault_told [] f e = let g : Empty ≡ f = cc in ap told_fault g
 fault_told (b ∷ bs) f e = go (nat_lt (length bs) 255) e
   where
-    go : (n : Bool) → (if n then byte_fault (b ∷ bs) (parting_place (b ∷ bs)) else Some Long) ≡ Some f → (if n then byte_fault (b ∷ bs) (parting_place (b ∷ bs)) else Some Long) ≡ told f
+    go : (n : Bool) → (if n then byte_fault (b ∷ bs) (parting_place (b ∷ bs)) else Some Long) ≡ Some f → (if n then byte_fault (b ∷ bs) (parting_place (b ∷ bs)) else Some Long) ≡ told_fault f
     go true e = by_byte (b ∷ bs) (parting_place (b ∷ bs)) f e
-    go false e = let g : Long ≡ f = cc in ap told g
+    go false e = let g : Long ≡ f = cc in ap told_fault g

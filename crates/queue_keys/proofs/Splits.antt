@@ -2,20 +2,20 @@
 use Rattle.std.proofs.Common.{◌≡◌, inl, inr, ℕ, zero, suc, ◌+◌, List, [], ◌∷◌, ◌++◌, Bool, true, false, not, ◌&&◌, ◌==◌, if◌then◌else◌, refl, sym, ap, subst, ◌∙◌, arith, None, Some, Option, is_some, option_and_then, unwrap_or}
 use Rattle.queue_keys.specs.Names.{Bytes, same, all_free, is_free, has_length, is_reserved, is_name}
 use Rattle.queue_keys.specs.Layouts.{Layout, HasStep}
-use Rattle.queue_keys.specs.QueueKeys.{step_mark, queue_key, rest_after, name_part, mark_part, marked_step, if_name, split_rest, split_key, is_queue_key}
+use Rattle.queue_keys.specs.QueueKeys.{step_mark, queue_key, after_front, name_part, mark_part, marked_step, if_name, split_rest, split_key, is_queue_key}
 use Rattle.queue_keys.proofs.Basics.{same-refl, same_true, and_true, not_true, eqb-refl, eqb_true, none_some, false_true}
 
 -- ---- fronts
 
-pub rest_after-front : (p k : Bytes) → rest_after p (p ++ k) ≡ Some k
+pub rest_after-front : (p k : Bytes) → after_front p (p ++ k) ≡ Some k
 rest_after-front [] k = refl
 rest_after-front (x ∷ p) k = rw (eqb-refl x) (rest_after-front p k)
 
-pub rest_after_is : (p k r : Bytes) → rest_after p k ≡ Some r → k ≡ p ++ r
+pub rest_after_is : (p k r : Bytes) → after_front p k ≡ Some r → k ≡ p ++ r
 rest_after_is [] k r e = cc
 rest_after_is (x ∷ p) [] r e = none_some _ r e
 rest_after_is (x ∷ p) (b ∷ bs) r e =
-    elim (x == b) as (λ t. (x == b) ≡ t → (if t then rest_after p bs else None) ≡ Some r → b ∷ bs ≡ x ∷ p ++ r) [
+    elim (x == b) as (λ t. (x == b) ≡ t → (if t then after_front p bs else None) ≡ Some r → b ∷ bs ≡ x ∷ p ++ r) [
       | true ↦ λ t f. let s : x ≡ b = eqb_true x b t in let i : bs ≡ p ++ r = rest_after_is p bs r f in cc
       | false ↦ λ t f. none_some _ r f
     ] refl e
@@ -111,9 +111,9 @@ key_of_rest ss r q s e = go (marked_step ss (mark_part r)) refl e
 -- and only such a key is taken apart
 pub key_of_split : (l : Layout) (k q : Bytes) (s : ℕ) → split_key l k ≡ Some (q, s) → (is_name q ≡ true) × HasStep l.steps s × (k ≡ queue_key l q s)
 unfolding split_key
-key_of_split l k q s e = go (rest_after l.prefix k) refl e
+key_of_split l k q s e = go (after_front l.prefix k) refl e
   where
-    go : (o : Option Bytes) → rest_after l.prefix k ≡ o → option_and_then (split_rest l.steps) o ≡ Some (q, s) → (is_name q ≡ true) × HasStep l.steps s × (k ≡ queue_key l q s)
+    go : (o : Option Bytes) → after_front l.prefix k ≡ o → option_and_then (split_rest l.steps) o ≡ Some (q, s) → (is_name q ≡ true) × HasStep l.steps s × (k ≡ queue_key l q s)
     go None i f = none_some _ _ f
     go (Some r) i f = let h = key_of_rest l.steps r q s f in (h.0, h.1, rest_after_is l.prefix k r i ∙ ap (λ x. l.prefix ++ x) h.2)
 

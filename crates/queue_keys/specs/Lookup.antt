@@ -18,14 +18,14 @@ insert_once q [] = q ∷ []
 insert_once q (x ∷ xs) = match_ordering (bytes_cmp q x) (q ∷ x ∷ xs) (x ∷ xs) (x ∷ insert_once q xs)
 
 -- the queues with that of the binding, where the routing key goes to it
-abbrev pub with_queue : Bytes → Option Binding → List Bytes → List Bytes
-with_queue r None qs = qs
-with_queue r (Some b) qs = if binds r b then insert_once b.queue qs else qs
+abbrev pub with_bound_queue : Bytes → Option Binding → List Bytes → List Bytes
+with_bound_queue r None qs = qs
+with_bound_queue r (Some b) qs = if binds r b then insert_once b.queue qs else qs
 
 -- the queues of the members that the routing key goes to, distinct, in byte order
 abbrev pub lookup : Bytes → List Bytes → List Bytes
 lookup r [] = []
-lookup r (m ∷ ms) = with_queue r (binding_of m) (lookup r ms)
+lookup r (m ∷ ms) = with_bound_queue r (binding_of m) (lookup r ms)
 
 -- the queues of an exchange's message; with the empty exchange the one queue is the routing key, where it is a lawful name
 abbrev pub queues_for : Bytes → Bytes → List Bytes → List Bytes

@@ -19,9 +19,9 @@ name_fault [] = Some Empty
 name_fault (b ∷ bs) = if nat_lt (length bs) 255 then byte_fault (b ∷ bs) (parting_place (b ∷ bs)) else Some Long
 
 -- the fault that an answer tells: want of memory tells none
-abbrev pub told : NameFault → Option NameFault
-told Empty = Some Empty
-told Long = Some Long
-told (Byte i) = Some (Byte i)
-told Reserved = Some Reserved
-told Memory = None
+abbrev pub told_fault : NameFault → Option NameFault
+told_fault Empty = Some Empty
+told_fault Long = Some Long
+told_fault (Byte i) = Some (Byte i)
+told_fault Reserved = Some Reserved
+told_fault Memory = None

@@ -33,10 +33,10 @@ abbrev pub binding_key : Layout → Bytes → Bytes
 binding_key l e = key l (binding_front ++ e)
 
 -- what follows a front, where the text begins with it
-abbrev pub rest_after : Bytes → Bytes → Option Bytes
-rest_after [] k = Some k
-rest_after (p ∷ ps) [] = None
-rest_after (p ∷ ps) (b ∷ bs) = if p == b then rest_after ps bs else None
+abbrev pub after_front : Bytes → Bytes → Option Bytes
+after_front [] k = Some k
+after_front (p ∷ ps) [] = None
+after_front (p ∷ ps) (b ∷ bs) = if p == b then after_front ps bs else None
 
 -- the bytes before the first 06 (hexadecimal)
 abbrev pub name_part : Bytes → Bytes
@@ -63,7 +63,7 @@ split_rest ss r = option_and_then (if_name (name_part r)) (marked_step ss (mark_
 
 -- the queue and the step whose key it is, if it is one
 unfoldable pub split_key : Layout → Bytes → Option (Bytes × ℕ)
-split_key l k = option_and_then (split_rest l.steps) (rest_after l.prefix k)
+split_key l k = option_and_then (split_rest l.steps) (after_front l.prefix k)
 
 -- whether it is the key of a queue at a step
 abbrev pub is_queue_key : Layout → Bytes → Bool
@@ -76,7 +76,7 @@ ends_as_reply (Some r) = has_end reply_end r
 
 -- whether it is the key of a list of control replies
 abbrev pub is_reply_key : Layout → Bytes → Bool
-is_reply_key l k = ends_as_reply (rest_after l.prefix k)
+is_reply_key l k = ends_as_reply (after_front l.prefix k)
 
 -- the keys of some queues at one step
 abbrev pub keys_at : Layout → ℕ → List Bytes → List Bytes

@@ -1,7 +1,7 @@
 //! The names of queues.
 ghost use Rattle.std.specs.Prelude.{◌≡◌, true, IfOk, IfErr, None, is_none, position, not, ◌||◌};
 ghost use Rattle.queue_keys.specs.Names.{has_end, has_front, index_name, is_free, is_name, is_reserved, mutex_name, same, unacked_name};
-ghost use Rattle.queue_keys.specs.NameFaults.{name_fault, told};
+ghost use Rattle.queue_keys.specs.NameFaults.{name_fault, told_fault};
 
 use std::alloc::{AllocError, Global};
 use std::fmt;
@@ -72,7 +72,7 @@ impl QueueName {
     /// The first fault that holds, in the order of `NameFault`; `Memory` is want of memory.
     pub fn new(alloc: Global, bytes: &[u8]) -> Result<QueueName, NameFault>
         ensures ok { IfOk result (λ q. (q ≡ bytes.now) × (name_fault bytes.now ≡ None)) }
-        ensures err { IfErr result (λ fault. name_fault bytes.now ≡ told fault) }
+        ensures err { IfErr result (λ fault. name_fault bytes.now ≡ told_fault fault) }
         // A text is a lawful name exactly where it has no fault.
         ensures lawful { is_name bytes.now ≡ is_none (name_fault bytes.now) }
     {

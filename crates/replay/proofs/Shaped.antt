@@ -2,7 +2,7 @@
 use Rattle.std.proofs.Common.{◌≡◌, ◌/◌, ◌%◌, ◌^◌, ℕ, Bool, true, false, codes, Option, Some, None, option_map, Result, Ok, Err, refl, sym}
 use Rattle.std.specs.Result.{result_ok}
 use Rattle.serde_json.specs.Data.{Data, null, boolean, number, string, array, object}
-use Rattle.envelope.specs.Entries.{Entry, entry_at, entry_in}
+use Rattle.envelope.specs.Entries.{EntryParts, entry_at, entry_in}
 use Rattle.envelope.specs.Envelopes.{envelope_at, parts_in}
 use Rattle.envelope.specs.Members.{text_at}
 use Rattle.envelope.specs.declared.fault.EnvelopeFault.{EnvelopeFault}
@@ -31,7 +31,7 @@ no_text (string t) s h e = cc
 no_text (array ds) s h e = cc
 no_text (object ms) s h e = cc h
 
-no_items : (d : Data) (f : Entry) → is_tree d false ≡ false → entry_in d ≡ Some f → ⊥
+no_items : (d : Data) (f : EntryParts) → is_tree d false ≡ false → entry_in d ≡ Some f → ⊥
 no_items null f h e = cc
 no_items (boolean b) f h e = cc
 no_items (number n) f h e = cc
@@ -54,7 +54,7 @@ no_envelope w h = go (envelope_at w) refl
 pub no_entry : (w : Bytes) → may_open false w ≡ false → result_ok (entry_at w) ≡ None
 no_entry w h = go (entry_at w) refl
   where
-    go : (r : Result Entry EnvelopeFault) → entry_at w ≡ r → result_ok r ≡ None
+    go : (r : Result EntryParts EnvelopeFault) → entry_at w ≡ r → result_ok r ≡ None
     go (Ok f) e = let k = entry_is_read w f e in absurd (no_items k.value f (misses false w k.value h k.text) k.items)
     go (Err f) e = refl
 
@@ -82,12 +82,12 @@ past_envelope w none = go (envelope_at w) none
     go (Err f) e = refl
 
 -- the shape of an entry
-pub from_entry : (r : Result Entry EnvelopeFault) (t : Option ℕ) (s : Shape) → Some s ≡ option_map (λ e. entry_shape e.tree) (result_ok r) → s ≡ entry_or_tag r t
+pub from_entry : (r : Result EntryParts EnvelopeFault) (t : Option ℕ) (s : Shape) → Some s ≡ option_map (λ e. entry_shape e.tree) (result_ok r) → s ≡ entry_or_tag r t
 from_entry (Ok f) t s e = same_shape s (entry_shape f.tree) e
 from_entry (Err f) t s e = cc
 
 -- and of what is no entry
-pub past_entry : (r : Result Entry EnvelopeFault) (t : Option ℕ) → None ≡ option_map (λ e. entry_shape e.tree) (result_ok r) → tag_shape t ≡ entry_or_tag r t
+pub past_entry : (r : Result EntryParts EnvelopeFault) (t : Option ℕ) → None ≡ option_map (λ e. entry_shape e.tree) (result_ok r) → tag_shape t ≡ entry_or_tag r t
 past_entry (Ok f) t e = cc
 past_entry (Err f) t e = refl
 
@@ -104,7 +104,7 @@ pub letter_envelope : (b : Bytes) (n : ℕ) (m : Bool) → letter_of b ≡ Some 
 unfolding letter_of shape_of
 letter_envelope b n m h = go (envelope_at b) h
   where
-    by_entry : (r : Result Entry EnvelopeFault) → entry_or_none r ≡ Some (letter.Envelope n m) → ⊥
+    by_entry : (r : Result EntryParts EnvelopeFault) → entry_or_none r ≡ Some (letter.Envelope n m) → ⊥
     by_entry (Ok x) i = cc
     by_entry (Err f) i = cc
 
@@ -117,7 +117,7 @@ pub letter_entry : (b : Bytes) (n : ℕ) (m : Bool) → letter_of b ≡ Some (le
 unfolding letter_of shape_of
 letter_entry b n m h = go (envelope_at b) h
   where
-    by_entry : (r : Result Entry EnvelopeFault) → entry_or_none r ≡ Some (letter.Entry n m) → shapes.Entry (n / 2 ^ 64) (n % 2 ^ 64) m ≡ entry_or_tag r (tag_of_text b)
+    by_entry : (r : Result EntryParts EnvelopeFault) → entry_or_none r ≡ Some (letter.Entry n m) → shapes.Entry (n / 2 ^ 64) (n % 2 ^ 64) m ≡ entry_or_tag r (tag_of_text b)
     by_entry (Ok x) i = let s = same_entry x.tree n m i in λ j. shapes.Entry (sym s.0 j / 2 ^ 64) (sym s.0 j % 2 ^ 64) (sym s.1 j)
     by_entry (Err f) i = cc
 

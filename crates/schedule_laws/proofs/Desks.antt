@@ -10,11 +10,11 @@ use Rattle.store_model.specs.declared.reply.Reply.{Reply}
 use Rattle.command_blocks.specs.Setting.{Setting}
 use Rattle.command_blocks.specs.Calls.{call}
 use Rattle.queue_keys.specs.QueueKeys.{Among}
-use Rattle.place_model.specs.Histories.{calls_of, Client, World, after_entries, new_client, start_from, AllMayCome, IsTable, with_client as with_known}
+use Rattle.place_model.specs.Histories.{calls_of, Client, SystemState, after_entries, new_client, start_from, AllMayCome, IsTable, with_client as with_known}
 use Rattle.command_blocks.specs.Scripts.{Script, Over, Off, Say}
 use Rattle.place_model.specs.declared.history.Entry.TheVariants.{Call as Called, Stop}
 use Rattle.schedule_model.specs.Costs.{is_full}
-use Rattle.schedule_model.specs.Desk.{Book, Desk, first_desk, with_book, with_client, Said, with_call, said_one, said_all, with_stop}
+use Rattle.schedule_model.specs.Desk.{Book, ScheduleReader, first_desk, with_book, reader_with_client, Said, with_call, said_one, said_all, with_stop}
 use Rattle.schedule_model.specs.Faults.{has_number, has_seed}
 use Rattle.schedule_laws.specs.Sound.{RisesTo}
 use Rattle.block_laws.proofs.Values.{some_is}
@@ -23,21 +23,21 @@ use Rattle.schedule_laws.proofs.Kept.{IsKept, new_kept, call_kept, gone_kept}
 use Rattle.schedule_laws.proofs.Worlds.{after-append, legal-append, next_called, next_stopped, own_more, foreign_more, rises_later, rises_call, rises_stop, add, after_add, legal_add, no_calls, table_none, table_more, table_with, among_more}
 
 -- the world at the start of a desk's history, and after it
-abbrev pub start : Desk → World
+abbrev pub start : ScheduleReader → SystemState
 start d = start_from empty d.clients
 
-abbrev pub now : Desk → World
+abbrev pub now : ScheduleReader → SystemState
 now d = after_entries (start d) d.entries
 
 -- a client's book: the client is known by the world, and has called what the book says
-pub record IsBookOf (σ : Setting) (d : Desk) (c : ℕ) (b : Book) : Type 0 where
+pub record IsBookOf (σ : Setting) (d : ScheduleReader) (c : ℕ) (b : Book) : Type 0 where
   pub client : Client
   pub known : get (now d).clients c ≡ Some client
   pub stopped : client.stopped ≡ b.stopped
   pub kept : IsKept σ (calls_of c d.entries) b
 
 -- what each line keeps
-pub record Holds (σ : Setting) (d : Desk) : Type 0 where
+pub record Holds (σ : Setting) (d : ScheduleReader) : Type 0 where
   pub table : IsTable d.clients []
   pub present : d.moment < 2 ^ 40
   pub rises : RisesTo 0 d.entries d.moment
@@ -68,7 +68,7 @@ rewritten m c b b' book seed k s old = by (same_or k c) where
   by (inl e) = (b', ap (get (insert m c b')) e ∙ get_same m c b', seed ∙ (ap (λ (x : Book). x.seed) (some_is b old.0 (sym book ∙ (ap (get m) (sym e) ∙ old.1))) ∙ old.2))
   by (inr n) = (old.0, get_other m c b' k n ∙ old.1, old.2)
 
-module _ (σ : Setting) (d : Desk) (h : Holds σ d) (c : ℕ) (b b' : Book) (book : get d.books c ≡ Some b) (seed : b'.seed ≡ b.seed) (stopped : b'.stopped ≡ b.stopped) (kept : IsKept σ (calls_of c d.entries) b') where
+module _ (σ : Setting) (d : ScheduleReader) (h : Holds σ d) (c : ℕ) (b b' : Book) (book : get d.books c ≡ Some b) (seed : b'.seed ≡ b.seed) (stopped : b'.stopped ≡ b.stopped) (kept : IsKept σ (calls_of c d.entries) b') where
   its : (k : ℕ) (x : Book) → (k ≡ c) ⊎ (k ≢ c) → get (insert d.books c b') k ≡ Some x → IsBookOf σ d k x
   its k x (inl e) is =
       let same : b' ≡ x = some_is b' x (sym (get_same d.books c b') ∙ (ap (get (insert d.books c b')) (sym e) ∙ is)) in
@@ -90,14 +90,14 @@ module _ (σ : Setting) (d : Desk) (h : Holds σ d) (c : ℕ) (b b' : Book) (boo
 
 -- ---- a call
 
-module _ (σ : Setting) (d : Desk) (h : Holds σ d) (c : ℕ) (b : Book) (w : ℕ → Words) (go : Value → Script) (book : get d.books c ≡ Some b) (on : b.stopped ≡ false) (says : b.left ≡ Say w go) where
+module _ (σ : Setting) (d : ScheduleReader) (h : Holds σ d) (c : ℕ) (b : Book) (w : ℕ → Words) (go : Value → Script) (book : get d.books c ≡ Some b) (on : b.stopped ≡ false) (says : b.left ≡ Say w go) where
   abbrev r : State × Reply
   r = apply_of d.store d.moment c (w d.moment)
 
   abbrev b' : Book
   b' = record b { left = go r.1.answer }
 
-  abbrev d' : Desk
+  abbrev d' : ScheduleReader
   d' = with_book (with_call d c (w d.moment) r) c b'
 
   mine : IsBookOf σ d c b
@@ -152,7 +152,7 @@ no_room e = absurd (cc e)
 
 module _ (σ : Setting) (c : ℕ) (b : Book) (on : b.stopped ≡ false) where
   -- one call, while the book waits to be written
-  one : (d : Desk) (w : ℕ → Words) (go : Value → Script) → Holds σ (with_book d c (record b { left = Say w go }))
+  one : (d : ScheduleReader) (w : ℕ → Words) (go : Value → Script) → Holds σ (with_book d c (record b { left = Say w go }))
       → let r = apply_of d.store d.moment c (w d.moment) in Holds σ (with_book (with_call d c (w d.moment) r) c (record b { left = go r.1.answer }))
   one d w go h =
       let r = apply_of d.store d.moment c (w d.moment) in
@@ -162,7 +162,7 @@ module _ (σ : Setting) (c : ℕ) (b : Book) (on : b.stopped ≡ false) where
       let e : Holds σ (with_book (with_call (with_book d c b₁) c (w d.moment) r) c b₂) = call_holds σ (with_book d c b₁) h c b₁ w go (get_same d.books c b₁) on refl in
       subst (λ m. Holds σ (record d₁ { books = m })) (insert_twice d.books c b₁ b₂) e
 
-  pub said_one_holds : (p : Script) (d : Desk) → Holds σ (with_book d c (record b { left = p })) → HeardHolds σ c b (said_one d c p)
+  pub said_one_holds : (p : Script) (d : ScheduleReader) → Holds σ (with_book d c (record b { left = p })) → HeardHolds σ c b (said_one d c p)
   said_one_holds Over d h = (h, no_room)
   said_one_holds Off d h = (h, no_room)
   said_one_holds (Say w go) d h = by (is_full d.entries) refl where
@@ -173,7 +173,7 @@ module _ (σ : Setting) (c : ℕ) (b : Book) (on : b.stopped ≡ false) where
     by true is = (h, λ _. is)
     by false is = (one d w go h, no_room)
 
-  pub said_all_holds : (p : Script) (d : Desk) → Holds σ (with_book d c (record b { left = p })) → HeardHolds σ c b (said_all d c p)
+  pub said_all_holds : (p : Script) (d : ScheduleReader) → Holds σ (with_book d c (record b { left = p })) → HeardHolds σ c b (said_all d c p)
   said_all_holds Over d h = (h, no_room)
   said_all_holds Off d h = (h, no_room)
   said_all_holds (Say w go) d h = by (is_full d.entries) refl (let r = apply_of d.store d.moment c (w d.moment) in said_all_holds (go r.1.answer) (with_call d c (w d.moment) r) (one d w go h)) where
@@ -186,7 +186,7 @@ module _ (σ : Setting) (c : ℕ) (b : Book) (on : b.stopped ≡ false) where
 
 -- ---- a moment
 
-pub moment_holds : (σ : Setting) (d : Desk) (m : ℕ) → Holds σ d → m < 2 ^ 40 → d.moment ≤ m → Holds σ (record d { moment = m })
+pub moment_holds : (σ : Setting) (d : ScheduleReader) (m : ℕ) → Holds σ d → m < 2 ^ 40 → d.moment ≤ m → Holds σ (record d { moment = m })
 moment_holds σ d m h less le = record {
   table = h.table;
   present = less;
@@ -199,7 +199,7 @@ moment_holds σ d m h less le = record {
 
 -- ---- a client that stops
 
-module _ (σ : Setting) (d : Desk) (h : Holds σ d) (c : ℕ) (b : Book) (book : get d.books c ≡ Some b) (on : b.stopped ≡ false) where
+module _ (σ : Setting) (d : ScheduleReader) (h : Holds σ d) (c : ℕ) (b : Book) (book : get d.books c ≡ Some b) (on : b.stopped ≡ false) where
   abbrev gone : Book
   gone = record b { stopped = true }
 
@@ -244,29 +244,29 @@ module _ (σ : Setting) (d : Desk) (h : Holds σ d) (c : ℕ) (b : Book) (book :
 
 -- ---- a client more
 
-module _ (σ : Setting) (d : Desk) (h : Holds σ d) (c s : ℕ) (fresh : has_number c d.clients ≡ false) (seed : has_seed s d.clients ≡ false) where
+module _ (σ : Setting) (d : ScheduleReader) (h : Holds σ d) (c s : ℕ) (fresh : has_number c d.clients ≡ false) (seed : has_seed s d.clients ≡ false) where
   abbrev blank : Book
   blank = record { seed = s; drawn = 0; passes = 0; left = Over; stopped = false }
 
   stranger : get (start d).clients c ≡ None
   stranger = table_none c d.clients fresh
 
-  start_is : start (with_client d c s) ≡ add c (new_client s) (start d)
+  start_is : start (reader_with_client d c s) ≡ add c (new_client s) (start d)
   start_is = ap (λ m. record { store = (start d).store; clients = m }) (table_more c s d.clients fresh)
 
-  world_is : now (with_client d c s) ≡ add c (new_client s) (now d)
+  world_is : now (reader_with_client d c s) ≡ add c (new_client s) (now d)
   world_is = ap (λ v. after_entries v d.entries) start_is ∙ after_add c (new_client s) (start d) d.entries h.legal stranger
 
-  joined : (k : ℕ) (x : Book) → (k ≡ c) ⊎ (k ≢ c) → get (insert d.books c blank) k ≡ Some x → IsBookOf σ (with_client d c s) k x
+  joined : (k : ℕ) (x : Book) → (k ≡ c) ⊎ (k ≢ c) → get (insert d.books c blank) k ≡ Some x → IsBookOf σ (reader_with_client d c s) k x
   joined k x (inl e) is =
       let same : blank ≡ x = some_is blank x (sym (get_same d.books c blank) ∙ (ap (get (insert d.books c blank)) (sym e) ∙ is)) in
-      let new : IsBookOf σ (with_client d c s) c blank = record {
+      let new : IsBookOf σ (reader_with_client d c s) c blank = record {
         client = new_client s;
         known = ap (λ v. get v.clients c) world_is ∙ get_same (now d).clients c (new_client s);
         stopped = refl;
         kept = subst (λ l. IsKept σ l blank) (sym (no_calls c (new_client s) (start d) d.entries h.legal stranger)) (new_kept σ s);
       } in
-      subst (λ q. IsBookOf σ (with_client d c s) q x) (sym e) (subst (IsBookOf σ (with_client d c s) c) same new)
+      subst (λ q. IsBookOf σ (reader_with_client d c s) q x) (sym e) (subst (IsBookOf σ (reader_with_client d c s) c) same new)
   joined k x (inr n) is = let old = h.books k x (sym (get_other d.books c blank k n) ∙ is) in record {
     client = old.client;
     known = ap (λ v. get v.clients k) world_is ∙ (get_other (now d).clients c (new_client s) k n ∙ old.known);
@@ -278,7 +278,7 @@ module _ (σ : Setting) (d : Desk) (h : Holds σ d) (c s : ℕ) (fresh : has_num
   listed k t (inl a) = let old = h.book_of k t a.0 in (old.0, get_other d.books c blank k a.1 ∙ old.1, old.2)
   listed k t (inr a) = (blank, ap (get (insert d.books c blank)) a.0 ∙ get_same d.books c blank, sym a.1)
 
-  pub client_holds : Holds σ (with_client d c s)
+  pub client_holds : Holds σ (reader_with_client d c s)
   client_holds = record {
     table = table_with c s d.clients h.table fresh seed;
     present = h.present;

@@ -13,10 +13,10 @@ use Rattle.command_blocks.specs.Setting.{Setting}
 use Rattle.command_blocks.specs.Scripts.{Script, Over, Off, Say, Plan}
 use Rattle.schedule_model.specs.Built.{waits}
 use Rattle.schedule_model.specs.Costs.{is_full}
-use Rattle.schedule_model.specs.Desk.{Desk, Book, Said, first_desk, with_book, begun, said_one, said_all, with_stop}
-use Rattle.schedule_model.specs.Faults.{Craft, first_reason, tests, is_off, is_gone, has_more, is_busy, has_number, has_seed, asked_tests, seed_of, counter_of}
+use Rattle.schedule_model.specs.Desk.{ScheduleReader, Book, Said, first_desk, with_book, begun, said_one, said_all, with_stop}
+use Rattle.schedule_model.specs.Faults.{Craft, first_reason, tests, is_off, is_gone, has_more, is_busy, has_number, has_seed, asked_tests, client_seed, counter_of}
 use Rattle.schedule_model.specs.Lines.{line_in}
-use Rattle.schedule_model.specs.Schedules.{Led, Went, Filled, Bad, plan_of, with_plan, heard, stepped, run_through, stopped, led, led_unless, led_by, text_led, line_led, header_led, Determined, Whole, led_on, last_led, lines_led, header_on, max_input, schedule_run}
+use Rattle.schedule_model.specs.Schedules.{Led, Went, Filled, Bad, plan_of, with_plan, reader_after, stepped, run_through, stopped, led, led_unless, led_by, text_led, line_led, header_led, Determined, Whole, led_on, last_led, lines_led, header_on, max_input, schedule_run}
 use Rattle.schedule_model.specs.declared.line.Asked.{Asked}
 use Rattle.schedule_model.specs.declared.line.Line.{Line}
 use Rattle.schedule_model.specs.declared.line.Line.TheVariants.{Client, At, Begin, Step, Run, Stop}
@@ -45,33 +45,33 @@ over_of Over e f = refl
 over_of Off e f = true_not e
 over_of (Say w go) e f = true_not f
 
-heard_holds : (σ : Setting) (c : ℕ) (b : Book) (s : Said) → HeardHolds σ c b s → LedHolds σ (heard c b s)
+heard_holds : (σ : Setting) (c : ℕ) (b : Book) (s : Said) → HeardHolds σ c b s → LedHolds σ (reader_after c b s)
 heard_holds σ c b s h = by s.room h.1 where
   by : (room : Bool) → (room ≡ false → is_full s.desk.entries ≡ true) → LedHolds σ (if room then Went (with_book s.desk c (record b { left = s.left })) else Filled (with_book s.desk c (record b { left = s.left })))
   by true f = h.0
   by false f = (h.0, f refl)
 
 -- the book as it is, which is written again
-written : (σ : Setting) (d : Desk) (c : ℕ) (b : Book) → Holds σ d → get d.books c ≡ Some b → Holds σ (with_book d c (record b { left = b.left }))
+written : (σ : Setting) (d : ScheduleReader) (c : ℕ) (b : Book) → Holds σ d → get d.books c ≡ Some b → Holds σ (with_book d c (record b { left = b.left }))
 written σ d c b h book = book_holds σ d h c b b book refl refl (h.books c b book).kept
 
-step_holds : (σ : Setting) (d : Desk) (c : ℕ) → Holds σ d → (o : Option Book) → get d.books c ≡ o → is_gone o ≡ false → LedHolds σ (stepped d c o)
+step_holds : (σ : Setting) (d : ScheduleReader) (c : ℕ) → Holds σ d → (o : Option Book) → get d.books c ≡ o → is_gone o ≡ false → LedHolds σ (stepped d c o)
 step_holds σ d c h None book on = tt
 step_holds σ d c h (Some b) book on = heard_holds σ c b (said_one d c b.left) (said_one_holds σ c b (neither b.stopped (is_off b.left) on).0 b.left d (written σ d c b h book))
 
-run_holds : (σ : Setting) (d : Desk) (c : ℕ) → Holds σ d → (o : Option Book) → get d.books c ≡ o → is_gone o ≡ false → LedHolds σ (run_through d c o)
+run_holds : (σ : Setting) (d : ScheduleReader) (c : ℕ) → Holds σ d → (o : Option Book) → get d.books c ≡ o → is_gone o ≡ false → LedHolds σ (run_through d c o)
 run_holds σ d c h None book on = tt
 run_holds σ d c h (Some b) book on = heard_holds σ c b (said_all d c b.left) (said_all_holds σ c b (neither b.stopped (is_off b.left) on).0 b.left d (written σ d c b h book))
 
-stopped_holds : (σ : Setting) (d : Desk) (c : ℕ) → Holds σ d → (o : Option Book) → get d.books c ≡ o → is_gone o ≡ false → LedHolds σ (stopped d c o)
+stopped_holds : (σ : Setting) (d : ScheduleReader) (c : ℕ) → Holds σ d → (o : Option Book) → get d.books c ≡ o → is_gone o ≡ false → LedHolds σ (stopped d c o)
 stopped_holds σ d c h None book on = tt
 stopped_holds σ d c h (Some b) book on = by (is_full d.entries) refl where
   by : (f : Bool) → is_full d.entries ≡ f → LedHolds σ (if f then Filled d else Went (with_stop d c b))
   by true is = (h, is)
   by false is = stop_holds σ d h c b book (neither b.stopped (is_off b.left) on).0
 
-begin_holds : (κ : Craft) (craft : IsCraft κ) (d : Desk) (c : ℕ) (a : Asked) → Holds κ.setting d → IsAskedWithin a → (o : Option Book) → get d.books c ≡ o → is_gone o ≡ false → is_busy o ≡ false
-    → AreFaultless (asked_tests κ (seed_of o) (counter_of o) a) → LedHolds κ.setting (with_plan κ d c o (plan_of κ (seed_of o) (counter_of o) a))
+begin_holds : (κ : Craft) (craft : IsCraft κ) (d : ScheduleReader) (c : ℕ) (a : Asked) → Holds κ.setting d → IsAskedWithin a → (o : Option Book) → get d.books c ≡ o → is_gone o ≡ false → is_busy o ≡ false
+    → AreFaultless (asked_tests κ (client_seed o) (counter_of o) a) → LedHolds κ.setting (with_plan κ d c o (plan_of κ (client_seed o) (counter_of o) a))
 begin_holds κ craft d c a h within None book on idle fine = tt
 begin_holds κ craft d c a h within (Some b) book on idle fine = by (plan_of κ b.seed (suc b.drawn) a) refl where
   over : b.left ≡ Over
@@ -91,7 +91,7 @@ below m e = grind (arith, common_steps, e)
 not_before : (m n : ℕ) → nat_lt m n ≡ false → n ≤ m
 not_before m n e = grind (arith, common_steps, e)
 
-led_holds : (κ : Craft) (craft : IsCraft κ) (d : Desk) (l : Line) → Holds κ.setting d → IsWithin l → AreFaultless (tests κ d l) → LedHolds κ.setting (led κ d l)
+led_holds : (κ : Craft) (craft : IsCraft κ) (d : ScheduleReader) (l : Line) → Holds κ.setting d → IsWithin l → AreFaultless (tests κ d l) → LedHolds κ.setting (led κ d l)
 led_holds κ craft d (Client c s) h within fine = let f = neither (has_number c d.clients) (has_seed s d.clients) fine.1.0 in client_holds κ.setting d h c s f.0 f.1
 led_holds κ craft d (At m) h within fine = let f = neither (nat_le (2 ^ 40) m) (nat_lt m d.moment) fine.0 in moment_holds κ.setting d m h (below m f.0) (not_before m d.moment f.1)
 led_holds κ craft d (Begin c a) h within fine = begin_holds κ craft d c a h within (get d.books c) refl fine.1.0 fine.1.1.0 fine.1.1.1
@@ -99,11 +99,11 @@ led_holds κ craft d (Step c) h within fine = step_holds κ.setting d c h (get d
 led_holds κ craft d (Run c) h within fine = run_holds κ.setting d c h (get d.books c) refl fine.1.0
 led_holds κ craft d (Stop c) h within fine = stopped_holds κ.setting d c h (get d.books c) refl fine.1.0
 
-unless_holds : (κ : Craft) (craft : IsCraft κ) (d : Desk) (l : Line) → Holds κ.setting d → IsWithin l → (o : Option Reason) → first_reason (tests κ d l) ≡ o → LedHolds κ.setting (led_unless κ d l o)
+unless_holds : (κ : Craft) (craft : IsCraft κ) (d : ScheduleReader) (l : Line) → Holds κ.setting d → IsWithin l → (o : Option Reason) → first_reason (tests κ d l) ≡ o → LedHolds κ.setting (led_unless κ d l o)
 unless_holds κ craft d l h within (Some r) e = tt
 unless_holds κ craft d l h within None e = led_holds κ craft d l h within (faultless (tests κ d l) e)
 
-by_holds : (κ : Craft) (craft : IsCraft κ) (d : Desk) → Holds κ.setting d → (o : Option Line) → IfThere IsWithin o → LedHolds κ.setting (led_by κ d o)
+by_holds : (κ : Craft) (craft : IsCraft κ) (d : ScheduleReader) → Holds κ.setting d → (o : Option Line) → IfThere IsWithin o → LedHolds κ.setting (led_by κ d o)
 by_holds κ craft d h None within = tt
 by_holds κ craft d h (Some l) within = unless_holds κ craft d l h within (first_reason (tests κ d l)) refl
 
@@ -111,12 +111,12 @@ if_led : (σ : Setting) (b : Bool) (x y : Led) → LedHolds σ x → LedHolds σ
 if_led σ true x y f g = f
 if_led σ false x y f g = g
 
-text_holds : (κ : Craft) (craft : IsCraft κ) (d : Desk) (line : Bytes) → Holds κ.setting d → (o : Option Reason) → LedHolds κ.setting (text_led κ d line o)
+text_holds : (κ : Craft) (craft : IsCraft κ) (d : ScheduleReader) (line : Bytes) → Holds κ.setting d → (o : Option Reason) → LedHolds κ.setting (text_led κ d line o)
 text_holds κ craft d line h (Some r) = tt
 text_holds κ craft d line h None = if_led κ.setting (waits κ.built (words_of line)) (Bad Later) (led_by κ d (line_in (words_of line))) tt (by_holds κ craft d h (line_in (words_of line)) (line_there (words_of line)))
 
 -- each line keeps a desk
-line_holds : (κ : Craft) (craft : IsCraft κ) (d : Desk) (line : Bytes) → Holds κ.setting d → LedHolds κ.setting (line_led κ d line)
+line_holds : (κ : Craft) (craft : IsCraft κ) (d : ScheduleReader) (line : Bytes) → Holds κ.setting d → LedHolds κ.setting (line_led κ d line)
 line_holds κ craft d line h = text_holds κ craft d line h (text_fault 65536 line)
 
 header_holds : (σ : Setting) (line : Bytes) (o : Option Reason) → LedHolds σ (header_led line o)
@@ -126,7 +126,7 @@ header_holds σ line None = if_led σ (bytes_eq line (codes "celery-schedule 1")
 -- ---- a schedule
 
 module _ (σ : Setting) (decide : DecidesFronts σ) where
-  on_sound : (go : Desk → Determined) (n : ℕ) (r : Led) → LedHolds σ r → ((d : Desk) → Holds σ d → IsSoundlyDetermined σ (go d)) → IsSoundlyDetermined σ (led_on go n r)
+  on_sound : (go : ScheduleReader → Determined) (n : ℕ) (r : Led) → LedHolds σ r → ((d : ScheduleReader) → Holds σ d → IsSoundlyDetermined σ (go d)) → IsSoundlyDetermined σ (led_on go n r)
   on_sound go n (Went d) h f = f d h
   on_sound go n (Filled d) h f = (d, desk_sound σ d h.0 decide, h.1, refl, refl)
   on_sound go n (Bad r) h f = tt
@@ -135,7 +135,7 @@ module _ (σ : Setting) (decide : DecidesFronts σ) where
   last_holds true r h = tt
   last_holds false r h = h
 
-lines_sound : (κ : Craft) (craft : IsCraft κ) (decide : DecidesFronts κ.setting) (cut : Bool) (n : ℕ) (d : Desk) (ls : List Bytes) → Holds κ.setting d → IsSoundlyDetermined κ.setting (lines_led κ cut n d ls)
+lines_sound : (κ : Craft) (craft : IsCraft κ) (decide : DecidesFronts κ.setting) (cut : Bool) (n : ℕ) (d : ScheduleReader) (ls : List Bytes) → Holds κ.setting d → IsSoundlyDetermined κ.setting (lines_led κ cut n d ls)
 lines_sound κ craft decide cut n d [] h = desk_sound κ.setting d h decide
 lines_sound κ craft decide cut n d (l ∷ []) h =
     on_sound κ.setting decide Whole n (last_led cut (line_led κ d l)) (last_holds κ.setting decide cut (line_led κ d l) (line_holds κ craft d l h)) (λ e g. desk_sound κ.setting e g decide)

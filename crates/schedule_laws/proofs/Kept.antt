@@ -5,8 +5,8 @@ use Rattle.wire_values.specs.declared.value.Value.{Value}
 use Rattle.store_model.specs.Words.{Words}
 use Rattle.command_blocks.specs.Setting.{Setting}
 use Rattle.command_blocks.specs.Calls.{Call, call, concat}
-use Rattle.command_blocks.specs.Blocks.{drawn, passed, IsFrontOfBlocks, IsMannered}
-use Rattle.command_blocks.specs.Scripts.{Script, Over, Off, Say, Plan, script_of, kind_of, after_call, rest_of, IsSaid}
+use Rattle.command_blocks.specs.Blocks.{drawn, passes_after, IsFrontOfBlocks, IsMannered}
+use Rattle.command_blocks.specs.Scripts.{Script, Over, Off, Say, Plan, script_of, counter_use, after_call, rest_of, IsSaid}
 use Rattle.schedule_model.specs.Desk.{Book, begun}
 use Rattle.block_laws.specs.Rows.{IsGood, AreTimely, IsRow}
 use Rattle.block_laws.proofs.Talks.{says_not}
@@ -30,8 +30,8 @@ pub record IsBusy (σ : Setting) (m q : ℕ) (part : List Call) (b : Book) : Typ
   pub said : IsSaid (script_of σ b.seed q plan) part
   pub timely : AreTimely part
   pub rest : rest_of (script_of σ b.seed q plan) part ≡ b.left
-  pub drawn_after : b.drawn ≡ drawn (kind_of plan) m
-  pub passes_after : b.passes ≡ passed (kind_of plan) q
+  pub drawn_after : b.drawn ≡ drawn (counter_use plan) m
+  pub passes_after : b.passes ≡ passes_after (counter_use plan) q
 
 -- a client's calls are as its book says
 pub record IsKept (σ : Setting) (calls : List Call) (b : Book) : Type 0 where
@@ -70,8 +70,8 @@ wholly σ calls b k over = by k.standing where
   by (inr i) = (
     k.whole ++ k.part ∷ [],
     subst (λ m. BlocksTo σ b.seed 0 0 (k.whole ++ k.part ∷ []) m b.passes) (sym i.drawn_after)
-        (subst (BlocksTo σ b.seed 0 0 (k.whole ++ k.part ∷ []) (drawn (kind_of i.plan) k.m)) (sym i.passes_after)
-        (blocks_more σ b.seed 0 0 k.whole k.m k.q (kind_of i.plan) k.part k.blocks (i.row.block k.part i.timely i.said (i.rest ∙ over)))),
+        (subst (BlocksTo σ b.seed 0 0 (k.whole ++ k.part ∷ []) (drawn (counter_use i.plan) k.m)) (sym i.passes_after)
+        (blocks_more σ b.seed 0 0 k.whole k.m k.q (counter_use i.plan) k.part k.blocks (i.row.block k.part i.timely i.said (i.rest ∙ over)))),
     k.calls_are ∙ sym (concat_more k.whole k.part),
   )
 
@@ -135,7 +135,7 @@ module _ (σ : Setting) (calls : List Call) (b : Book) (k : IsKept σ calls b) w
 
     -- a part that a talk goes on to the end is one of a block
     front : (part more : List Call) → AreTimely (part ++ more) → IsSaid its (part ++ more) → rest_of its (part ++ more) ≡ Over → Front (concat k.whole ++ part)
-    front part more timely said over = part_front σ b.seed k.m k.q k.whole (kind_of i.plan) part more k.blocks (i.row.block (part ++ more) timely said over)
+    front part more timely said over = part_front σ b.seed k.m k.q k.whole (counter_use i.plan) part more k.blocks (i.row.block (part ++ more) timely said over)
 
     on_front : IsGood (rest_of its k.part) → Front calls
     on_front g = let e = end_of (rest_of its k.part) g in

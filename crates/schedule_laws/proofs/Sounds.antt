@@ -9,9 +9,9 @@ use Rattle.command_blocks.specs.Setting.{Setting}
 use Rattle.queue_keys.specs.QueueKeys.{Among}
 use Rattle.command_blocks.specs.Blocks.{IsMannered}
 use Rattle.place_model.specs.Histories.{calls_of}
-use Rattle.place_model.specs.Counts.{entry_at, field_of, has_field, has_member, is_field, is_member, in_held, total, start_count}
+use Rattle.place_model.specs.Counts.{table_entry, field_of, has_field, has_member, is_field, is_member, in_held, total, start_count}
 use Rattle.place_model.specs.Starts.{IsListOrNone, IsHashOrNone, IsScoresOrNone, elements_of, IsSoundStart}
-use Rattle.schedule_model.specs.Desk.{Desk}
+use Rattle.schedule_model.specs.Desk.{ScheduleReader}
 use Rattle.schedule_laws.specs.Sound.{IsSoundDesk}
 use Rattle.schedule_laws.proofs.Kept.{DecidesFronts, mannered}
 use Rattle.schedule_laws.proofs.Worlds.{calls_timely}
@@ -33,7 +33,7 @@ no_field σ t = ap (λ o. has_field o t) (nothing σ.unacked)
 no_member : (σ : Setting) (t : Bytes) → is_member σ none t ≡ false
 no_member σ t = ap (λ o. has_member o t) (nothing σ.index)
 
-no_entry : (σ : Setting) (t : Bytes) → entry_at σ none t ≡ None
+no_entry : (σ : Setting) (t : Bytes) → table_entry σ none t ≡ None
 no_entry σ t = ap (λ o. field_of o t) (nothing σ.unacked)
 
 no_entries : entries none ≡ []
@@ -67,12 +67,12 @@ empty_start σ = record {
   none_some u e = cc
 
 -- where fronts are decided, each client is mannered
-client_mannered : (σ : Setting) (d : Desk) → Holds σ d → DecidesFronts σ → (c s : ℕ) → Among (c, s) d.clients → IsMannered σ s (calls_of c d.entries)
+client_mannered : (σ : Setting) (d : ScheduleReader) → Holds σ d → DecidesFronts σ → (c s : ℕ) → Among (c, s) d.clients → IsMannered σ s (calls_of c d.entries)
 client_mannered σ d h decide c s among =
     let b = h.book_of c s among in
     subst (λ q. IsMannered σ q (calls_of c d.entries)) b.2 (mannered σ (calls_of c d.entries) b.0 (h.books c b.0 b.1).kept decide (calls_timely c 0 d.moment d.entries h.rises h.present))
 
-pub desk_sound : (σ : Setting) (d : Desk) → Holds σ d → DecidesFronts σ → IsSoundDesk σ d
+pub desk_sound : (σ : Setting) (d : ScheduleReader) → Holds σ d → DecidesFronts σ → IsSoundDesk σ d
 desk_sound σ d h decide = record {
   history = record { start = empty_start σ; table = h.table; legal = h.legal; mannered = client_mannered σ d h decide };
   store = h.store;

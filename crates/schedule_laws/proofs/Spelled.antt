@@ -4,10 +4,10 @@ use Rattle.std.specs.Prelude.{◌&&◌, nat_le, bytes_eq, ◌==◌}
 use Rattle.std.specs.List.{list_all, list_any, before_first, after_first}
 use Rattle.std.specs.Str.Parse.{digits_value}
 use Rattle.std.proofs.lemmas.Grind.{common_steps}
-use Rattle.line_text.specs.Numbers.{moment_in, is_number, number_in, part_in, both, tag_in}
+use Rattle.line_text.specs.Numbers.{moment_in, is_number, number_in, part_in, both_parts, tag_in}
 use Rattle.line_text.specs.Words.{is_word}
 use Rattle.queue_keys.specs.Names.{Bytes}
-use Rattle.schedule_model.specs.Lines.{client_in, seed_in, name_in, dashed_in, queues_in, with_one, with_two, with_four, publish_in, declare_in, tagged_in, pass_in, asked_in, client_line, at_line, begin_line, of_client, line_in}
+use Rattle.schedule_model.specs.Lines.{client_in, seed_in, name_in, dashed_in, queues_in, made_of_one, made_of_two, made_of_four, publish_in, declare_in, tagged_in, pass_in, asked_in, client_line, at_line, begin_line, of_client, line_in}
 use Rattle.schedule_model.specs.declared.line.Asked.{Asked}
 use Rattle.schedule_model.specs.declared.line.Asked.TheVariants as asked
 use Rattle.schedule_model.specs.declared.line.Line.{Line}
@@ -48,16 +48,16 @@ if_there : {A : Type 0} (P : A → Type 0) (b : Bool) (x y : Option A) → IfThe
 if_there P true x y f g = f
 if_there P false x y f g = g
 
-one_there : {A B : Type 0} (P : A → Type 0) (Q : B → Type 0) (f : A → B) → ((x : A) → P x → Q (f x)) → (o : Option A) → IfThere P o → IfThere Q (with_one f o)
+one_there : {A B : Type 0} (P : A → Type 0) (Q : B → Type 0) (f : A → B) → ((x : A) → P x → Q (f x)) → (o : Option A) → IfThere P o → IfThere Q (made_of_one f o)
 one_there P Q f h None p = tt
 one_there P Q f h (Some x) p = h x p
 
-two_there : {A B C : Type 0} (P : B → Type 0) (Q : C → Type 0) (f : A → B → C) → ((x : A) (y : B) → P y → Q (f x y)) → (a : Option A) (b : Option B) → IfThere P b → IfThere Q (with_two f a b)
+two_there : {A B C : Type 0} (P : B → Type 0) (Q : C → Type 0) (f : A → B → C) → ((x : A) (y : B) → P y → Q (f x y)) → (a : Option A) (b : Option B) → IfThere P b → IfThere Q (made_of_two f a b)
 two_there P Q f h None b p = tt
 two_there P Q f h (Some x) None p = tt
 two_there P Q f h (Some x) (Some y) p = h x y p
 
-four_there : {A B C D E : Type 0} (Q : E → Type 0) (f : A → B → C → D → E) → ((x : A) (y : B) (z : C) (u : D) → Q (f x y z u)) → (a : Option A) (b : Option B) (c : Option C) (d : Option D) → IfThere Q (with_four f a b c d)
+four_there : {A B C D E : Type 0} (Q : E → Type 0) (f : A → B → C → D → E) → ((x : A) (y : B) (z : C) (u : D) → Q (f x y z u)) → (a : Option A) (b : Option B) (c : Option C) (d : Option D) → IfThere Q (made_of_four f a b c d)
 four_there Q f h None b c d = tt
 four_there Q f h (Some x) None c d = tt
 four_there Q f h (Some x) (Some y) None d = tt
@@ -85,7 +85,7 @@ part_bound w = by (part_in w) (number_bound 0 (2 ^ 64 - 1) w) where
 abbrev AreParts : ℕ × ℕ → Type 0
 AreParts p = (p.0 < 2 ^ 64) × (p.1 < 2 ^ 64)
 
-both_there : (a b : Option ℕ) → IfThere (λ n. n < 2 ^ 64) a → IfThere (λ n. n < 2 ^ 64) b → IfThere AreParts (both a b)
+both_there : (a b : Option ℕ) → IfThere (λ n. n < 2 ^ 64) a → IfThere (λ n. n < 2 ^ 64) b → IfThere AreParts (both_parts a b)
 both_there None b f g = tt
 both_there (Some x) None f g = tt
 both_there (Some x) (Some y) f g = (f, g)
@@ -124,7 +124,7 @@ asked_there w ws =
     if_there IsAskedWithin (bytes_eq w (codes "publish")) (publish_in ws) _ (publish_there ws)
     (if_there IsAskedWithin (bytes_eq w (codes "declare")) (declare_in asked.Declare ws) _ (declare_there asked.Declare (λ x k p q. tt) ws)
     (if_there IsAskedWithin (bytes_eq w (codes "undeclare")) (declare_in asked.Undeclare ws) _ (declare_there asked.Undeclare (λ x k p q. tt) ws)
-    (if_there IsAskedWithin (bytes_eq w (codes "pop")) (with_one asked.Pop (queues_in ws)) _ (one_there AreFew IsAskedWithin asked.Pop (λ qs h. h) (queues_in ws) (few ws))
+    (if_there IsAskedWithin (bytes_eq w (codes "pop")) (made_of_one asked.Pop (queues_in ws)) _ (one_there AreFew IsAskedWithin asked.Pop (λ qs h. h) (queues_in ws) (few ws))
     (if_there IsAskedWithin (bytes_eq w (codes "ack")) (tagged_in asked.Ack ws) _ (tagged_there asked.Ack (λ a b f g. (f, g)) ws)
     (if_there IsAskedWithin (bytes_eq w (codes "restore")) (tagged_in asked.Restore ws) _ (tagged_there asked.Restore (λ a b f g. (f, g)) ws)
     (if_there IsAskedWithin (bytes_eq w (codes "requeue")) (tagged_in asked.Requeue ws) _ (tagged_there asked.Requeue (λ a b f g. (f, g)) ws)
@@ -133,7 +133,7 @@ asked_there w ws =
 -- ---- lines
 
 client_there : (ws : List Bytes) → IfThere IsWithin (client_line ws)
-client_there (c ∷ k ∷ s ∷ []) = if_there IsWithin (bytes_eq k (codes "seed")) (with_two Client (client_in c) (seed_in s)) None (two_there (λ n. Unit {0}) IsWithin Client (λ c s h. tt) (client_in c) (seed_in s) (any (seed_in s))) tt where
+client_there (c ∷ k ∷ s ∷ []) = if_there IsWithin (bytes_eq k (codes "seed")) (made_of_two Client (client_in c) (seed_in s)) None (two_there (λ n. Unit {0}) IsWithin Client (λ c s h. tt) (client_in c) (seed_in s) (any (seed_in s))) tt where
   any : (o : Option ℕ) → IfThere (λ n. Unit {0}) o
   any None = tt
   any (Some n) = tt

@@ -9,7 +9,7 @@ use Rattle.store_model.specs.Store.{apply_of, gone_of}
 use Rattle.store_model.specs.declared.reply.Reply.{Reply}
 use Rattle.command_blocks.specs.Calls.{Call, call}
 use Rattle.queue_keys.specs.QueueKeys.{IsAway, Differ, Among}
-use Rattle.place_model.specs.Histories.{conn_of, own_entries, onto_calls, calls_among, calls_of, Client, World, with_client, next_of, next, after_entries, new_client, table, AnswersRight, MayCome, AllMayCome, connections, seeds, AreUnused, IsTable}
+use Rattle.place_model.specs.Histories.{conn_of, own_entries, onto_calls, calls_among, calls_of, Client, SystemState, with_client, next_of, next, after_entries, new_client, table, AnswersRight, MayCome, AllMayCome, connections, seeds, AreUnused, IsTable}
 use Rattle.place_model.specs.declared.heard.Heard.{Heard as Note}
 use Rattle.place_model.specs.declared.history.Entry.{Entry}
 use Rattle.place_model.specs.declared.history.Entry.TheVariants.{Call as Called, Heard, Stop}
@@ -24,24 +24,24 @@ neither false b e = (refl, e)
 
 -- ---- entries
 
-pub after-append : (w : World) (h t : List (Entry Note)) → after_entries w (h ++ t) ≡ after_entries (after_entries w h) t
+pub after-append : (w : SystemState) (h t : List (Entry Note)) → after_entries w (h ++ t) ≡ after_entries (after_entries w h) t
 after-append w [] t = refl
 after-append w (e ∷ h) t = after-append (next w e) h t
 
-pub legal-append : (w : World) (h t : List (Entry Note)) → AllMayCome w h → AllMayCome (after_entries w h) t → AllMayCome w (h ++ t)
+pub legal-append : (w : SystemState) (h t : List (Entry Note)) → AllMayCome w h → AllMayCome (after_entries w h) t → AllMayCome w (h ++ t)
 legal-append w [] t a b = b
 legal-append w (e ∷ h) t a b = (a.0, legal-append (next w e) h t a.1 b)
 
-pub next_called : (w : World) (c at : ℕ) (words : Words) (reply : Reply) (cl : Client) → get w.clients c ≡ Some cl
+pub next_called : (w : SystemState) (c at : ℕ) (words : Words) (reply : Reply) (cl : Client) → get w.clients c ≡ Some cl
     → next {N = Note} w (Called c at words reply) ≡ with_client (apply_of w.store at c words).0 w c (record cl { calls = cl.calls ++ call at words reply.answer ∷ [] })
 unfolding next
 next_called w c at words reply cl known = ap (next_of {N = Note} w (Called c at words reply)) known
 
-pub next_heard : (w : World) (c : ℕ) (note : Note) (cl : Client) → get w.clients c ≡ Some cl → next w (Heard c note) ≡ w
+pub next_heard : (w : SystemState) (c : ℕ) (note : Note) (cl : Client) → get w.clients c ≡ Some cl → next w (Heard c note) ≡ w
 unfolding next
 next_heard w c note cl known = ap (next_of w (Heard c note)) known
 
-pub next_stopped : (w : World) (c : ℕ) (cl : Client) → get w.clients c ≡ Some cl → next {N = Note} w (Stop c) ≡ with_client (gone_of w.store c) w c (record cl { stopped = true })
+pub next_stopped : (w : SystemState) (c : ℕ) (cl : Client) → get w.clients c ≡ Some cl → next {N = Note} w (Stop c) ≡ with_client (gone_of w.store c) w c (record cl { stopped = true })
 unfolding next
 next_stopped w c cl known = ap (next_of {N = Note} w (Stop c)) known
 
@@ -121,10 +121,10 @@ calls_timely c m n (e ∷ es) h less = by (same_or (conn_of e) c) (let r = later
 -- ---- a client that comes later might as well have been there from the start
 
 module _ (c : ℕ) (cl : Client) where
-  abbrev pub add : World → World
+  abbrev pub add : SystemState → SystemState
   add w = with_client w.store w c cl
 
-  next_add : (w : World) (e : Entry Note) → MayCome w e → get w.clients c ≡ None → next (add w) e ≡ add (next w e)
+  next_add : (w : SystemState) (e : Entry Note) → MayCome w e → get w.clients c ≡ None → next (add w) e ≡ add (next w e)
   next_add w (Called k at words reply) may none =
       let n : k ≢ c = another w.clients k c may.0 may.1 none in
       let e = may.0 in
@@ -142,7 +142,7 @@ module _ (c : ℕ) (cl : Client) where
       next_stopped (add w) k e (get_other w.clients c cl k n ∙ may.1)
       ∙ (ap (λ m. record { store = gone_of w.store k; clients = m }) (insert_swap w.clients c cl k e' n) ∙ ap add (sym (next_stopped w k e may.1)))
 
-  next_none : (w : World) (e : Entry Note) → MayCome w e → get w.clients c ≡ None → get (next w e).clients c ≡ None
+  next_none : (w : SystemState) (e : Entry Note) → MayCome w e → get w.clients c ≡ None → get (next w e).clients c ≡ None
   next_none w (Called k at words reply) may none =
       let n : k ≢ c = another w.clients k c may.0 may.1 none in
       ap (λ v. get v.clients c) (next_called w k at words reply may.0 may.1) ∙ (get_other w.clients k _ c (λ q. n (sym q)) ∙ none)
@@ -151,24 +151,24 @@ module _ (c : ℕ) (cl : Client) where
       let n : k ≢ c = another w.clients k c may.0 may.1 none in
       ap (λ v. get v.clients c) (next_stopped w k may.0 may.1) ∙ (get_other w.clients k _ c (λ q. n (sym q)) ∙ none)
 
-  right_add : (w : World) (e : Entry Note) → AnswersRight w e → AnswersRight (add w) e
+  right_add : (w : SystemState) (e : Entry Note) → AnswersRight w e → AnswersRight (add w) e
   right_add w (Called k at words reply) r = r
   right_add w (Heard k note) r = r
   right_add w (Stop k) r = r
 
-  may_add : (w : World) (e : Entry Note) → MayCome w e → get w.clients c ≡ None → MayCome (add w) e
+  may_add : (w : SystemState) (e : Entry Note) → MayCome w e → get w.clients c ≡ None → MayCome (add w) e
   may_add w e may none = (may.0, get_other w.clients c cl (conn_of e) (another w.clients (conn_of e) c may.0 may.1 none) ∙ may.1, may.2, right_add w e may.3)
 
-  pub after_add : (w : World) (es : List (Entry Note)) → AllMayCome w es → get w.clients c ≡ None → after_entries (add w) es ≡ add (after_entries w es)
+  pub after_add : (w : SystemState) (es : List (Entry Note)) → AllMayCome w es → get w.clients c ≡ None → after_entries (add w) es ≡ add (after_entries w es)
   after_add w [] l none = refl
   after_add w (e ∷ es) l none = ap (λ v. after_entries v es) (next_add w e l.0 none) ∙ after_add (next w e) es l.1 (next_none w e l.0 none)
 
-  pub legal_add : (w : World) (es : List (Entry Note)) → AllMayCome w es → get w.clients c ≡ None → AllMayCome (add w) es
+  pub legal_add : (w : SystemState) (es : List (Entry Note)) → AllMayCome w es → get w.clients c ≡ None → AllMayCome (add w) es
   legal_add w [] l none = tt
   legal_add w (e ∷ es) l none = (may_add w e l.0 none, subst (λ v. AllMayCome v es) (sym (next_add w e l.0 none)) (legal_add (next w e) es l.1 (next_none w e l.0 none)))
 
   -- who isn't known has called nothing
-  pub no_calls : (w : World) (es : List (Entry Note)) → AllMayCome w es → get w.clients c ≡ None → calls_of c es ≡ []
+  pub no_calls : (w : SystemState) (es : List (Entry Note)) → AllMayCome w es → get w.clients c ≡ None → calls_of c es ≡ []
   no_calls w [] l none = refl
   no_calls w (e ∷ es) l none = foreign c e es (another w.clients (conn_of e) c l.0.0 l.0.1 none) ∙ no_calls (next w e) es l.1 (next_none w e l.0 none)
 

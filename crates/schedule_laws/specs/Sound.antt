@@ -10,9 +10,9 @@ use Rattle.place_model.specs.declared.history.Entry.TheVariants.{Call as Called,
 use Rattle.manner_laws.specs.Cursor.{IsReadable}
 use Rattle.manner_laws.specs.LayoutKeys.{TellsShortExchanges}
 use Rattle.schedule_model.specs.Costs.{is_full, total_cost}
-use Rattle.schedule_model.specs.Desk.{Desk}
+use Rattle.schedule_model.specs.Desk.{ScheduleReader}
 use Rattle.schedule_model.specs.Faults.{Craft}
-use Rattle.schedule_model.specs.Schedules.{Determined, Whole, Full, Bad_line, schedule_run, history_of}
+use Rattle.schedule_model.specs.Schedules.{Determined, Whole, Full, Bad_line, schedule_run, reader_history}
 
 -- the envelope v, as it is written, tells what was asked: a tag's seed and counter, an exchange, and with the empty exchange one key
 pub record IsSealed (σ : Setting) (s n : ℕ) (x k v : Bytes) : Type 0 where
@@ -36,16 +36,16 @@ RisesTo m (Heard c note ∷ es) n = RisesTo m es n
 RisesTo m (Stop c ∷ es) n = RisesTo m es n
 
 -- the history of a desk is sound and leaves the desk's store, and its moments never fall, up to a present one below 2^40
-pub record IsSoundDesk (σ : Setting) (d : Desk) : Type 0 where
-  pub history : IsSound σ (history_of d)
-  pub store : (after (history_of d)).store ≡ d.store
+pub record IsSoundDesk (σ : Setting) (d : ScheduleReader) : Type 0 where
+  pub history : IsSound σ (reader_history d)
+  pub store : (after (reader_history d)).store ≡ d.store
   pub moments : RisesTo 0 d.entries d.moment
   pub present : d.moment < 2 ^ 40
 
 -- a whole history is sound, and so is one that was full, which has these many entries and this cost
 abbrev pub IsSoundlyDetermined : Setting → Determined → Type 0
 IsSoundlyDetermined σ (Whole d) = IsSoundDesk σ d
-IsSoundlyDetermined σ (Full n cost) = (d : Desk) × IsSoundDesk σ d × (is_full d.entries ≡ true) × (length d.entries ≡ n) × (total_cost d.entries ≡ cost)
+IsSoundlyDetermined σ (Full n cost) = (d : ScheduleReader) × IsSoundDesk σ d × (is_full d.entries ≡ true) × (length d.entries ≡ n) × (total_cost d.entries ≡ cost)
 IsSoundlyDetermined σ (Bad_line n reason) = Unit {0}
 
 -- what each schedule determines is sound

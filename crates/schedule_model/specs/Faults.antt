@@ -9,7 +9,7 @@ use Rattle.queue_keys.specs.Names.{Bytes, all_free, has_length, is_reserved}
 use Rattle.command_blocks.specs.Scripts.{Script, Off, Say}
 use Rattle.command_blocks.specs.Setting.{Setting}
 use Rattle.schedule_model.specs.Built.{Built}
-use Rattle.schedule_model.specs.Desk.{Desk, Book}
+use Rattle.schedule_model.specs.Desk.{ScheduleReader, Book}
 use Rattle.schedule_model.specs.declared.line.Asked.{Asked}
 use Rattle.schedule_model.specs.declared.line.Asked.TheVariants as asked
 use Rattle.schedule_model.specs.declared.line.Line.{Line}
@@ -83,9 +83,9 @@ asked_tests κ s n (asked.Requeue a b) = []
 asked_tests κ s n (asked.Pass v) = []
 
 -- the seed of a client, and the counter of its next tag
-abbrev pub seed_of : Option Book → ℕ
-seed_of None = 0
-seed_of (Some b) = b.seed
+abbrev pub client_seed : Option Book → ℕ
+client_seed None = 0
+client_seed (Some b) = b.seed
 
 abbrev pub counter_of : Option Book → ℕ
 counter_of None = 0
@@ -98,10 +98,10 @@ abbrev pub has_seed : ℕ → List (ℕ × ℕ) → Bool
 has_seed s clients = list_any (λ e. nat_eq e.1 s) clients
 
 -- those of a line, in their order
-abbrev pub tests : Craft → Desk → Line → List Test
+abbrev pub tests : Craft → ScheduleReader → Line → List Test
 tests κ d (Client c s) = (is_gone (get d.books c), Stopped) ∷ (has_number c d.clients || has_seed s d.clients, Repeated) ∷ []
 tests κ d (At m) = (nat_le (2 ^ 40) m || nat_lt m d.moment, Moment) ∷ []
-tests κ d (Begin c a) = let b = get d.books c in present_tests b ++ (is_busy b, Busy) ∷ asked_tests κ (seed_of b) (counter_of b) a
+tests κ d (Begin c a) = let b = get d.books c in present_tests b ++ (is_busy b, Busy) ∷ asked_tests κ (client_seed b) (counter_of b) a
 tests κ d (Step c) = let b = get d.books c in present_tests b ++ (not (is_busy b), Idle) ∷ []
 tests κ d (Run c) = let b = get d.books c in present_tests b ++ (not (is_busy b), Idle) ∷ []
 tests κ d (Stop c) = present_tests (get d.books c)

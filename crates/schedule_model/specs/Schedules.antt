@@ -12,8 +12,8 @@ use Rattle.command_blocks.specs.declared.block.Side.TheVariants.{Left, Right}
 use Rattle.place_model.specs.declared.heard.Heard.{Heard}
 use Rattle.schedule_model.specs.Built.{waits}
 use Rattle.schedule_model.specs.Costs.{is_full, total_cost}
-use Rattle.schedule_model.specs.Desk.{Desk, Book, Said, first_desk, with_book, with_client, begun, said_one, said_all, with_stop}
-use Rattle.schedule_model.specs.Faults.{Craft, first_reason, tests, seed_of, counter_of}
+use Rattle.schedule_model.specs.Desk.{ScheduleReader, Book, Said, first_desk, with_book, reader_with_client, begun, said_one, said_all, with_stop}
+use Rattle.schedule_model.specs.Faults.{Craft, first_reason, tests, client_seed, counter_of}
 use Rattle.schedule_model.specs.Lines.{line_in}
 use Rattle.schedule_model.specs.declared.line.Asked.{Asked}
 use Rattle.schedule_model.specs.declared.line.Asked.TheVariants as asked
@@ -22,8 +22,8 @@ use Rattle.schedule_model.specs.declared.line.Line.TheVariants.{Client, At, Begi
 
 -- what a line leads to: a desk, a history that was full, or the reason that it is bad
 pub data Led : Type 0 where
-  Went : Desk → Led
-  Filled : Desk → Led
+  Went : ScheduleReader → Led
+  Filled : ScheduleReader → Led
   Bad : Reason → Led
 
 -- ---- what a line does that has no fault
@@ -45,35 +45,35 @@ plan_of κ s n (asked.Requeue a b) = Some (Return Left (κ.setting.tag a b))
 plan_of κ s n (asked.Pass v) = Some (Pass v)
 
 -- a plan begun; nothing is said yet
-abbrev pub with_plan : Craft → Desk → ℕ → Option Book → Option Plan → Led
+abbrev pub with_plan : Craft → ScheduleReader → ℕ → Option Book → Option Plan → Led
 with_plan κ d c None p = Bad UnknownClient
 with_plan κ d c (Some b) None = Bad Task
 with_plan κ d c (Some b) (Some p) = Went (with_book d c (begun κ.setting b p))
 
 -- the desk after what a client said, by whether there was room for all of it
-abbrev pub heard : ℕ → Book → Said → Led
-heard c b s = let d = with_book s.desk c (record b { left = s.left }) in if s.room then Went d else Filled d
+abbrev pub reader_after : ℕ → Book → Said → Led
+reader_after c b s = let d = with_book s.desk c (record b { left = s.left }) in if s.room then Went d else Filled d
 
 -- a client says the next command of its block
-abbrev pub stepped : Desk → ℕ → Option Book → Led
+abbrev pub stepped : ScheduleReader → ℕ → Option Book → Led
 stepped d c None = Bad UnknownClient
-stepped d c (Some b) = heard c b (said_one d c b.left)
+stepped d c (Some b) = reader_after c b (said_one d c b.left)
 
 -- a client says its block to the end
-abbrev pub run_through : Desk → ℕ → Option Book → Led
+abbrev pub run_through : ScheduleReader → ℕ → Option Book → Led
 run_through d c None = Bad UnknownClient
-run_through d c (Some b) = heard c b (said_all d c b.left)
+run_through d c (Some b) = reader_after c b (said_all d c b.left)
 
 -- a client is gone, where the history has room
-abbrev pub stopped : Desk → ℕ → Option Book → Led
+abbrev pub stopped : ScheduleReader → ℕ → Option Book → Led
 stopped d c None = Bad UnknownClient
 stopped d c (Some b) = if is_full d.entries then Filled d else Went (with_stop d c b)
 
 -- a line without a fault
-abbrev pub led : Craft → Desk → Line → Led
-led κ d (Client c s) = Went (with_client d c s)
+abbrev pub led : Craft → ScheduleReader → Line → Led
+led κ d (Client c s) = Went (reader_with_client d c s)
 led κ d (At m) = Went (record d { moment = m })
-led κ d (Begin c a) = let b = get d.books c in with_plan κ d c b (plan_of κ (seed_of b) (counter_of b) a)
+led κ d (Begin c a) = let b = get d.books c in with_plan κ d c b (plan_of κ (client_seed b) (counter_of b) a)
 led κ d (Step c) = stepped d c (get d.books c)
 led κ d (Run c) = run_through d c (get d.books c)
 led κ d (Stop c) = stopped d c (get d.books c)
@@ -81,26 +81,26 @@ led κ d (Stop c) = stopped d c (get d.books c)
 -- ---- a line
 
 -- a line, by the first of its faults
-abbrev pub led_unless : Craft → Desk → Line → Option Reason → Led
+abbrev pub led_unless : Craft → ScheduleReader → Line → Option Reason → Led
 led_unless κ d l (Some r) = Bad r
 led_unless κ d l None = led κ d l
 
 -- a line, by how it is spelled
-abbrev pub led_by : Craft → Desk → Option Line → Led
+abbrev pub led_by : Craft → ScheduleReader → Option Line → Led
 led_by κ d None = Bad Syntax
 led_by κ d (Some l) = led_unless κ d l (first_reason (tests κ d l))
 
 -- what words lead to
-abbrev pub words_led : Craft → Desk → List Bytes → Led
+abbrev pub words_led : Craft → ScheduleReader → List Bytes → Led
 words_led κ d ws = if waits κ.built ws then Bad Later else led_by κ d (line_in ws)
 
 -- a line, by what is wrong with it as a text
-abbrev pub text_led : Craft → Desk → Bytes → Option Reason → Led
+abbrev pub text_led : Craft → ScheduleReader → Bytes → Option Reason → Led
 text_led κ d line (Some r) = Bad r
 text_led κ d line None = words_led κ d (words_of line)
 
 -- what a line after the header leads to
-abbrev pub line_led : Craft → Desk → Bytes → Led
+abbrev pub line_led : Craft → ScheduleReader → Bytes → Led
 line_led κ d line = text_led κ d line (text_fault 65536 line)
 
 -- what the header leads to
@@ -112,12 +112,12 @@ header_led line None = if bytes_eq line (codes "celery-schedule 1") then Went fi
 
 -- what a schedule determines
 pub data Determined : Type 0 where
-  Whole : Desk → Determined
+  Whole : ScheduleReader → Determined
   Full : ℕ → ℕ → Determined  -- the entries and the cost of the history that was full
   Bad_line : ℕ → Reason → Determined  -- its number and the reason
 
 -- how it goes on after line n
-abbrev pub led_on : (Desk → Determined) → ℕ → Led → Determined
+abbrev pub led_on : (ScheduleReader → Determined) → ℕ → Led → Determined
 led_on go n (Went d) = go d
 led_on go n (Filled d) = Full (length d.entries) (total_cost d.entries)
 led_on go n (Bad r) = Bad_line n r
@@ -128,7 +128,7 @@ last_led true l = Bad Long
 last_led false l = l
 
 -- the lines from line n on; the mark tells whether the input goes on past its limit
-abbrev pub lines_led : Craft → Bool → ℕ → Desk → List Bytes → Determined
+abbrev pub lines_led : Craft → Bool → ℕ → ScheduleReader → List Bytes → Determined
 lines_led κ cut n d [] = Whole d
 lines_led κ cut n d (l ∷ []) = led_on Whole n (last_led cut (line_led κ d l))
 lines_led κ cut n d (l ∷ m ∷ ls) = led_on (λ e. lines_led κ cut (n + 1) e (m ∷ ls)) n (line_led κ d l)
@@ -148,5 +148,5 @@ abbrev pub schedule_run : Craft → Bytes → Determined
 schedule_run κ bytes = header_on κ (nat_lt max_input (length bytes)) (lines_of (take (max_input + 1) bytes))
 
 -- the history of a desk: it begins with an empty store
-abbrev pub history_of : Desk → History Heard
-history_of d = record { start = empty; used = []; clients = d.clients; entries = d.entries }
+abbrev pub reader_history : ScheduleReader → History Heard
+reader_history d = record { start = empty; used = []; clients = d.clients; entries = d.entries }

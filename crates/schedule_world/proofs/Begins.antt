@@ -5,13 +5,13 @@ use Rattle.std.specs.FinMap.{get, insert}
 use Rattle.std.specs.Result.{IsErr, IsErrAnd}
 use Rattle.line_text.specs.declared.reason.Reason.{Reason}
 use Rattle.line_text.specs.declared.reason.Reason.TheVariants.{Busy, Stopped}
-use Rattle.command_blocks.specs.Blocks.{drawn, passed}
+use Rattle.command_blocks.specs.Blocks.{drawn, passes_after}
 use Rattle.command_blocks.specs.EnvelopeTexts.{plain_setting}
 use Rattle.queue_keys.specs.Names.{Bytes}
-use Rattle.command_blocks.specs.Scripts.{End, Plan, Pop, Publish, Script, kind_of, script_of}
+use Rattle.command_blocks.specs.Scripts.{End, Plan, Pop, Publish, Script, counter_use, script_of}
 use Rattle.schedule_model.specs.Desk as desk
-use Rattle.schedule_model.specs.Desk.{Desk, begun, with_book}
-use Rattle.schedule_model.specs.Faults.{asked_tests, counter_of, first_reason, has_more, is_busy, is_off, present_tests, seed_of}
+use Rattle.schedule_model.specs.Desk.{ScheduleReader, begun, with_book}
+use Rattle.schedule_model.specs.Faults.{asked_tests, counter_of, first_reason, has_more, is_busy, is_off, present_tests, client_seed}
 use Rattle.schedule_model.specs.Programs.{program_craft}
 use Rattle.schedule_model.specs.Schedules.{Led, Bad, Went, led_unless, plan_of, publish_plan, with_plan}
 use Rattle.schedule_model.specs.declared.line.Asked.{Asked}
@@ -37,17 +37,17 @@ no_error e = cc
 
 -- the first reason why a client can't begin, by its book
 abbrev pub begin_reason : Asked → Option desk.Book → Option Reason
-begin_reason a b = first_reason (present_tests b ++ (is_busy b, Busy) ∷ asked_tests program_craft (seed_of b) (counter_of b) a)
+begin_reason a b = first_reason (present_tests b ++ (is_busy b, Busy) ∷ asked_tests program_craft (client_seed b) (counter_of b) a)
 
 -- what such a line leads to, by that reason
-abbrev pub begin_led : Desk → ℕ → Asked → Option desk.Book → Led
+abbrev pub begin_led : ScheduleReader → ℕ → Asked → Option desk.Book → Led
 begin_led d c a b = led_unless program_craft d (Begin c a) (begin_reason a b)
 
 -- a client that can't begin
-pub resting_bad : (d : Desk) (m : Shelf) (c : ℕ) (a : Asked) (r : Reason) → IsResting (get m c) (Err r) → begin_led d c a (get (books_of m) c) ≡ Bad r
+pub resting_bad : (d : ScheduleReader) (m : Shelf) (c : ℕ) (a : Asked) (r : Reason) → IsResting (get m c) (Err r) → begin_led d c a (get (books_of m) c) ≡ Bad r
 resting_bad d m c a r h =
     let b = option_map book_of (get m c) in
-    ap (begin_led d c a) (get-books_of m c) ∙ ap (led_unless program_craft d (Begin c a)) (h (asked_tests program_craft (seed_of b) (counter_of b) a))
+    ap (begin_led d c a) (get-books_of m c) ∙ ap (led_unless program_craft d (Begin c a)) (h (asked_tests program_craft (client_seed b) (counter_of b) a))
 
 -- tests that don't hold
 passing : (x y : Bool) (o : Option Reason) → x ≡ false → y ≡ false → (if x then Some Stopped else if y then Some Busy else o) ≡ o
@@ -60,23 +60,23 @@ found_so o k s n e f =
     e ∙ sym (ap again f)
 
 -- a publication makes no pass
-publishing : (o : Option Bytes) (p : Plan) → publish_plan o ≡ Some p → passed (kind_of p) 0 ≡ 0
+publishing : (o : Option Bytes) (p : Plan) → publish_plan o ≡ Some p → passes_after (counter_use p) 0 ≡ 0
 publishing None p e = cc
-publishing (Some v) p e = let same : p ≡ Publish v = cc in ap (λ q. passed (kind_of q) 0) same
+publishing (Some v) p e = let same : p ≡ Publish v = cc in ap (λ q. passes_after (counter_use q) 0) same
 
 -- nor does what is built
-passes_kept : (s n : ℕ) (a : Asked) (p : Plan) → IsBuiltBlock a → plan_of program_craft s n a ≡ Some p → passed (kind_of p) 0 ≡ 0
+passes_kept : (s n : ℕ) (a : Asked) (p : Plan) → IsBuiltBlock a → plan_of program_craft s n a ≡ Some p → passes_after (counter_use p) 0 ≡ 0
 passes_kept s n (asked.Publish x k q t j) p h e = publishing (program_craft.sealed s n x k q t j) p e
 passes_kept s n (asked.Declare x k q t) p h e = absurd h
 passes_kept s n (asked.Undeclare x k q t) p h e = absurd h
-passes_kept s n (asked.Pop qs) p h e = let same : p ≡ Pop qs = cc in ap (λ q. passed (kind_of q) 0) same
-passes_kept s n (asked.Ack a b) p h e = let same : p ≡ End (plain_setting.tag a b) = cc in ap (λ q. passed (kind_of q) 0) same
+passes_kept s n (asked.Pop qs) p h e = let same : p ≡ Pop qs = cc in ap (λ q. passes_after (counter_use q) 0) same
+passes_kept s n (asked.Ack a b) p h e = let same : p ≡ End (plain_setting.tag a b) = cc in ap (λ q. passes_after (counter_use q) 0) same
 passes_kept s n (asked.Restore a b) p h e = absurd h
 passes_kept s n (asked.Requeue a b) p h e = absurd h
 passes_kept s n (asked.Pass v) p h e = absurd h
 
 module _ (past : Past) (m t : Shelf) (c s n : ℕ) (l : Left) (a : Asked) (found : get m c ≡ Some (record { seed = s; drawn = n; left = l })) (on : is_off (script_left l) ≡ false) (free : has_more (script_left l) ≡ false) where
-  abbrev before : Desk
+  abbrev before : ScheduleReader
   before = desk_with past (books_of m)
 
   abbrev there : desk.Book
@@ -103,10 +103,10 @@ module _ (past : Past) (m t : Shelf) (c s n : ℕ) (l : Left) (a : Asked) (found
   unprepared f (Err g) e h p = subst (λ x. IsTold (begin_led before c a (get (books_of m) c)) before before (Err x)) (sym h) (prepared_told f p)
 
   -- the book of a client that begins a plan
-  book_begun : (b : Begun) (p : Plan) → passed (kind_of p) 0 ≡ 0 → IsBegun s n p b → begun plain_setting there p ≡ book_of (record { seed = s; drawn = b.drawn; left = b.left })
+  book_begun : (b : Begun) (p : Plan) → passes_after (counter_use p) 0 ≡ 0 → IsBegun s n p b → begun plain_setting there p ≡ book_of (record { seed = s; drawn = b.drawn; left = b.left })
   book_begun b p e h =
       let x : desk.Book = record { seed = s; drawn = b.drawn; passes = 0; left = script_left b.left; stopped = false } in
-      ap (λ (q : ℕ). record x { drawn = drawn (kind_of p) n; passes = q; left = script_of plain_setting s 0 p }) e
+      ap (λ (q : ℕ). record x { drawn = drawn (counter_use p) n; passes = q; left = script_of plain_setting s 0 p }) e
       ∙ ap (λ (q : ℕ). record x { drawn = q; left = script_of plain_setting s 0 p }) (sym h.1)
       ∙ ap (λ (q : Script). record x { left = q }) (sym h.0)
 
@@ -118,6 +118,6 @@ module _ (past : Past) (m t : Shelf) (c s n : ℕ) (l : Left) (a : Asked) (found
       let books : insert (books_of m) c (begun plain_setting there p) ≡ books_of t =
       ap (insert (books_of m) c) (book_begun b p (passes_kept s (suc n) a p built plan) h) ∙ sym (ap books_of grown ∙ books_of-insert m c k) in
       ap (led_unless program_craft before (Begin c a)) (reason_is ∙ none)
-      ∙ ap (λ o. with_plan program_craft before c o (plan_of program_craft (seed_of o) (counter_of o) a)) book_found
+      ∙ ap (λ o. with_plan program_craft before c o (plan_of program_craft (client_seed o) (counter_of o) a)) book_found
       ∙ ap (with_plan program_craft before c (Some there)) plan
       ∙ ap (λ bs. Went (desk_with past bs)) books

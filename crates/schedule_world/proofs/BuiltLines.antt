@@ -8,7 +8,7 @@ use Rattle.line_text.specs.Numbers.{moment_in, number_in, tag_in}
 use Rattle.line_text.specs.Words.{is_word}
 use Rattle.queue_keys.specs.Names.{Bytes}
 use Rattle.schedule_model.specs.Built.{block_waits, publication_waits, waits, workers}
-use Rattle.schedule_model.specs.Lines.{asked_in, at_line, begin_line, client_in, client_line, dashed_in, line_in, name_in, of_client, publish_in, queues_in, seed_in, tagged_in, with_four, with_two}
+use Rattle.schedule_model.specs.Lines.{asked_in, at_line, begin_line, client_in, client_line, dashed_in, line_in, name_in, of_client, publish_in, queues_in, seed_in, tagged_in, made_of_four, made_of_two}
 use Rattle.schedule_model.specs.declared.line.Asked.{Asked}
 use Rattle.schedule_model.specs.declared.line.Asked.TheVariants.{Ack, Pop, Publish}
 use Rattle.schedule_model.specs.declared.line.Line.{Line}
@@ -41,7 +41,7 @@ built_block a b h e = subst IsBuiltBlock (block_same a b e) h
 
 -- a publication, by whether its exchange is a dash
 publish_by : (d : Bool) (x k : Option Bytes) (p : Option ℕ) (t : Option Bytes) (j : Bytes) (a : Asked) → not d ≡ false
-    → with_four (λ x k p t. Publish x k p t j) (if d then Some [] else x) k p t ≡ Some a → IsBuiltBlock a
+    → made_of_four (λ x k p t. Publish x k p t j) (if d then Some [] else x) k p t ≡ Some a → IsBuiltBlock a
 publish_by false x k p t j a h e = absurd (true_false h)
 publish_by true x None p t j a h e = no_block a e
 publish_by true x (Some k) None t j a h e = no_block a e
@@ -92,7 +92,7 @@ asked_by false false false w ws a f g h waiting e = absurd (true_false waiting)
 
 -- ---- lines
 
-client_by : (k : Bool) (c s : Option ℕ) (l : Line) → (if k then with_two Client c s else None) ≡ Some l → IsBuiltLine l
+client_by : (k : Bool) (c s : Option ℕ) (l : Line) → (if k then made_of_two Client c s else None) ≡ Some l → IsBuiltLine l
 client_by false c s l e = no_line l e
 client_by true None s l e = no_line l e
 client_by true (Some c) None l e = no_line l e
@@ -120,7 +120,7 @@ of_built f [] l h e = no_line l e
 of_built f (c ∷ []) l h e = one_by f (client_in c) l h e
 of_built f (c ∷ w ∷ ws) l h e = no_line l e
 
-begin_by : (c : Option ℕ) (o : Option Asked) (l : Line) → ((a : Asked) → o ≡ Some a → IsBuiltBlock a) → with_two Begin c o ≡ Some l → IsBuiltLine l
+begin_by : (c : Option ℕ) (o : Option Asked) (l : Line) → ((a : Asked) → o ≡ Some a → IsBuiltBlock a) → made_of_two Begin c o ≡ Some l → IsBuiltLine l
 begin_by None o l h e = no_line l e
 begin_by (Some c) None l h e = no_line l e
 begin_by (Some c) (Some a) l h e = built_line (Begin c a) l (h a refl) e

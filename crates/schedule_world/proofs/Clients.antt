@@ -8,7 +8,7 @@ use Rattle.line_text.specs.declared.reason.Reason.TheVariants.{Repeated, Stopped
 use Rattle.command_blocks.specs.Scripts.{Over}
 use Rattle.place_model.specs.Shown.{history_of}
 use Rattle.schedule_model.specs.Desk as desk
-use Rattle.schedule_model.specs.Desk.{Desk, with_client}
+use Rattle.schedule_model.specs.Desk.{ScheduleReader, reader_with_client}
 use Rattle.schedule_model.specs.Faults.{has_number}
 use Rattle.schedule_model.specs.Programs.{program_craft}
 use Rattle.schedule_model.specs.Schedules.{Bad, Went, led_unless}
@@ -28,19 +28,19 @@ use Rattle.schedule_world.specs.declared.past.Past.{Past}
 abbrev pub client_reason : Bool → Bool → Option Reason
 client_reason g b = if g then Some Stopped else if b then Some Repeated else None
 
-pub stopped_led : (d : Desk) (c s : ℕ) (g b : Bool) → g ≡ true → led_unless program_craft d (Client c s) (client_reason g b) ≡ Bad Stopped
+pub stopped_led : (d : ScheduleReader) (c s : ℕ) (g b : Bool) → g ≡ true → led_unless program_craft d (Client c s) (client_reason g b) ≡ Bad Stopped
 stopped_led d c s g b e = ap (λ t. led_unless program_craft d (Client c s) (client_reason t b)) e
 
-pub repeated_led : (d : Desk) (c s : ℕ) (g b : Bool) → g ≡ false → b ≡ true → led_unless program_craft d (Client c s) (client_reason g b) ≡ Bad Repeated
+pub repeated_led : (d : ScheduleReader) (c s : ℕ) (g b : Bool) → g ≡ false → b ≡ true → led_unless program_craft d (Client c s) (client_reason g b) ≡ Bad Repeated
 repeated_led d c s g b e f = ap (λ t. led_unless program_craft d (Client c s) (client_reason t b)) e ∙ ap (λ t. led_unless program_craft d (Client c s) (client_reason false t)) f
 
-pub client_led : (d : Desk) (c s : ℕ) (g b : Bool) → g ≡ false → b ≡ false → led_unless program_craft d (Client c s) (client_reason g b) ≡ Went (with_client d c s)
+pub client_led : (d : ScheduleReader) (c s : ℕ) (g b : Bool) → g ≡ false → b ≡ false → led_unless program_craft d (Client c s) (client_reason g b) ≡ Went (reader_with_client d c s)
 client_led d c s g b e f = ap (λ t. led_unless program_craft d (Client c s) (client_reason t b)) e ∙ ap (λ t. led_unless program_craft d (Client c s) (client_reason false t)) f
 
 -- a client more at a desk
 pub added : (p p' : Past) (m t : Shelf) (c s : ℕ) (l : Left) → script_left l ≡ Over → t ≡ insert m c (record { seed = s; drawn = 0; left = l })
     → ((bs : FinMap nat_cmp desk.Book) → desk_with p' bs ≡ record (desk_with p bs) { clients = (history_of p.history).clients ++ (c, s) ∷ [] })
-    → with_client (desk_with p (books_of m)) c s ≡ desk_with p' (books_of t)
+    → reader_with_client (desk_with p (books_of m)) c s ≡ desk_with p' (books_of t)
 added p p' m t c s l over e grown =
     let k : Book = record { seed = s; drawn = 0; left = l } in
     let same : books_of t ≡ insert (books_of m) c (record { seed = s; drawn = 0; passes = 0; left = Over; stopped = false }) =

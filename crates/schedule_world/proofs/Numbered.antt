@@ -3,7 +3,7 @@ use Rattle.std.proofs.Common.{◌≡◌, ℕ, ◌+◌, ◌∙◌, Bool, true, fa
 use Rattle.std.specs.Borrow.{Bor}
 use Rattle.line_text.specs.Lines.{numbered, text_fault}
 use Rattle.queue_keys.specs.Names.{Bytes}
-use Rattle.schedule_model.specs.Desk.{Desk, first_desk}
+use Rattle.schedule_model.specs.Desk.{ScheduleReader, first_desk}
 use Rattle.schedule_model.specs.Faults.{Craft}
 use Rattle.schedule_model.specs.Schedules.{Led, Went, Filled, header_led, header_on, last_led, led_on, line_led, lines_led}
 use Rattle.schedule_model.specs.Schedules as schedules
@@ -12,12 +12,12 @@ use Rattle.schedule_world.specs.declared.run.Ran.{Ran}
 use Rattle.schedule_world.specs.declared.run.RunFault.{RunFault}
 
 -- how it goes on depends on what the desks determine
-gone_on : (n : ℕ) (f g : Desk → schedules.Determined) (x : Led) → ((e : Desk) → f e ≡ g e) → led_on f n x ≡ led_on g n x
+gone_on : (n : ℕ) (f g : ScheduleReader → schedules.Determined) (x : Led) → ((e : ScheduleReader) → f e ≡ g e) → led_on f n x ≡ led_on g n x
 gone_on n f g (Went e) same = same e
 gone_on n f g (Filled e) same = refl
 gone_on n f g (schedules.Bad r) same = refl
 
-pub lines_numbered : (κ : Craft) (cut : Bool) (n : ℕ) (d : Desk) (ls : List Bytes) → lines_led κ cut n d ls ≡ numbered_led κ cut d (numbered n ls)
+pub lines_numbered : (κ : Craft) (cut : Bool) (n : ℕ) (d : ScheduleReader) (ls : List Bytes) → lines_led κ cut n d ls ≡ numbered_led κ cut d (numbered n ls)
 lines_numbered κ cut n d [] = refl
 lines_numbered κ cut n d (l ∷ []) = refl
 lines_numbered κ cut n d (l ∷ m ∷ ls) = gone_on n (λ e. lines_led κ cut (n + 1) e (m ∷ ls)) (λ e. numbered_led κ cut e (numbered (n + 1) (m ∷ ls))) (line_led κ d l) (λ e. lines_numbered κ cut (n + 1) e (m ∷ ls))
@@ -72,7 +72,7 @@ past_else true flag more p r = absurd (cc)
 past_else false flag more p r = r
 
 -- the answer of the lines behind the header is that of the text
-pub behind_header : (κ : Craft) (cut flag : Bool) (d : Desk) (first : Option (ℕ × Bor Bytes)) (mid rest : List (ℕ × Bytes)) (ls : List Bytes) (n : ℕ) (h : Bytes) (result : Result Ran RunFault)
+pub behind_header : (κ : Craft) (cut flag : Bool) (d : ScheduleReader) (first : Option (ℕ × Bor Bytes)) (mid rest : List (ℕ × Bytes)) (ls : List Bytes) (n : ℕ) (h : Bytes) (result : Result Ran RunFault)
     → numbered 1 ls ≡ (n, h) ∷ mid → MatchOption first ((mid ≡ []) × (rest ≡ [])) (λ x. mid ≡ (x.0, x.1.now) ∷ rest) → flag ≡ is_past cut (from_present first rest)
     → last_led flag (header_led h (text_fault 65536 h)) ≡ Went first_desk → d ≡ first_desk → HasRun (numbered_led κ cut d (from_present first rest)) result → HasRun (header_on κ cut ls) result
 behind_header κ cut flag d first mid rest ls n h result is given past went fresh run =

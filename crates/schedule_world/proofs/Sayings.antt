@@ -5,7 +5,7 @@ use Rattle.store_model.specs.Store.{apply_of}
 use Rattle.store_model.specs.Words.{Words}
 use Rattle.command_blocks.specs.Scripts.{Script, Over, Off, Say, next_words}
 use Rattle.schedule_model.specs.Costs.{is_full}
-use Rattle.schedule_model.specs.Desk.{Desk, Said, said_all, said_one, with_call}
+use Rattle.schedule_model.specs.Desk.{ScheduleReader, Said, said_all, said_one, with_call}
 use Rattle.schedule_model.specs.Faults.{has_more}
 use Rattle.schedule_world.specs.Lefts.{after_answer}
 
@@ -21,19 +21,19 @@ same_some x y e = ap (λ o. unwrap_or o x) e
 -- ---- one command
 
 -- where none is left
-pub said_none : (d : Desk) (c at : ℕ) (s : Script) → next_words s at ≡ None → said_one d c s ≡ record { desk = d; left = s; room = true }
+pub said_none : (d : ScheduleReader) (c at : ℕ) (s : Script) → next_words s at ≡ None → said_one d c s ≡ record { desk = d; left = s; room = true }
 said_none d c at Over e = refl
 said_none d c at Off e = refl
 said_none d c at (Say w go) e = absurd (none_some (sym e))
 
 -- where the history has no room
-pub said_full : (d : Desk) (c at : ℕ) (s : Script) (ws : Words) → next_words s at ≡ Some ws → is_full d.entries ≡ true → said_one d c s ≡ record { desk = d; left = s; room = false }
+pub said_full : (d : ScheduleReader) (c at : ℕ) (s : Script) (ws : Words) → next_words s at ≡ Some ws → is_full d.entries ≡ true → said_one d c s ≡ record { desk = d; left = s; room = false }
 said_full d c at Over ws e full = absurd (none_some e)
 said_full d c at Off ws e full = absurd (none_some e)
 said_full d c at (Say w go) ws e full = let r = apply_of d.store d.moment c (w d.moment) in ap (λ b. cond b (record { desk = d; left = Say w go; room = false }) (record { desk = with_call d c (w d.moment) r; left = go r.1.answer; room = true })) full
 
 -- where it has
-pub said_next : (d : Desk) (c : ℕ) (s : Script) (ws : Words) → next_words s d.moment ≡ Some ws → is_full d.entries ≡ false
+pub said_next : (d : ScheduleReader) (c : ℕ) (s : Script) (ws : Words) → next_words s d.moment ≡ Some ws → is_full d.entries ≡ false
     → said_one d c s ≡ record { desk = with_call d c ws (apply_of d.store d.moment c ws); left = after_answer s (apply_of d.store d.moment c ws).1.answer; room = true }
 said_next d c Over ws e room = absurd (none_some e)
 said_next d c Off ws e room = absurd (none_some e)
@@ -65,7 +65,7 @@ stood_still true f g k room h = refl
 stood_still false f g k room h = absurd (false_true (sym h ∙ room))
 
 -- after a command that had room
-pub said_on : (d : Desk) (c : ℕ) (s : Script) (t : Said) → has_more s ≡ true → said_one d c s ≡ t → t.room ≡ true → said_all d c s ≡ said_all t.desk c t.left
+pub said_on : (d : ScheduleReader) (c : ℕ) (s : Script) (t : Said) → has_more s ≡ true → said_one d c s ≡ t → t.room ≡ true → said_all d c s ≡ said_all t.desk c t.left
 said_on d c Over t more e room = absurd (false_true more)
 said_on d c Off t more e room = absurd (false_true more)
 said_on d c (Say w go) t more e room =
@@ -74,7 +74,7 @@ said_on d c (Say w go) t more e room =
     ∙ ap (λ t. said_all t.desk c t.left) e
 
 -- where a command has no room
-pub said_stuck : (d : Desk) (c : ℕ) (s : Script) (t : Said) → said_one d c s ≡ t → t.room ≡ false → said_all d c s ≡ t
+pub said_stuck : (d : ScheduleReader) (c : ℕ) (s : Script) (t : Said) → said_one d c s ≡ t → t.room ≡ false → said_all d c s ≡ t
 said_stuck d c Over t e room = e
 said_stuck d c Off t e room = e
 said_stuck d c (Say w go) t e room =
@@ -83,7 +83,7 @@ said_stuck d c (Say w go) t e room =
     ∙ e
 
 -- where nothing is left
-pub said_whole : (d : Desk) (c : ℕ) (s : Script) → has_more s ≡ false → said_all d c s ≡ record { desk = d; left = s; room = true }
+pub said_whole : (d : ScheduleReader) (c : ℕ) (s : Script) → has_more s ≡ false → said_all d c s ≡ record { desk = d; left = s; room = true }
 said_whole d c Over h = refl
 said_whole d c Off h = refl
 said_whole d c (Say w go) h = absurd (false_true (sym h))

@@ -3,7 +3,7 @@ use Rattle.std.proofs.Common.{◌≡◌, ◌<◌, ◌≤◌, ap, List, [], ◌�
 use Rattle.std.proofs.lemmas.Grind.{common_steps}
 use Rattle.std.specs.List.{join_with_byte}
 use Rattle.line_text.specs.Numbers.{number_in}
-use Rattle.schedule_model.specs.Lines.{begin_line, client_line, dashed_in, name_in, publish_in, with_four}
+use Rattle.schedule_model.specs.Lines.{begin_line, client_line, dashed_in, name_in, publish_in, made_of_four}
 use Rattle.schedule_model.specs.declared.line.Asked.TheVariants.{Publish}
 use Rattle.schedule_model.specs.declared.line.Asked.{Asked}
 use Rattle.schedule_model.specs.declared.line.Line.{Line}
@@ -35,6 +35,6 @@ few_more f x k (a ∷ []) h = refl
 few_more f x k (a ∷ b ∷ ws) h = absurd (grind (arith, common_steps, h))
 
 -- a publication, by its words and its arguments
-pub publish_whole : {A : Type 0} (f : A → List ℕ) (ws : List A) (x k p t args : List ℕ) → 1 ≤ length ws → args ≡ join_with_byte 32 (map f ws) → with_four (λ x k p t. Publish x k p t args) (dashed_in x) (dashed_in k) (number_in 0 255 p) (name_in t) ≡ publish_in (x ∷ k ∷ p ∷ t ∷ map f ws)
+pub publish_whole : {A : Type 0} (f : A → List ℕ) (ws : List A) (x k p t args : List ℕ) → 1 ≤ length ws → args ≡ join_with_byte 32 (map f ws) → made_of_four (λ x k p t. Publish x k p t args) (dashed_in x) (dashed_in k) (number_in 0 255 p) (name_in t) ≡ publish_in (x ∷ k ∷ p ∷ t ∷ map f ws)
 publish_whole f [] x k p t args h e = absurd (grind (arith, common_steps, h))
-publish_whole f (w ∷ ws) x k p t args h e = ap (λ j. with_four (λ x k p t. Publish x k p t j) (dashed_in x) (dashed_in k) (number_in 0 255 p) (name_in t)) e
+publish_whole f (w ∷ ws) x k p t args h e = ap (λ j. made_of_four (λ x k p t. Publish x k p t j) (dashed_in x) (dashed_in k) (number_in 0 255 p) (name_in t)) e

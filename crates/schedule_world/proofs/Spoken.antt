@@ -7,10 +7,10 @@ use Rattle.std.specs.declared.alloc.AllocError.{AllocError}
 use Rattle.line_text.specs.declared.reason.Reason.{Reason}
 use Rattle.line_text.specs.declared.reason.Reason.TheVariants.{Idle}
 use Rattle.schedule_model.specs.Desk as desk
-use Rattle.schedule_model.specs.Desk.{Desk, said_all, said_one}
+use Rattle.schedule_model.specs.Desk.{ScheduleReader, said_all, said_one}
 use Rattle.schedule_model.specs.Faults.{first_reason, has_number, is_busy, present_tests}
 use Rattle.schedule_model.specs.Programs.{program_craft}
-use Rattle.schedule_model.specs.Schedules.{Led, Went, Filled, heard, led_unless, run_through, stepped}
+use Rattle.schedule_model.specs.Schedules.{Led, Went, Filled, reader_after, led_unless, run_through, stepped}
 use Rattle.schedule_model.specs.Schedules as schedules
 use Rattle.schedule_model.specs.declared.line.Line.{Line}
 use Rattle.schedule_model.specs.declared.line.Line.TheVariants.{Run, Step}
@@ -37,26 +37,26 @@ abbrev pub idle_reason : Option desk.Book → Option Reason
 idle_reason b = first_reason (present_tests b ++ (not (is_busy b), Idle) ∷ [])
 
 -- a line that is bad
-pub told_bad : (l : Led) (d e : Desk) (r : Result (Unit {0}) LineFault) (why : Reason) → IsErr r → IsErrAnd r (λ f. f ≡ Bad why) → l ≡ schedules.Bad why → e ≡ d → IsTold l d e r
+pub told_bad : (l : Led) (d e : ScheduleReader) (r : Result (Unit {0}) LineFault) (why : Reason) → IsErr r → IsErrAnd r (λ f. f ≡ Bad why) → l ≡ schedules.Bad why → e ≡ d → IsTold l d e r
 told_bad l d e (Ok u) why h g led same = absurd (false_true h)
 told_bad l d e (Err f) why h g led same = subst (λ x. IsTold l d e (Err x)) (sym g) (led, same)
 
 -- a client that can't go on
-pub idle_led : (d : Desk) (m : Shelf) (c : ℕ) (l : Line) (r : Reason) → idle_reason (option_map book_of (get m c)) ≡ Some r → led_unless program_craft d l (idle_reason (get (books_of m) c)) ≡ schedules.Bad r
+pub idle_led : (d : ScheduleReader) (m : Shelf) (c : ℕ) (l : Line) (r : Reason) → idle_reason (option_map book_of (get m c)) ≡ Some r → led_unless program_craft d l (idle_reason (get (books_of m) c)) ≡ schedules.Bad r
 idle_led d m c l r h = ap (λ b. led_unless program_craft d l (idle_reason b)) (get-books_of m c) ∙ ap (led_unless program_craft d l) h
 
 -- a line after which the history may have lacked room
-pub told_room : (l : Led) (d e : Desk) (room : Bool) (r : Result (Unit {0}) LineFault) → l ≡ (if room then Went e else Filled e) → IsRoom e room r → IsTold l d e r
+pub told_room : (l : Led) (d e : ScheduleReader) (room : Bool) (r : Result (Unit {0}) LineFault) → l ≡ (if room then Went e else Filled e) → IsRoom e room r → IsTold l d e r
 told_room l d e room (Ok u) h q = h ∙ ap (λ b. if b then Went e else Filled e) q
 told_room l d e room (Err (Bad w)) h q = absurd q
 told_room l d e room (Err (Full n k)) h q = (h ∙ ap (λ b. if b then Went e else Filled e) q.0, q.1, q.2)
 told_room l d e room (Err Memory) h q = absurd q
 
 module _ (p p' : Past) (m n : Shelf) (c : ℕ) (k : Book) (l : Left) (room : Bool) (found : get m c ≡ Some k) (free : idle_reason (option_map book_of (get m c)) ≡ None) (grown : n ≡ insert (remove m c) c (record { seed = k.seed; drawn = k.drawn; left = l })) where
-  abbrev before : Desk
+  abbrev before : ScheduleReader
   before = desk_with p (books_of m)
 
-  abbrev after : Desk
+  abbrev after : ScheduleReader
   after = desk_with p' (books_of n)
 
   book_found : get (books_of m) c ≡ Some (book_of k)
@@ -68,8 +68,8 @@ module _ (p p' : Past) (m n : Shelf) (c : ℕ) (k : Book) (l : Left) (room : Boo
   books_grown : insert (books_of m) c (book_of (record { seed = k.seed; drawn = k.drawn; left = l })) ≡ books_of n
   books_grown = sym (ap books_of grown ∙ books_of_again m c (record { seed = k.seed; drawn = k.drawn; left = l }))
 
-  heard_so : (s : desk.Said) → s ≡ record { desk = desk_with p' (books_of m); left = script_left l; room = room } → heard c (book_of k) s ≡ (if room then Went after else Filled after)
-  heard_so s said = ap (heard c (book_of k)) said ∙ ap (λ b. if room then Went (desk_with p' b) else Filled (desk_with p' b)) books_grown
+  heard_so : (s : desk.Said) → s ≡ record { desk = desk_with p' (books_of m); left = script_left l; room = room } → reader_after c (book_of k) s ≡ (if room then Went after else Filled after)
+  heard_so s said = ap (reader_after c (book_of k)) said ∙ ap (λ b. if room then Went (desk_with p' b) else Filled (desk_with p' b)) books_grown
 
   -- one command more
   pub step_led : said_one before c (script_left k.left) ≡ record { desk = desk_with p' (books_of m); left = script_left l; room = room } → led_unless program_craft before (Step c) (idle_reason (get (books_of m) c)) ≡ (if room then Went after else Filled after)

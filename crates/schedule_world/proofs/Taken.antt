@@ -9,7 +9,7 @@ use Rattle.line_text.specs.declared.reason.Reason.TheVariants.{Moment}
 use Rattle.command_blocks.specs.EnvelopeTexts.{plain_setting}
 use Rattle.queue_keys.specs.Names.{Bytes, is_reserved}
 use Rattle.command_blocks.specs.Scripts.{Pop, Publish, pop_script, publish_script}
-use Rattle.schedule_model.specs.Desk.{Desk}
+use Rattle.schedule_model.specs.Desk.{ScheduleReader}
 use Rattle.schedule_model.specs.Drafts.{arguments_of, sealed_task}
 use Rattle.schedule_model.specs.Faults.{has_number, is_empty, is_gone, is_no_name}
 use Rattle.schedule_model.specs.Programs.{program_craft}
@@ -41,7 +41,7 @@ pub in_time : (m k : ℕ) → m < 2 ^ 40 → k ≤ m → (nat_le (2 ^ 40) m || n
 in_time m k a b = grind (arith, nat_tests)
 
 -- a moment's line without a fault
-pub at_led : (d : Desk) (m : ℕ) (b : Bool) → b ≡ false → led_unless program_craft d (At m) (if b then Some Moment else None) ≡ Went (record d { moment = m })
+pub at_led : (d : ScheduleReader) (m : ℕ) (b : Bool) → b ≡ false → led_unless program_craft d (At m) (if b then Some Moment else None) ≡ Went (record d { moment = m })
 at_led d m b e = ap (λ t. led_unless program_craft d (At m) (if t then Some Moment else None)) e
 
 -- whether a client is put off, by its book

@@ -2,7 +2,7 @@
 use Rattle.std.specs.Prelude.{◌≡◌, ◌≤◌, ℕ, suc, length, [], Result, Ok, Err, None, Some}
 use Rattle.command_blocks.specs.Blocks.{drawn}
 use Rattle.command_blocks.specs.EnvelopeTexts.{plain_setting}
-use Rattle.command_blocks.specs.Scripts.{Plan, kind_of, script_of}
+use Rattle.command_blocks.specs.Scripts.{Plan, counter_use, script_of}
 use Rattle.schedule_model.specs.Faults.{asked_tests, first_reason}
 use Rattle.schedule_model.specs.Programs.{program_craft}
 use Rattle.schedule_model.specs.Schedules.{plan_of}
@@ -30,7 +30,7 @@ IsBuiltLine other = Unit {0}
 
 -- what is begun by the plan of a client of this seed that drew n tags
 abbrev pub IsBegun : ℕ → ℕ → Plan → Begun → Type 0
-IsBegun s n p b = (script_left b.left ≡ script_of plain_setting s 0 p) × (b.drawn ≡ drawn (kind_of p) n)
+IsBegun s n p b = (script_left b.left ≡ script_of plain_setting s 0 p) × (b.drawn ≡ drawn (counter_use p) n)
 
 -- an answer to what a client of this seed that drew n tags asks to begin: its plan is begun, or the first of its tests that holds; want of memory may be answered at any time
 abbrev pub IsPrepared : ℕ → ℕ → Asked → Result Begun LineFault → Type 0

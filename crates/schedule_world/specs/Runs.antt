@@ -10,7 +10,7 @@ use Rattle.schedule_world.specs.declared.fault.LineFault.TheVariants as line
 use Rattle.schedule_world.specs.declared.run.Ran.{Ran}
 use Rattle.schedule_world.specs.declared.run.RunFault.{RunFault}
 use Rattle.schedule_world.specs.declared.run.RunFault.TheVariants.{Bad, Full, Memory}
-use Rattle.schedule_model.specs.Desk.{Desk, first_desk}
+use Rattle.schedule_model.specs.Desk.{ScheduleReader, first_desk}
 pub use Rattle.schedule_model.specs.EachPlaced.{IsEachPlaced}
 use Rattle.schedule_model.specs.Faults.{Craft}
 use Rattle.schedule_model.specs.Programs.{program_craft}
@@ -19,14 +19,14 @@ use Rattle.schedule_model.specs.Schedules as schedules
 
 -- an answer to what a schedule determines: its history, its first bad line, or the numbers of a full history; want of memory may be answered at any time
 abbrev pub IsRun : Determined → Result code.History RunFault → Type 0
-IsRun r (Ok h) = (d : Desk) × (r ≡ Whole d) × (schedules.history_of d ≡ history_of h)
+IsRun r (Ok h) = (d : ScheduleReader) × (r ≡ Whole d) × (schedules.history_of d ≡ history_of h)
 IsRun r (Err (Bad b)) = r ≡ Bad_line b.line b.reason
 IsRun r (Err (Full n cost)) = r ≡ schedules.Full n cost
 IsRun r (Err Memory) = Unit {0}
 
 -- the same of a run's end, whose store is that of the desk
 abbrev pub HasRun : Determined → Result Ran RunFault → Type 0
-HasRun r (Ok ran) = (d : Desk) × (r ≡ Whole d) × (schedules.history_of d ≡ history_of ran.history) × (d.store ≡ ran.store.state)
+HasRun r (Ok ran) = (d : ScheduleReader) × (r ≡ Whole d) × (schedules.history_of d ≡ history_of ran.history) × (d.store ≡ ran.store.state)
 HasRun r (Err (Bad b)) = r ≡ Bad_line b.line b.reason
 HasRun r (Err (Full n cost)) = r ≡ schedules.Full n cost
 HasRun r (Err Memory) = Unit {0}
@@ -41,7 +41,7 @@ abbrev pub IsAnswer : Bytes → Result code.History RunFault → Type 0
 IsAnswer bytes result = IsRun (schedule_run program_craft bytes) result
 
 -- what numbered lines determine; the mark tells whether the input goes on past its limit
-abbrev pub numbered_led : Craft → Bool → Desk → List (ℕ × Bytes) → Determined
+abbrev pub numbered_led : Craft → Bool → ScheduleReader → List (ℕ × Bytes) → Determined
 numbered_led κ cut d [] = Whole d
 numbered_led κ cut d ((n, l) ∷ []) = led_on Whole n (last_led cut (line_led κ d l))
 numbered_led κ cut d ((n, l) ∷ m ∷ ls) = led_on (λ e. numbered_led κ cut e (m ∷ ls)) n (line_led κ d l)

@@ -1,7 +1,7 @@
 //! What a line of a schedule begins, as its words spell it.
 ghost use Rattle.std.specs.Prelude.{◌≡◌, ◌∷◌, IfOk, List, map, option_map, ℕ};
 ghost use Rattle.line_text.specs.Numbers.{number_in};
-ghost use Rattle.schedule_model.specs.Lines.{asked_in, dashed_in, declare_in, name_in, pass_in, publish_in, queues_in, tagged_in, with_four, with_one};
+ghost use Rattle.schedule_model.specs.Lines.{asked_in, dashed_in, declare_in, name_in, pass_in, publish_in, queues_in, tagged_in, made_of_four, made_of_one};
 ghost use Rattle.schedule_world.specs.Bindings.{bound};
 ghost use Rattle.schedule_model.specs.declared.line.Asked.{Asked as Begun};
 ghost use Rattle.schedule_model.specs.declared.line.Asked.TheVariants.{Ack, Declare, Pop, Publish, Requeue, Restore, Undeclare};
@@ -100,7 +100,7 @@ fn publication(
     task: &str,
     arguments: Bytes,
 ) -> Result<Option<Asked>, AllocError>
-    ensures { IfOk result (λ found. found ≡ with_four (λ x k p t. Publish x k p t arguments)
+    ensures { IfOk result (λ found. found ≡ made_of_four (λ x k p t. Publish x k p t arguments)
         (dashed_in exchange.now) (dashed_in routing_key.now)
         (number_in 0 255 priority.now) (name_in task.now)) }
 {
@@ -192,7 +192,7 @@ fn made_binding(
     queue: &str,
 ) -> Result<Option<Binding>, AllocError>
     ensures { IfOk result (λ found. (f : List ℕ → List ℕ → List ℕ → List ℕ → Begun)
-        → with_four f (name_in exchange.now) (dashed_in routing_key.now)
+        → made_of_four f (name_in exchange.now) (dashed_in routing_key.now)
         (dashed_in pattern.now) (name_in queue.now) ≡ option_map (bound f) found) }
 {
     let Some(exchange) = name_in(alloc, exchange)? else {
@@ -218,7 +218,7 @@ fn made_binding(
 /// The queues of a pop.
 fn pop_in(alloc: Global, words: &[&str]) -> Result<Option<Asked>, AllocError>
     ensures { IfOk result (λ found. found
-        ≡ with_one Pop (queues_in (map (λ word. word.now) words.now))) }
+        ≡ made_of_one Pop (queues_in (map (λ word. word.now) words.now))) }
 {
     let Some(queues) = queues_in(alloc, words)? else {
         return Ok(None);

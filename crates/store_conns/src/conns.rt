@@ -1,5 +1,5 @@
 //! What the store knows of its connections.
-ghost use Rattle.store_model.specs.Connections.{Conns, broken_queue, cleared, conn, delivered, longer_queue, queue_length, with_broken, with_command, hearing, hears, hit, no_conn, told, touch, touch_due, touched};
+ghost use Rattle.store_model.specs.Connections.{Conns, broken_queue, cleared, conn, delivered, longer_queue, queue_length, with_broken, with_command, hearing, hears, hit, no_conn, reached, touch, touch_due, touched};
 ghost use Rattle.store_model.specs.Keys.{due_keys};
 ghost use Rattle.store_model.specs.Replies.{message};
 ghost use Rattle.std.specs.BTreeMap.{IsOrdered};
@@ -256,7 +256,7 @@ fn message(alloc: Global, channel: &Bytes, text: &Bytes) -> Result<Value, AllocE
 
 // The connection with the message pending, where it reaches it.
 fn tell(alloc: Global, mut known: Conn, channel: &Bytes, text: &Bytes) -> Result<Conn, AllocError>
-    ensures { IfOk result (λ c. c ≡ told channel.now text.now known) }
+    ensures { IfOk result (λ c. c ≡ reached channel.now text.now known) }
 {
     if hears(&known, channel) {
         known.pending.push(message(alloc, channel, text)?)?;

@@ -10,7 +10,7 @@ use Rattle.std.specs.FinMap.Entries.{find}
 use Rattle.wire_values.specs.Order.{bytes_cmp}
 use Rattle.store_tables.proofs.Maps.{bytes_total, bytes_anti}
 use Rattle.store_model.specs.Words.{Bytes}
-use Rattle.store_model.specs.Keys.{Keys, is_due, is_over, due_keys, live_at}
+use Rattle.store_model.specs.Keys.{Keys, is_expired, is_over, due_keys, live_at}
 use Rattle.store_keys.specs.Expiries.{end_by, end_at, EndsFrom, AllEndFrom, IsCalm}
 use Rattle.store_model.specs.Connections.{Conns, touch, touched}
 use Rattle.store_model.specs.Store.{State, settled}
@@ -69,7 +69,7 @@ not_over : (at n : ℕ) (x : Option ℕ) → at < n → n ≤ end_by n x → is_
 not_over at n None h g = refl
 not_over at n (Some e) h g = lt-leb e at (omega arith)
 
-not_due : (at n : ℕ) (o : Option Held) → at < n → n ≤ end_at n o → is_due at o ≡ false
+not_due : (at n : ℕ) (o : Option Held) → at < n → n ≤ end_at n o → is_expired at o ≡ false
 not_due at n None h g = refl
 not_due at n (Some x) h g = not_over at n x.expiry h g
 
@@ -78,7 +78,7 @@ calm_before at n m h g = λ k. not_due at n (get m k) h (g k)
 
 live_calm : (at : ℕ) (m : Keys) → IsCalm at m → live_at at m ≡ m
 live_calm at m h = same_map bytes_total bytes_anti _ _ (λ q.
-    get-retain_keys m (λ k. not (is_due at (get m k))) q (λ x t. ap (λ y. not (is_due at (get m y))) (sym (bytes_anti q x t)))
+    get-retain_keys m (λ k. not (is_expired at (get m k))) q (λ x t. ap (λ y. not (is_expired at (get m y))) (sym (bytes_anti q x t)))
     ∙ ap (λ b. cond (not b) (get m q) None) (h q))
 
 unmarked : (b : Bool) → (b || false) ≡ b
@@ -91,7 +91,7 @@ same_conn c b e = (λ i. record c { marked = c.marked || e i }) ∙ (λ i. recor
 untouched : (at : ℕ) (m : Keys) (c : Conn) → IsCalm at m → touch (due_keys at (entries m)) c ≡ c
 untouched at m c h =
     sym (touch_due_is at m c)
-    ∙ same_conn c (list_any (λ k. is_due at (get m k)) c.watched) (any_same (λ k. is_due at (get m k)) (λ k. false) c.watched h ∙ any_false c.watched)
+    ∙ same_conn c (list_any (λ k. is_expired at (get m k)) c.watched) (any_same (λ k. is_expired at (get m k)) (λ k. false) c.watched h ∙ any_false c.watched)
 
 map_same : (f : Conn → Conn) → ((c : Conn) → f c ≡ c) → (es : List (ℕ × Conn)) → map (λ e. (e.0, f e.1)) es ≡ es
 map_same f h [] = refl

@@ -15,7 +15,7 @@ use Rattle.wire_values.specs.Order.{bytes_cmp}
 use Rattle.store_tables.proofs.Maps.{bytes_total, bytes_anti, entries_made}
 use Rattle.store_tables.proofs.Lookups.{tied_same}
 use Rattle.store_model.specs.Words.{Bytes}
-use Rattle.store_model.specs.Keys.{Keys, is_over, is_due, due_keys, live_at}
+use Rattle.store_model.specs.Keys.{Keys, is_over, is_expired, due_keys, live_at}
 use Rattle.store_model.specs.Connections.{hit, touch, touch_due}
 use Rattle.store_model.specs.declared.held.Held.{Held}
 use Rattle.store_model.specs.declared.connection.Conn.{Conn}
@@ -35,7 +35,7 @@ less Greater p = absurd p
 
 -- what isn't due
 abbrev lasting : ℕ → Option Held → Option Held
-lasting at o = cond (not (is_due at o)) o None
+lasting at o = cond (not (is_expired at o)) o None
 
 abbrev pub not_over : ℕ → Bytes × Held → Bool
 not_over at e = not (is_over at e.1.expiry)
@@ -73,7 +73,7 @@ live_made at es h =
     same_map bytes_total bytes_anti _ _ (λ q.
     get-from_entries bytes_total (filter (not_over at) es) q ∙ find-lasting at q es h
     ∙ sym (ap (lasting at) (get-from_entries bytes_total es q))
-    ∙ sym (get-retain_keys m (λ k. not (is_due at (get m k))) q (λ x t. ap (λ y. not (is_due at (get m y))) (sym (bytes_anti q x t)))))
+    ∙ sym (get-retain_keys m (λ k. not (is_expired at (get m k))) q (λ x t. ap (λ y. not (is_expired at (get m y))) (sym (bytes_anti q x t)))))
 
 -- ---- marks
 
@@ -101,10 +101,10 @@ any_same p q ws h = ap (λ f. list_any f ws) (λ i w. h w i)
 tied : (k w : Bytes) → bytes_eq k w ≡ eq_by_cmp bytes_cmp w k
 tied k w = texts_ties k w ∙ (eq_by_cmp_equiv bytes_total).symm k w
 
-one_due : (at : ℕ) (w : Bytes) (e : Bytes × Held) (es : List (Bytes × Held)) (same over : Bool) → is_over at e.1.expiry ≡ over → (same ≡ true → find bytes_cmp w es ≡ None) → list_any (λ k. bytes_eq k w) (due_keys at es) ≡ is_due at (find bytes_cmp w es)
-    → cond over (same || list_any (λ k. bytes_eq k w) (due_keys at es)) (list_any (λ k. bytes_eq k w) (due_keys at es)) ≡ is_due at (cond same (Some e.1) (find bytes_cmp w es))
+one_due : (at : ℕ) (w : Bytes) (e : Bytes × Held) (es : List (Bytes × Held)) (same over : Bool) → is_over at e.1.expiry ≡ over → (same ≡ true → find bytes_cmp w es ≡ None) → list_any (λ k. bytes_eq k w) (due_keys at es) ≡ is_expired at (find bytes_cmp w es)
+    → cond over (same || list_any (λ k. bytes_eq k w) (due_keys at es)) (list_any (λ k. bytes_eq k w) (due_keys at es)) ≡ is_expired at (cond same (Some e.1) (find bytes_cmp w es))
 one_due at w e es true true o n later = sym o
-one_due at w e es true false o n later = later ∙ ap (is_due at) (n refl) ∙ sym o
+one_due at w e es true false o n later = later ∙ ap (is_expired at) (n refl) ∙ sym o
 one_due at w e es false true o n later = later
 one_due at w e es false false o n later = later
 
@@ -112,7 +112,7 @@ any_moved : (c : Bool) (w : Bytes) (k : Bytes) (ks : List Bytes) → list_any (�
 any_moved true w k ks = ap (λ b. b || list_any (λ k. bytes_eq k w) ks) (tied k w)
 any_moved false w k ks = refl
 
-due_among : (at : ℕ) (w : Bytes) (es : List (Bytes × Held)) → IsStrictlySortedBy bytes_cmp (keys_of es) → list_any (λ k. bytes_eq k w) (due_keys at es) ≡ is_due at (find bytes_cmp w es)
+due_among : (at : ℕ) (w : Bytes) (es : List (Bytes × Held)) → IsStrictlySortedBy bytes_cmp (keys_of es) → list_any (λ k. bytes_eq k w) (due_keys at es) ≡ is_expired at (find bytes_cmp w es)
 unfolding IsStrictlySortedBy
 due_among at w [] h = refl
 due_among at w (e ∷ es) h =
@@ -137,9 +137,9 @@ pub made_again : {K X : Type 0} {R : K → K → Ordering} → IsTotalOrder R �
 made_again total anti m = same_entries_map _ _ (entries_made total anti (entries m) (strictly m))
 
 -- one of the keys that are due is watched exactly where a watched key is due
-pub due_hit : (at : ℕ) (es : List (Bytes × Held)) → IsStrictlySortedBy bytes_cmp (keys_of es) → (ws : List Bytes) → list_any (λ w. is_due at (get (from_entries {R = bytes_cmp} es) w)) ws ≡ hit (due_keys at (entries (from_entries {R = bytes_cmp} es))) ws
+pub due_hit : (at : ℕ) (es : List (Bytes × Held)) → IsStrictlySortedBy bytes_cmp (keys_of es) → (ws : List Bytes) → list_any (λ w. is_expired at (get (from_entries {R = bytes_cmp} es) w)) ws ≡ hit (due_keys at (entries (from_entries {R = bytes_cmp} es))) ws
 due_hit at es h ws =
-    any_same _ _ ws (λ w. ap (is_due at) (get-from_entries bytes_total es w) ∙ sym (due_among at w es h))
+    any_same _ _ ws (λ w. ap (is_expired at) (get-from_entries bytes_total es w) ∙ sym (due_among at w es h))
     ∙ sym (any_swap (due_keys at es) ws)
     ∙ sym (ap (λ t. hit (due_keys at t) ws) (entries_made bytes_total bytes_anti es h))
 
@@ -148,6 +148,6 @@ pub touch_due_is : (at : ℕ) (m : Keys) (c : Conn) → touch_due at m c ≡ tou
 touch_due_is at m c =
     let es = entries m in
     let made : from_entries es ≡ m = made_again bytes_total bytes_anti m in
-    let same : list_any (λ w. is_due at (get m w)) c.watched ≡ hit (due_keys at (entries m)) c.watched =
-    ap (λ t. list_any (λ w. is_due at (get t w)) c.watched) (sym made) ∙ due_hit at es (strictly m) c.watched ∙ ap (λ t. hit (due_keys at (entries t)) c.watched) made in
+    let same : list_any (λ w. is_expired at (get m w)) c.watched ≡ hit (due_keys at (entries m)) c.watched =
+    ap (λ t. list_any (λ w. is_expired at (get t w)) c.watched) (sym made) ∙ due_hit at es (strictly m) c.watched ∙ ap (λ t. hit (due_keys at (entries t)) c.watched) made in
     λ i. record c { marked = c.marked || same i }

@@ -2,7 +2,7 @@
 use Rattle.std.specs.Prelude.{◌≡◌, ◌≤◌, ℕ, false, List, [], ◌∷◌, Option, None, Some}
 use Rattle.std.specs.FinMap.{get}
 use Rattle.store_model.specs.Words.{Bytes}
-use Rattle.store_model.specs.Keys.{Keys, is_due}
+use Rattle.store_model.specs.Keys.{Keys, is_expired}
 use Rattle.store_model.specs.declared.held.Held.{Held}
 
 -- the expiry, or this moment where there is none
@@ -26,4 +26,4 @@ AllEndFrom n (e ∷ es) = (n ≤ end_by n e.1.expiry) × AllEndFrom n es
 
 -- no key is due at this moment
 abbrev pub IsCalm : ℕ → Keys → Type 0
-IsCalm at m = (k : Bytes) → is_due at (get m k) ≡ false
+IsCalm at m = (k : Bytes) → is_expired at (get m k) ≡ false

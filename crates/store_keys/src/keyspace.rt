@@ -1,6 +1,6 @@
 //! The keys with what they hold.
 ghost use Rattle.store_keys.specs.Expiries.{AllEndFrom, IsCalm, end_by};
-ghost use Rattle.store_model.specs.Keys.{is_due, is_over, live_at, put};
+ghost use Rattle.store_model.specs.Keys.{is_expired, is_over, live_at, put};
 ghost use Rattle.store_model.specs.Store.{is_live};
 ghost use Rattle.wire_values.specs.Order.{bytes_cmp};
 ghost use Rattle.std.specs.BTreeMap.{IsOrdered};
@@ -139,7 +139,7 @@ impl Keyspace {
 impl Keyspace {
     /// Whether the key is present and its expiry is reached.
     pub fn is_due(&self, key: &Bytes, at: u64) -> bool
-        ensures { result ≡ is_due at (map.get self.now key.now) }
+        ensures { result ≡ is_expired at (map.get self.now key.now) }
     {
         let Some(held) = self.get(key) else {
             return false;
@@ -149,7 +149,7 @@ impl Keyspace {
 
     /// Whether one of the keys is present and its expiry is reached.
     pub fn has_due(&self, keys: &Deque<Bytes>, at: u64) -> bool
-        ensures { result ≡ list_any (λ k. is_due at (map.get self.now k)) keys.now }
+        ensures { result ≡ list_any (λ k. is_expired at (map.get self.now k)) keys.now }
     {
         keys.iter().any(|key| self.is_due(key, at))
     }

@@ -8,7 +8,7 @@ use Rattle.wire_values.specs.declared.value.Value.TheVariants.{NullArray}
 use Rattle.store_tables.proofs.Maps.{bytes_total, bytes_anti}
 use Rattle.store_model.specs.Words.{Bytes, front, final}
 use Rattle.store_model.specs.Replies.{number, pair, full}
-use Rattle.store_model.specs.Keys.{Keys, value_of, value_at, expiry_of, put, Outcome, out, is_long, after_taking, kept}
+use Rattle.store_model.specs.Keys.{Keys, value_of, value_at, expiry_of, put, CommandOutcome, out, is_long, after_taking, kept}
 use Rattle.store_model.specs.Lists.{put_list, lpush, rpush, brpop, brpop_at, shortened}
 use Rattle.store_model.specs.Hashes.{hset, hdel}
 use Rattle.store_model.specs.SortedSets.{zadd, zadd_over, zrem}
@@ -195,7 +195,7 @@ other_sums σ m m' k v q ch t =
 
 -- ---- LPUSH of one element
 
-pub record Pushed (σ : Names) (m : Keys) (k v : Bytes) (r : Outcome) : Type 0 where
+pub record Pushed (σ : Names) (m : Keys) (k v : Bytes) (r : CommandOutcome) : Type 0 where
   pub size : ℕ
   pub answer : r.answer ≡ number size
   pub after : QueueChanged σ m r.keys k (value_at r.keys k)
@@ -228,13 +228,13 @@ pub tagged-front : (σ : Names) (t x : Bytes) (xs : List Bytes) → tagged σ t 
 tagged-front σ t x [] = omega arith
 tagged-front σ t x (y ∷ ys) = let r = tagged-front σ t y ys in omega (arith, r)
 
-pub record Popped (σ : Names) (m : Keys) (k v : Bytes) (r : Outcome) : Type 0 where
+pub record Popped (σ : Names) (m : Keys) (k v : Bytes) (r : CommandOutcome) : Type 0 where
   pub queue : σ.is_queue k ≡ true
   pub answer : r.answer ≡ pair k v
   pub after : QueueChanged σ m r.keys k (value_at r.keys k)
   pub loses : (t : Bytes) → total (in_held σ t) (entries r.keys) + σ.weigh t v ≡ total (in_held σ t) (entries m)
 
-abbrev pub Brpopped : Names → Keys → Outcome → Type 0
+abbrev pub Brpopped : Names → Keys → CommandOutcome → Type 0
 Brpopped σ m r = (r ≡ out m [] NullArray) ⊎ ((k : Bytes) × (v : Bytes) × Popped σ m k v r)
 
 pub popped_one : (σ : Names) (m : Keys) (k x : Bytes) (xs : List Bytes) → Kinds σ m → σ.is_queue k ≡ true → value_at m k ≡ Some (Items (x ∷ xs))

@@ -9,7 +9,7 @@ use Rattle.store_model.specs.Words.{Bytes}
 use Rattle.store_model.specs.Replies.{message}
 use Rattle.store_model.specs.Keys.{Keys}
 use Rattle.store_model.specs.Commands.{run}
-use Rattle.store_model.specs.Connections.{Conns, no_conn, or_no_conn, conn, hit, touch, touched, hears, around, told, delivered, posted}
+use Rattle.store_model.specs.Connections.{Conns, no_conn, or_no_conn, conn, hit, touch, touched, hears, around, reached, delivered, posted}
 use Rattle.store_model.specs.Store.{State, run_all, run_one, run_queue, gone_of}
 use Rattle.store_model.specs.declared.command.Command.{Command}
 use Rattle.store_model.specs.declared.command.Command.TheVariants.{Publish}
@@ -81,11 +81,11 @@ pub conn-touched : (ks : List Bytes) (m : Conns) (c : ℕ) → conn (touched ks 
 unfolding touched
 conn-touched ks m c = conn-mapped (touch ks) m c (ap (λ b. record no_conn { marked = b }) (hit_none ks))
 
-pub conn-delivered : (channel text : Bytes) (m : Conns) (c : ℕ) → conn (delivered channel text m) c ≡ told channel text (conn m c)
+pub conn-delivered : (channel text : Bytes) (m : Conns) (c : ℕ) → conn (delivered channel text m) c ≡ reached channel text (conn m c)
 unfolding delivered
-conn-delivered channel text m c = conn-mapped (told channel text) m c refl
+conn-delivered channel text m c = conn-mapped (reached channel text) m c refl
 
-told_kept : (channel text : Bytes) (c : Conn) → IsTouched [] c (told channel text c)
+told_kept : (channel text : Bytes) (c : Conn) → IsTouched [] c (reached channel text c)
 told_kept channel text c = go (hears channel c)
   where
     go : (b : Bool) → IsTouched [] c (if b then record c { pending = c.pending ++ message channel text ∷ [] } else c)

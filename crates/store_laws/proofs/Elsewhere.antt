@@ -7,7 +7,7 @@ use Rattle.store_model.specs.Words.{Bytes, Words, command_of}
 use Rattle.store_model.specs.Keys.{due_keys}
 use Rattle.store_model.specs.Commands.{run, is_queued}
 use Rattle.store_model.specs.Connections.{conn, around, cleared, with_queue}
-use Rattle.store_model.specs.Store.{State, set_conn, run_all, run_one, run_queue, execute, executed, to_queue, inside, plain, is_heard, heard_plain, spoken, serve_by, serve, settled, quiet, answered, answer_to, apply_of, gone_of}
+use Rattle.store_model.specs.Store.{State, set_conn, run_all, run_one, run_queue, execute, executed, to_queue, inside, outside_transaction, is_heard, heard_plain, spoken, serve_by, serve, settled, quiet, answered, answer_to, apply_of, gone_of}
 use Rattle.store_model.specs.declared.command.Command.{Command}
 use Rattle.store_model.specs.declared.command.Command.TheVariants.{Ping, Watch, Unwatch, Multi, Exec, Discard, Subscribe, Unsubscribe, Faulty}
 use Rattle.store_model.specs.declared.connection.Queue.{Queue}
@@ -60,7 +60,7 @@ elsewhere_inside at s c cn q Discard = elsewhere_set s c (cleared cn)
 elsewhere_inside at s c cn q (Faulty fault heard) = elsewhere_set s c (with_queue cn q.commands true)
 elsewhere_inside at s c cn q other = elsewhere_to_queue s c cn q other (is_queued other) (nat_lt (length q.commands) 4096)
 
-elsewhere_plain : (at : ℕ) (s : State) (c : ℕ) (cn : Conn) (command : Command) → IsElsewhere s (plain at s c cn command).0 c
+elsewhere_plain : (at : ℕ) (s : State) (c : ℕ) (cn : Conn) (command : Command) → IsElsewhere s (outside_transaction at s c cn command).0 c
 elsewhere_plain at s c cn Multi = elsewhere_set s c _
 elsewhere_plain at s c cn (Watch ks) = elsewhere_set s c _
 elsewhere_plain at s c cn Unwatch = elsewhere_set s c _

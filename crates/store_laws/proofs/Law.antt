@@ -8,7 +8,7 @@ use Rattle.wire_values.specs.Order.{bytes_cmp}
 use Rattle.wire_values.specs.declared.value.Value.{Value}
 use Rattle.store_tables.proofs.Maps.{bytes_total, bytes_anti}
 use Rattle.store_model.specs.Words.{Bytes, front}
-use Rattle.store_model.specs.Keys.{Keys, value_at, Outcome, out, is_long, after_taking, dropped, expire}
+use Rattle.store_model.specs.Keys.{Keys, value_at, CommandOutcome, out, is_long, after_taking, dropped, expire}
 use Rattle.store_model.specs.Texts.{until, set_text}
 use Rattle.store_model.specs.Lists.{lpush, rpush, rpop, brpop, brpop_at, shortened}
 use Rattle.store_model.specs.Sets.{sadd, srem, after_adding}
@@ -42,7 +42,7 @@ abbrev pub ToldBy : Keys → Bytes → List Bytes → Keys → Type 0
 ToldBy m k ks m' = (hit ks (k ∷ []) ≡ true) ⊎ (get m' k ≡ get m k)
 
 -- what a command that names these keys leaves
-pub record Frame (m : Keys) (ks : List Bytes) (r : Outcome) : Type 0 where
+pub record Frame (m : Keys) (ks : List Bytes) (r : CommandOutcome) : Type 0 where
   pub told : (k : Bytes) → ToldBy m k r.altered r.keys
   pub away : (k : Bytes) → IsAway k ks → get r.keys k ≡ get m k
 
@@ -69,7 +69,7 @@ removed m a x = record { told = λ k. go k (same_or k a); away = λ k n. get-rem
     go k (inl e) = inl (told_here k a [] e)
     go k (inr n) = inr (get-remove_other bytes_cmp bytes_total bytes_anti m a k n)
 
-either : (m : Keys) (ks : List Bytes) (r s : Outcome) (b : Bool) → Frame m ks r → Frame m ks s → Frame m ks (if b then r else s)
+either : (m : Keys) (ks : List Bytes) (r s : CommandOutcome) (b : Bool) → Frame m ks r → Frame m ks s → Frame m ks (if b then r else s)
 either m ks r s true f g = f
 either m ks r s false f g = g
 
@@ -87,10 +87,10 @@ frame-adding m a h n false = still m _ _
 frame-adding m a h zero true = still m _ _
 frame-adding m a h (suc n) true = inserted m a _ _
 
-more : (m : Keys) (a : Bytes) (ks : List Bytes) (r : Outcome) → Frame m ks r → Frame m (a ∷ ks) r
+more : (m : Keys) (a : Bytes) (ks : List Bytes) (r : CommandOutcome) → Frame m ks r → Frame m (a ∷ ks) r
 more m a ks r f = record { told = f.told; away = λ k n. f.away k n.1 }
 
-first : (m : Keys) (a : Bytes) (ks : List Bytes) (r : Outcome) → Frame m (a ∷ []) r → Frame m (a ∷ ks) r
+first : (m : Keys) (a : Bytes) (ks : List Bytes) (r : CommandOutcome) → Frame m (a ∷ []) r → Frame m (a ∷ ks) r
 first m a ks r f = record { told = f.told; away = λ k n. f.away k (n.0, tt) }
 
 frame-brpop : (m : Keys) (ks : List Bytes) → Frame m ks (brpop m ks)

@@ -4,7 +4,7 @@ use Rattle.std.specs.List.{list_any}
 use Rattle.std.specs.FinMap.{get, entries}
 use Rattle.wire_values.specs.declared.value.Value.{Value}
 use Rattle.store_model.specs.Words.{Bytes}
-use Rattle.store_model.specs.Keys.{Keys, is_due, due_keys}
+use Rattle.store_model.specs.Keys.{Keys, is_expired, due_keys}
 use Rattle.store_model.specs.Commands.{Around, run}
 use Rattle.store_model.specs.Connections.{Conns, no_conn, conn, hit, touch}
 use Rattle.store_model.specs.Store.{State, run_all, settled}
@@ -39,11 +39,11 @@ pub record IsElsewhere (before now : State) (c : ℕ) : Type 0 where
 
 -- settling drops just what is due at this moment
 abbrev pub DropsDue : State → ℕ → Bytes → Type 0
-DropsDue s at k = get (settled s at).keys k ≡ (if is_due at (get s.keys k) then None else get s.keys k)
+DropsDue s at k = get (settled s at).keys k ≡ (if is_expired at (get s.keys k) then None else get s.keys k)
 
 -- settling marks just the connections that watch a key that is due
 pub record MarksDue (s : State) (at : ℕ) : Type 0 where
-  pub due : (k : Bytes) → list_any (bytes_eq k) (due_keys at (entries s.keys)) ≡ is_due at (get s.keys k)
+  pub due : (k : Bytes) → list_any (bytes_eq k) (due_keys at (entries s.keys)) ≡ is_expired at (get s.keys k)
   pub conns : (c : ℕ) → conn (settled s at).conns c ≡ touch (due_keys at (entries s.keys)) (conn s.conns c)
 
 -- a connection that is gone is as one that was never known, and all else is as before

@@ -5,7 +5,7 @@ use Rattle.wire_values.specs.declared.value.Value.{Value}
 use Rattle.wire_values.specs.declared.value.Value.TheVariants.{Bulk, NullBulk}
 use Rattle.store_model.specs.Words.{Bytes, front, final}
 use Rattle.store_model.specs.Replies.{pair}
-use Rattle.store_model.specs.Keys.{Keys, put, Outcome, out}
+use Rattle.store_model.specs.Keys.{Keys, put, CommandOutcome, out}
 use Rattle.store_model.specs.Lists.{shortened, rpop, brpop_at, items_at}
 use Rattle.store_model.specs.declared.held.Stored.{Stored}
 use Rattle.store_model.specs.declared.held.Stored.TheVariants.{Text, Items, Members, Hash, Scores}
@@ -24,7 +24,7 @@ taken answer m n k z zs ys l is h g =
     ∙ ap (λ t. out (shortened m k (front z zs)) (k ∷ []) (answer t)) (sym (final_is z zs ys l is))
 
 -- BRPOP took the last element
-pub popped : (m n : Keys) (k : Bytes) (o : Option Stored) (xs ys : List Bytes) (l : Bytes) (later : Outcome)
+pub popped : (m n : Keys) (k : Bytes) (o : Option Stored) (xs ys : List Bytes) (l : Bytes) (later : CommandOutcome)
     → Some xs ≡ items_at o → xs ≡ ys ++ l ∷ [] → ((v : Stored) → put n k v ≡ put m k v) → remove n k ≡ remove m k
     → out (shortened n k ys) (k ∷ []) (pair k l) ≡ brpop_at m k o later
 popped m n k None xs ys l later s e h g = absurd (not_empty ys l (same_some _ _ (sym s) ∙ e))
@@ -36,7 +36,7 @@ popped m n k (Some (Hash t)) xs ys l later s e h g = cc
 popped m n k (Some (Scores t)) xs ys l later s e h g = cc
 
 -- BRPOP goes on to the later keys
-pub passed : (m : Keys) (k : Bytes) (o : Option Stored) (xs : List Bytes) (later : Outcome) → Some xs ≡ items_at o → xs ≡ [] → brpop_at m k o later ≡ later
+pub passed : (m : Keys) (k : Bytes) (o : Option Stored) (xs : List Bytes) (later : CommandOutcome) → Some xs ≡ items_at o → xs ≡ [] → brpop_at m k o later ≡ later
 passed m k None xs later s e = refl
 passed m k (Some (Items [])) xs later s e = refl
 passed m k (Some (Items (z ∷ zs))) xs later s e = let h = same_some _ _ s in cc

@@ -1,6 +1,6 @@
 //! The commands on lists.
-ghost use Rattle.store_model.specs.Keys.{Outcome, out, put, value_at};
-ghost use Rattle.store_model.specs.Lists.{brpop, brpop_at, items_at, lpush, pushed, put_list, rpop, rpush, shortened, size_answer};
+ghost use Rattle.store_model.specs.Keys.{CommandOutcome, out, put, value_at};
+ghost use Rattle.store_model.specs.Lists.{brpop, brpop_at, items_at, lpush, pushed_at_head, put_list, rpop, rpush, shortened, size_answer};
 ghost use Rattle.store_model.specs.Replies.{pair};
 ghost use Rattle.std.specs.FinMap.{remove};
 ghost use Rattle.std.specs.Prelude.{◌≡◌, [], ◌∷◌, IfNone, IfOk, IfSome, OnOk, Some, if◌then◌else◌, length, nat_eq};
@@ -47,7 +47,7 @@ fn take_items(keys: &mut Keyspace, alloc: Global, key: &Bytes) -> Option<Deque<B
 }
 
 fn push_all(mut items: Deque<Bytes>, mut values: Deque<Bytes>) -> Result<Deque<Bytes>, AllocError>
-    ensures { IfOk result (λ all. all ≡ pushed values items) }
+    ensures { IfOk result (λ all. all ≡ pushed_at_head values items) }
 {
     while let Some(value) = values.pop_front() {
         items.push_front(value)?;
@@ -144,8 +144,8 @@ fn pop_bulk(
 
 // BRPOP at one key; none where it has no element, and the later keys decide.
 fn pop_from(keys: &mut Keyspace, alloc: Global, key: Bytes) -> Result<Option<Effect>, AllocError>
-    ensures some { IfOk result (λ r. IfSome r (λ e. (later : Outcome) → out keys.new e.altered e.answer ≡ brpop_at keys.old key (value_at keys.old key) later)) }
-    ensures none { IfOk result (λ r. IfNone r ((later : Outcome) → brpop_at keys.old key (value_at keys.old key) later ≡ later)) }
+    ensures some { IfOk result (λ r. IfSome r (λ e. (later : CommandOutcome) → out keys.new e.altered e.answer ≡ brpop_at keys.old key (value_at keys.old key) later)) }
+    ensures none { IfOk result (λ r. IfNone r ((later : CommandOutcome) → brpop_at keys.old key (value_at keys.old key) later ≡ later)) }
     ensures same { IfOk result (λ r. IfNone r (keys.new ≡ keys.old)) }
 {
     let Some(mut items) = take_items(keys, alloc, &key) else {

@@ -5,7 +5,7 @@ use Rattle.wire_values.specs.declared.value.Value.{Value}
 use Rattle.wire_values.specs.declared.value.Value.TheVariants.{Error}
 use Rattle.store_model.specs.Words.{Bytes}
 use Rattle.store_model.specs.Replies.{done, pong, number, fault_text, no_database, outside}
-use Rattle.store_model.specs.Keys.{Keys, value_at, Outcome, out, dropped, expire}
+use Rattle.store_model.specs.Keys.{Keys, value_at, CommandOutcome, out, dropped, expire}
 use Rattle.store_model.specs.Texts.{text_answer, until, set_text}
 use Rattle.store_model.specs.Lists.{lpush, rpush, rpop, brpop, size_answer}
 use Rattle.store_model.specs.Sets.{sadd, srem, members_answer}
@@ -29,7 +29,7 @@ abbrev pub select_answer : ℤ → Value
 select_answer n = if int_le n (pos 0) && int_le (pos 0) n then done else no_database
 
 -- what a command does to the keys; EXEC and DISCARD come here only without MULTI, and the other commands on the connection never do
-abbrev pub run : Around → Keys → Command → Outcome
+abbrev pub run : Around → Keys → Command → CommandOutcome
 run e m Ping = out m [] pong
 run e m (Select n) = out m [] (select_answer n)
 run e m (Get k) = out m [] (text_answer (value_at m k))

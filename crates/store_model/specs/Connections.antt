@@ -5,7 +5,7 @@ use Rattle.std.specs.Ordering.{nat_cmp}
 use Rattle.std.specs.FinMap.{FinMap, get, entries, from_entries}
 use Rattle.store_model.specs.Words.{Bytes}
 use Rattle.store_model.specs.Replies.{message}
-use Rattle.store_model.specs.Keys.{Keys, is_due}
+use Rattle.store_model.specs.Keys.{Keys, is_expired}
 use Rattle.store_model.specs.Commands.{Around}
 use Rattle.store_model.specs.declared.command.Command.{Command}
 use Rattle.store_model.specs.declared.command.Command.TheVariants.{Publish}
@@ -47,7 +47,7 @@ touched ks m = from_entries (map (λ e. (e.0, touch ks e.1)) (entries m))
 
 -- the connection after the keys that are due at this moment were dropped
 abbrev pub touch_due : ℕ → Keys → Conn → Conn
-touch_due at m c = record c { marked = c.marked || list_any (λ k. is_due at (get m k)) c.watched }
+touch_due at m c = record c { marked = c.marked || list_any (λ k. is_expired at (get m k)) c.watched }
 
 -- a message on this channel reaches the connection: it is subscribed, and has fewer than 1,024 pending messages
 abbrev pub hears : Bytes → Conn → Bool
@@ -62,12 +62,12 @@ abbrev pub around : ℕ → Conns → Around
 around at m = record { moment = at; listeners = λ channel. hearing channel (entries m) }
 
 -- the connection with a message on this channel, where it reaches it
-abbrev pub told : Bytes → Bytes → Conn → Conn
-told channel text c = if hears channel c then record c { pending = c.pending ++ message channel text ∷ [] } else c
+abbrev pub reached : Bytes → Bytes → Conn → Conn
+reached channel text c = if hears channel c then record c { pending = c.pending ++ message channel text ∷ [] } else c
 
 -- each connection that a message on this channel reaches has it pending
 unfoldable pub delivered : Bytes → Bytes → Conns → Conns
-delivered channel text m = from_entries (map (λ e. (e.0, told channel text e.1)) (entries m))
+delivered channel text m = from_entries (map (λ e. (e.0, reached channel text e.1)) (entries m))
 
 -- what a command does to pending messages
 abbrev pub posted : Command → Conns → Conns

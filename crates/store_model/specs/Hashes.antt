@@ -6,7 +6,7 @@ use Rattle.wire_values.specs.declared.value.Value.{Value}
 use Rattle.wire_values.specs.declared.value.Value.TheVariants.{NullBulk}
 use Rattle.store_model.specs.Words.{Bytes}
 use Rattle.store_model.specs.Replies.{number, wrong_type, full, bulk}
-use Rattle.store_model.specs.Keys.{Keys, put, Outcome, out, is_long, taken_out, after_taking}
+use Rattle.store_model.specs.Keys.{Keys, put, CommandOutcome, out, is_long, taken_out, after_taking}
 use Rattle.store_model.specs.declared.held.Stored.{Stored}
 use Rattle.store_model.specs.declared.held.Stored.TheVariants.{Hash}
 
@@ -17,13 +17,13 @@ hash_at (Some (Hash h)) = Some h
 hash_at (Some other) = None
 
 -- HSET in this hash; a field has at most 1,024 bytes
-abbrev pub hset_to : Keys → Bytes → Bytes → Bytes → FinMap bytes_cmp Bytes → Outcome
+abbrev pub hset_to : Keys → Bytes → Bytes → Bytes → FinMap bytes_cmp Bytes → CommandOutcome
 hset_to m k f v h =
     if is_long f then out m [] full else
     out (put m k (Hash (insert h f v))) (k ∷ []) (number (if is_some (get h f) then 0 else 1))
 
 -- HSET, by what the key holds
-abbrev pub hset : Keys → Bytes → Bytes → Bytes → Option Stored → Outcome
+abbrev pub hset : Keys → Bytes → Bytes → Bytes → Option Stored → CommandOutcome
 hset m k f v None = hset_to m k f v empty
 hset m k f v (Some (Hash h)) = hset_to m k f v h
 hset m k f v (Some other) = out m [] wrong_type
@@ -35,7 +35,7 @@ field_answer f (Some (Hash h)) = bulk (get h f)
 field_answer f (Some other) = wrong_type
 
 -- HDEL, by what the key holds
-abbrev pub hdel : Keys → Bytes → List Bytes → Option Stored → Outcome
+abbrev pub hdel : Keys → Bytes → List Bytes → Option Stored → CommandOutcome
 hdel m k fs None = out m [] (number 0)
 hdel m k fs (Some (Hash h)) = let r = taken_out h fs in after_taking m k (Hash r.0) (len r.0) r.1
 hdel m k fs (Some other) = out m [] wrong_type

@@ -31,13 +31,13 @@ abbrev pub put : Keys → Bytes → Stored → Keys
 put m k v = insert m k (record { value = v; expiry = expiry_of (get m k) })
 
 -- what a command leaves: the keys, those that it altered, and its answer
-pub record Outcome : Type 0 where
+pub record CommandOutcome : Type 0 where
   pub keys : Keys
   pub altered : List Bytes
   pub answer : Value
 
 -- an outcome, written short
-abbrev pub out : Keys → List Bytes → Value → Outcome
+abbrev pub out : Keys → List Bytes → Value → CommandOutcome
 out m ks a = record { keys = m; altered = ks; answer = a }
 
 -- a member or a field has at most 1,024 bytes
@@ -54,7 +54,7 @@ abbrev pub kept : Keys → Bytes → Stored → ℕ → Keys
 kept m k v n = elim n [ zero ↦ remove m k | suc p ↦ put m k v ]
 
 -- what SREM, HDEL and ZREM leave: where nothing was taken out nothing changes
-abbrev pub after_taking : Keys → Bytes → Stored → ℕ → ℕ → Outcome
+abbrev pub after_taking : Keys → Bytes → Stored → ℕ → ℕ → CommandOutcome
 after_taking m k v n zero = out m [] (number 0)
 after_taking m k v n (suc p) = out (kept m k v n) (k ∷ []) (number (suc p))
 
@@ -64,7 +64,7 @@ dropped m [] = (m, [])
 dropped m (k ∷ ks) = let r = dropped (remove m k) ks in (r.0, (if is_some (get m k) then k ∷ r.1 else r.1))
 
 -- EXPIRE, by what the key holds: it lasts until this moment
-abbrev pub expire : Keys → Bytes → ℕ → Option Held → Outcome
+abbrev pub expire : Keys → Bytes → ℕ → Option Held → CommandOutcome
 expire m k e None = out m [] (number 0)
 expire m k e (Some h) = out (insert m k (record { value = h.value; expiry = Some e })) (k ∷ []) (number 1)
 
@@ -74,9 +74,9 @@ is_over at None = false
 is_over at (Some e) = nat_le e at
 
 -- what is held is gone at this moment
-abbrev pub is_due : ℕ → Option Held → Bool
-is_due at None = false
-is_due at (Some h) = is_over at h.expiry
+abbrev pub is_expired : ℕ → Option Held → Bool
+is_expired at None = false
+is_expired at (Some h) = is_over at h.expiry
 
 -- the keys whose expiry is reached
 abbrev pub due_keys : ℕ → List (Bytes × Held) → List Bytes
@@ -85,4 +85,4 @@ due_keys at (e ∷ es) = if is_over at e.1.expiry then e.0 ∷ due_keys at es el
 
 -- the keys without those that are due
 abbrev pub live_at : ℕ → Keys → Keys
-live_at at m = retain_keys m (λ k. not (is_due at (get m k)))
+live_at at m = retain_keys m (λ k. not (is_expired at (get m k)))

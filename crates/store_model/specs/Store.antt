@@ -7,7 +7,7 @@ use Rattle.wire_values.specs.declared.value.Value.{Value}
 use Rattle.wire_values.specs.declared.value.Value.TheVariants.{Error, Array, NullArray}
 use Rattle.store_model.specs.Words.{Bytes, Words, brpop_of, command_of, upper_byte}
 use Rattle.store_model.specs.Replies.{done, queued, fault_text, subscribed, not_inside, full, aborted, pair, channel_answer}
-use Rattle.store_model.specs.Keys.{Keys, due_keys, is_due, live_at}
+use Rattle.store_model.specs.Keys.{Keys, due_keys, is_expired, live_at}
 use Rattle.store_model.specs.Commands.{run, is_queued}
 use Rattle.store_model.specs.Connections.{Conns, conn, touched, around, posted, joined, without, with_queue, cleared}
 use Rattle.store_model.specs.declared.command.Command.{Command}
@@ -133,13 +133,13 @@ abbrev pub unwatch : State → ℕ → Conn → State × Value
 unwatch s c cn = (set_conn s c (record cn { watched = []; marked = false }), done)
 
 -- a command outside MULTI
-abbrev pub plain : ℕ → State → ℕ → Conn → Command → State × Value
-plain at s c cn Multi = multi s c cn
-plain at s c cn (Watch ks) = watch s c cn ks
-plain at s c cn Unwatch = unwatch s c cn
-plain at s c cn (Subscribe x) = subscribe s c cn x
-plain at s c cn (Unsubscribe x) = unsubscribe s c cn x
-plain at s c cn command = run_one at s command
+abbrev pub outside_transaction : ℕ → State → ℕ → Conn → Command → State × Value
+outside_transaction at s c cn Multi = multi s c cn
+outside_transaction at s c cn (Watch ks) = watch s c cn ks
+outside_transaction at s c cn Unwatch = unwatch s c cn
+outside_transaction at s c cn (Subscribe x) = subscribe s c cn x
+outside_transaction at s c cn (Unsubscribe x) = unsubscribe s c cn x
+outside_transaction at s c cn command = run_one at s command
 
 -- the commands that a subscribed connection may use
 abbrev pub is_heard : Command → Bool
@@ -152,7 +152,7 @@ is_heard other = false
 -- PING of a subscribed connection has an answer of its own
 abbrev pub heard_plain : ℕ → State → ℕ → Conn → Command → State × Value
 heard_plain at s c cn Ping = (s, pair (codes "pong") [])
-heard_plain at s c cn command = plain at s c cn command
+heard_plain at s c cn command = outside_transaction at s c cn command
 
 -- a command of a subscribed connection, by its queue and whether it may be used
 abbrev pub spoken : ℕ → State → ℕ → Conn → Command → Option Queue → Bool → State × Value
@@ -162,7 +162,7 @@ spoken at s c cn command (Some q) true = inside at s c cn q command
 
 -- a command, by the queue and the channels of its connection
 abbrev pub serve_by : ℕ → State → ℕ → Conn → Command → Option Queue → List Bytes → State × Value
-serve_by at s c cn command None [] = plain at s c cn command
+serve_by at s c cn command None [] = outside_transaction at s c cn command
 serve_by at s c cn command (Some q) [] = inside at s c cn q command
 serve_by at s c cn command queue (x ∷ xs) = spoken at s c cn command queue (is_heard command)
 
@@ -197,7 +197,7 @@ gone_of s c = record s { conns = remove s.conns c }
 
 -- the key is there, and its expiry isn't reached
 abbrev pub is_live : ℕ → Option Held → Bool
-is_live at o = is_some o && not (is_due at o)
+is_live at o = is_some o && not (is_expired at o)
 
 -- whether a command finds what it would wait for: BRPOP by its keys, any other does
 abbrev pub finds : ℕ → Keys → Command → Bool

@@ -1,14 +1,14 @@
 -- Why a run ends as it does.
 use Rattle.std.proofs.Common.{List, None, ap, inl, inr, sym, ℕ, ◌≡◌, ◌∙◌}
-use Rattle.links.specs.Ends.{IsPast, IsWhole}
+use Rattle.links.specs.Ends.{IsPast, IsWholeInput}
 use Rattle.links.specs.Views.{SourceView}
 use Rattle.message_schedules.proofs.Program.{whole_placed, whole_sound}
 use Rattle.place_model.specs.Histories.{History}
 use Rattle.place_model.specs.declared.heard.Heard.{Heard}
-use Rattle.schedule_model.specs.Desk.{Desk}
+use Rattle.schedule_model.specs.Desk.{ScheduleReader}
 use Rattle.schedule_model.specs.Programs.{program_craft, program_legend}
 use Rattle.schedule_model.specs.Reports.{report_text}
-use Rattle.schedule_model.specs.Schedules.{Whole, history_of}
+use Rattle.schedule_model.specs.Schedules.{Whole, reader_history}
 use Rattle.top_call.proofs.Fronts.{schedule_run-past}
 use Rattle.top_call.specs.Endings.{EndsAs, Shown}
 use Rattle.top_call.specs.Replays.{IsReport, replay_run}
@@ -17,7 +17,7 @@ use Rattle.top_call.specs.declared.ending.End.TheVariants.{BadLine, BadWord, Ful
 use Rattle.top_call.specs.declared.ending.End.{End}
 
 -- the report of the history that a schedule determines
-pub report_of : (schedule text : List ℕ) (h : History Heard) → ((d : Desk) × (replay_run schedule ≡ Whole d) × (history_of d ≡ h)) → text ≡ report_text program_legend h → IsReport schedule text
+pub report_of : (schedule text : List ℕ) (h : History Heard) → ((d : ScheduleReader) × (replay_run schedule ≡ Whole d) × (reader_history d ≡ h)) → text ≡ report_text program_legend h → IsReport schedule text
 report_of schedule text h (d, run, same) written = record {
   desk = d;
   determined = run;
@@ -27,7 +27,7 @@ report_of schedule text h (d, run, same) written = record {
 }
 
 -- an input that was read to its end
-pub shown_whole : (words : List (List ℕ)) (before now : SourceView) (bytes : List ℕ) (end : End) → bad_place words ≡ None → IsWhole 67108864 before now bytes → EndsAs bytes end → Shown words before now end
+pub shown_whole : (words : List (List ℕ)) (before now : SourceView) (bytes : List ℕ) (end : End) → bad_place words ≡ None → IsWholeInput 67108864 before now bytes → EndsAs bytes end → Shown words before now end
 shown_whole words before now bytes (Reported report) lawful whole ends = (lawful, (bytes, whole, ends))
 shown_whole words before now bytes (BadWord place) lawful whole ends = absurd ends
 shown_whole words before now bytes (BadLine bad) lawful whole ends = (lawful, (bytes, inl whole, ends))

@@ -3,7 +3,7 @@ use Rattle.std.specs.Io.KnownBytes.{Appends, Consumes}
 use Rattle.std.specs.Prelude.{List, None, Some, codes, decimal, length, ℕ, ◌++◌, ◌+◌, ◌≡◌, ◌≤◌, ◌⊎◌}
 use Rattle.line_text.specs.Reason.{reason_text}
 use Rattle.links.specs.Causes.{AppendsFront, Rose}
-use Rattle.links.specs.Ends.{IsWhole}
+use Rattle.links.specs.Ends.{IsWholeInput}
 use Rattle.links.specs.Views.{SinkView, SourceView}
 use Rattle.top_call.specs.Replays.{HasInput, IsFirstBad, IsFull, IsReport}
 use Rattle.top_call.specs.Words.{bad_place}
@@ -40,7 +40,7 @@ EndsAs schedule Memory = Unit {0}
 
 -- why a run may end so: its words, and what it read
 abbrev pub Shown : List (List ℕ) → SourceView → SourceView → End → Type 0
-Shown words before now (Reported report) = (bad_place words ≡ None) × ((bytes : List ℕ) × IsWhole 67108864 before now bytes × IsReport bytes report)
+Shown words before now (Reported report) = (bad_place words ≡ None) × ((bytes : List ℕ) × IsWholeInput 67108864 before now bytes × IsReport bytes report)
 Shown words before now (BadWord place) = (bad_place words ≡ Some place) × (now ≡ before)
 Shown words before now (BadLine bad) = (bad_place words ≡ None) × ((bytes : List ℕ) × HasInput before now bytes × IsFirstBad bytes bad)
 Shown words before now ReadFault = (bad_place words ≡ None) × (before.faults ≤ now.faults) × Rose before.faults now.faults

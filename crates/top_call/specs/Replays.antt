@@ -1,20 +1,20 @@
 -- What `replay` makes of an input.
 use Rattle.std.specs.Prelude.{List, [], ℕ, ◌∷◌, ◌≡◌, ◌⊎◌}
 use Rattle.line_text.specs.declared.reason.BadLine.{BadLine}
-use Rattle.links.specs.Ends.{IsPast, IsWhole}
+use Rattle.links.specs.Ends.{IsPast, IsWholeInput}
 use Rattle.links.specs.Views.{SourceView}
 use Rattle.command_blocks.specs.EnvelopeTexts.{plain_setting}
 use Rattle.place_model.specs.Starts.{IsSound}
-use Rattle.schedule_model.specs.Desk.{Desk}
+use Rattle.schedule_model.specs.Desk.{ScheduleReader}
 use Rattle.schedule_model.specs.EachPlaced.{IsEachPlaced}
 use Rattle.schedule_model.specs.Programs.{program_craft, program_legend}
 use Rattle.schedule_model.specs.Reports.{report_text}
-use Rattle.schedule_model.specs.Schedules.{Bad_line, Determined, Whole, history_of, schedule_run}
+use Rattle.schedule_model.specs.Schedules.{Bad_line, Determined, Whole, reader_history, schedule_run}
 use Rattle.schedule_model.specs.Schedules as schedules
 
 -- what was read of an input that is looked at: all of it to its end, or one byte more than 64 MiB
 abbrev pub HasInput : SourceView → SourceView → List ℕ → Type 0
-HasInput before now bytes = IsWhole 67108864 before now bytes ⊎ IsPast 67108864 before now bytes
+HasInput before now bytes = IsWholeInput 67108864 before now bytes ⊎ IsPast 67108864 before now bytes
 
 -- what this schedule determines for the program: a history, its first bad line, or a history that was full
 abbrev pub replay_run : List ℕ → Determined
@@ -23,11 +23,11 @@ replay_run schedule = schedule_run program_craft schedule
 -- the text is the report of the history that this schedule determines; that history is sound, and after each of its
 -- prefixes each message that is accepted and single is in exactly one place
 pub record IsReport (schedule text : List ℕ) : Type 0 where
-  pub desk : Desk
+  pub desk : ScheduleReader
   pub determined : replay_run schedule ≡ Whole desk
-  pub written : text ≡ report_text program_legend (history_of desk)
-  pub sound : IsSound plain_setting (history_of desk)
-  pub placed : IsEachPlaced (history_of desk)
+  pub written : text ≡ report_text program_legend (reader_history desk)
+  pub sound : IsSound plain_setting (reader_history desk)
+  pub placed : IsEachPlaced (reader_history desk)
 
 -- the first bad line of this schedule, and the first reason that holds of it
 abbrev pub IsFirstBad : List ℕ → BadLine → Type 0

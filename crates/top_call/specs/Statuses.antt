@@ -3,7 +3,7 @@ use Rattle.std.specs.Io.KnownBytes.{Appends}
 use Rattle.std.specs.Prelude.{List, None, Some, ℕ, ◌≡◌, ◌≤◌}
 use Rattle.line_text.specs.declared.reason.Reason.{Reason}
 use Rattle.links.specs.Causes.{AppendsFront, Rose}
-use Rattle.links.specs.Ends.{IsWhole}
+use Rattle.links.specs.Ends.{IsWholeInput}
 use Rattle.links.specs.Views.{SinkView, SourceView}
 use Rattle.top_call.specs.Endings.{Shown, text_of}
 use Rattle.top_call.specs.Replays.{HasInput, IsFirstBad, IsFull, IsReport}
@@ -30,7 +30,7 @@ WritesFull old new schedule = (entries : ℕ) × (cost : ℕ) × IsFull schedule
 -- status 0: the words are lawful, the input was read to its end, and its report was written
 abbrev pub IsReported : List (List ℕ) → SourceView → SourceView → SinkView → SinkView → Type 0
 IsReported words before now old new = (bad_place words ≡ None)
-    × ((bytes : List ℕ) × IsWhole 67108864 before now bytes × WritesReport old new bytes)
+    × ((bytes : List ℕ) × IsWholeInput 67108864 before now bytes × WritesReport old new bytes)
 
 -- status 2: the word at this place is the first bad one, nothing was read, and its text was written
 abbrev pub IsBadWord : List (List ℕ) → SourceView → SourceView → SinkView → SinkView → ℕ → Type 0

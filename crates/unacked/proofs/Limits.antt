@@ -6,7 +6,7 @@ use Rattle.std.proofs.lemmas.Bool.Decides.{nat_tests}
 use Rattle.std.proofs.lemmas.List.Elements.{All-nil, All-cons, All-append}
 use Rattle.std.proofs.lemmas.Fmt.{length-decimal-le}
 use Rattle.uuid.proofs.TextLemmas.{by_index_length}
-use Rattle.envelope.specs.Entries.{Entry, entry_at, max_entry}
+use Rattle.envelope.specs.Entries.{EntryParts, entry_at, max_entry}
 use Rattle.envelope.specs.Tags.{tag_text}
 use Rattle.envelope.specs.declared.fault.EnvelopeFault.TheVariants.{TooLong}
 use Rattle.envelope.specs.Reading.{wanted}
@@ -31,7 +31,7 @@ pub decimal_short : (n : ℕ) → n < 2 ^ 64 → IsShort (decimal n)
 decimal_short n h = let x : length (decimal n) ≤ 20 = length-decimal-le 20 n (omega arith) (omega (arith, h)) h in omega (arith, x)
 
 -- what is read as an entry is short enough
-pub entry_short : (u : Bytes) (e : Entry) → entry_at u ≡ Ok e → IsShort u
+pub entry_short : (u : Bytes) (e : EntryParts) → entry_at u ≡ Ok e → IsShort u
 unfolding entry_at
 entry_short u e is =
     let a = bind_ok (wanted TooLong (nat_le (length u) max_entry)) _ e is in

@@ -19,7 +19,7 @@ use Rattle.command_blocks.specs.RouteBlocks.{Asked, Named, Plain, Told}
 use Rattle.command_blocks.specs.TakeBlocks.{Acknowledged, Empty, IsPop, Popped, Unreadable}
 use Rattle.command_blocks.specs.declared.block.Side.{Side}
 use Rattle.command_blocks.specs.declared.block.Side.TheVariants.{Left, Right}
-use Rattle.worked_blocks.specs.Lists.{all_blocks, bindings, declared, ended, later_keys, marked_envelope, named_envelope, passed, passed_held, pinged, plain_envelope, popped, popped_junk, popped_nothing, published, published_to_none, published_to_two, q, released, returned, returned_gone, returned_junk, returned_late, returned_nowhere, second_tag, tag}
+use Rattle.worked_blocks.specs.Lists.{all_blocks, bindings, declared, ended, later_keys, marked_envelope, named_envelope, passed_calls, passed_held, pinged, plain_envelope, popped, popped_junk, popped_nothing, published, published_to_none, published_to_two, q, released, returned, returned_gone, returned_junk, returned_late, returned_nowhere, second_tag, message_tag}
 use Rattle.worked_blocks.specs.Toy.{toy_setting}
 
 -- ---- declaring and publishing
@@ -60,10 +60,10 @@ pops_junk : (n p : ℕ) → IsBlock toy_setting 7 n p Other popped_junk
 pops_junk n p = block.Pop (q ∷ []) _ (Unreadable 100 q later_keys q (codes "junk") pops refl)
 
 pops_message : (n p : ℕ) → IsBlock toy_setting 7 n p Other popped
-pops_message n p = block.Pop (q ∷ []) _ (Popped 100 100 100 100 100 q later_keys q plain_envelope tag (pos 1) (pos 1) pops refl (lit< tt))
+pops_message n p = block.Pop (q ∷ []) _ (Popped 100 100 100 100 100 q later_keys q plain_envelope message_tag (pos 1) (pos 1) pops refl (lit< tt))
 
 ends : (n p : ℕ) → IsBlock toy_setting 7 n p Other ended
-ends n p = block.End tag _ (Acknowledged 100 100 100 100 (pos 1) (pos 1) refl)
+ends n p = block.End message_tag _ (Acknowledged 100 100 100 100 (pos 1) (pos 1) refl)
 
 -- ---- returning
 
@@ -84,46 +84,46 @@ one_try = record {
   others = [];
 }
 
-is_try : IsTry toy_setting tag one_try
+is_try : IsTry toy_setting message_tag one_try
 unfolding same one_try
 is_try = ((refl, refl), refl)
 
-moves : (side : Side) → side ≡ Right → IsTries toy_setting Right tag 0 Moved returned
+moves : (side : Side) → side ≡ Right → IsTries toy_setting Right message_tag 0 Moved returned
 unfolding one_try
 moves side e = Whole 0 one_try (pos 1 ∷ pos 1 ∷ pos 1 ∷ []) is_try
 
-misses : (side : Side) (k : ℕ) → IsTries toy_setting side tag k Gone returned_gone
+misses : (side : Side) (k : ℕ) → IsTries toy_setting side message_tag k Gone returned_gone
 misses side k = Missing k 100 100 100
 
 nothing_is_some : (v : Bytes) → ◌≡◌ {A = Option Bytes} None (Some v) → ⊥
 nothing_is_some v e = cc
 
 returns_message : (n p : ℕ) → IsBlock toy_setting 7 n p Other returned
-returns_message n p = block.Return tag Right Moved _ (refl, moves Right refl)
+returns_message n p = block.Return message_tag Right Moved _ (refl, moves Right refl)
 
 returns_gone : (n p : ℕ) → IsBlock toy_setting 7 n p Other returned_gone
-returns_gone n p = block.Return tag Left Gone _ (refl, misses Left 0)
+returns_gone n p = block.Return message_tag Left Gone _ (refl, misses Left 0)
 
 returns_junk : (n p : ℕ) → IsBlock toy_setting 7 n p Other returned_junk
-returns_junk n p = block.Return tag Left Stayed _ (refl, Useless 0 100 100 100 (codes "junk") (λ v h. nothing_is_some v h.0))
+returns_junk n p = block.Return message_tag Left Stayed _ (refl, Useless 0 100 100 100 (codes "junk") (λ v h. nothing_is_some v h.0))
 
 returns_nowhere : (n p : ℕ) → IsBlock toy_setting 7 n p Other returned_nowhere
 returns_nowhere n p = block.Return second_tag Left Stayed _ (refl, Nowhere 0 100 100 100 100 named_envelope (1 ∷ 7 ∷ 2 ∷ 0 ∷ 1 ∷ codes "rk") [] (refl, refl) refl)
 
 returns_late : (n p : ℕ) → IsBlock toy_setting 7 n p Other returned_late
 unfolding one_try
-returns_late n p = block.Return tag Right Gone _ (refl, Again 0 one_try Gone returned_gone (lit< tt) is_try (misses Right 1))
+returns_late n p = block.Return message_tag Right Gone _ (refl, Again 0 one_try Gone returned_gone (lit< tt) is_try (misses Right 1))
 
 -- ---- passing, and what concerns no message
 
 passes_held : (n : ℕ) → IsBlock toy_setting 7 n 0 Passing passed_held
 passes_held n = block.Pass 10 Held _ (lit< tt) (Is_held 100)
 
-returns_of_pass : IsReturns toy_setting (tag ∷ []) (Done (Moved ∷ [])) (returned ++ [])
-returns_of_pass = Returned tag [] Moved [] returned [] (moves Right refl) refl All_returned
+returns_of_pass : IsReturns toy_setting (message_tag ∷ []) (Done (Moved ∷ [])) (returned ++ [])
+returns_of_pass = Returned message_tag [] Moved [] returned [] (moves Right refl) refl All_returned
 
-passes : (n : ℕ) → IsBlock toy_setting 7 n 1 Passing passed
-passes n = block.Pass 10 (Done (Moved ∷ [])) _ (lit< tt) (Ran 100 100 (tag ∷ codes "junk" ∷ []) (Done (Moved ∷ [])) returned released returns_of_pass
+passes : (n : ℕ) → IsBlock toy_setting 7 n 1 Passing passed_calls
+passes n = block.Pass 10 (Done (Moved ∷ [])) _ (lit< tt) (Ran 100 100 (message_tag ∷ codes "junk" ∷ []) (Done (Moved ∷ [])) returned released returns_of_pass
     (Own 100 100 100 100 100 _ (inl (Integer (pos 1) ∷ [], refl))))
 
 pong_is_fine : is_error pong ≡ false

@@ -17,8 +17,8 @@ abbrev pub later_keys : List Bytes
 later_keys = (codes "q" ++ (6 ∷ 22 ∷ 51 ∷ [])) ∷ (codes "q" ++ (6 ∷ 22 ∷ 54 ∷ [])) ∷ (codes "q" ++ (6 ∷ 22 ∷ 57 ∷ [])) ∷ []
 
 -- the tag and the envelope of a message to q, and the same marked
-abbrev pub tag : Bytes
-tag = 7 ∷ 1 ∷ []
+abbrev pub message_tag : Bytes
+message_tag = 7 ∷ 1 ∷ []
 
 abbrev pub plain_envelope : Bytes
 plain_envelope = 0 ∷ 7 ∷ 1 ∷ 0 ∷ 0 ∷ codes "q"
@@ -67,8 +67,8 @@ abbrev pub popped : List Call
 popped =
     call 100 (brpop_words q later_keys) (pair q plain_envelope)
     ∷ call 100 (codes "MULTI" ∷ []) done
-    ∷ call 100 (codes "ZADD" ∷ codes "unacked_index" ∷ decimal 100 ∷ tag ∷ []) queued
-    ∷ call 100 (codes "HSET" ∷ codes "unacked" ∷ tag ∷ plain_envelope ∷ []) queued
+    ∷ call 100 (codes "ZADD" ∷ codes "unacked_index" ∷ decimal 100 ∷ message_tag ∷ []) queued
+    ∷ call 100 (codes "HSET" ∷ codes "unacked" ∷ message_tag ∷ plain_envelope ∷ []) queued
     ∷ call 100 (codes "EXEC" ∷ []) (integers (pos 1 ∷ pos 1 ∷ []))
     ∷ []
 
@@ -76,8 +76,8 @@ popped =
 abbrev pub ended : List Call
 ended =
     call 100 (codes "MULTI" ∷ []) done
-    ∷ call 100 (codes "ZREM" ∷ codes "unacked_index" ∷ tag ∷ []) queued
-    ∷ call 100 (codes "HDEL" ∷ codes "unacked" ∷ tag ∷ []) queued
+    ∷ call 100 (codes "ZREM" ∷ codes "unacked_index" ∷ message_tag ∷ []) queued
+    ∷ call 100 (codes "HDEL" ∷ codes "unacked" ∷ message_tag ∷ []) queued
     ∷ call 100 (codes "EXEC" ∷ []) (integers (pos 1 ∷ pos 1 ∷ []))
     ∷ []
 
@@ -85,10 +85,10 @@ ended =
 abbrev pub returned : List Call
 returned =
     call 100 (codes "WATCH" ∷ codes "unacked" ∷ []) done
-    ∷ call 100 (codes "HGET" ∷ codes "unacked" ∷ tag ∷ []) (Bulk plain_envelope)
+    ∷ call 100 (codes "HGET" ∷ codes "unacked" ∷ message_tag ∷ []) (Bulk plain_envelope)
     ∷ call 100 (codes "MULTI" ∷ []) done
-    ∷ call 100 (codes "ZREM" ∷ codes "unacked_index" ∷ tag ∷ []) queued
-    ∷ call 100 (codes "HDEL" ∷ codes "unacked" ∷ tag ∷ []) queued
+    ∷ call 100 (codes "ZREM" ∷ codes "unacked_index" ∷ message_tag ∷ []) queued
+    ∷ call 100 (codes "HDEL" ∷ codes "unacked" ∷ message_tag ∷ []) queued
     ∷ call 100 (codes "RPUSH" ∷ q ∷ marked_envelope ∷ []) queued
     ∷ call 100 (codes "EXEC" ∷ []) (integers (pos 1 ∷ pos 1 ∷ pos 1 ∷ []))
     ∷ []
@@ -96,14 +96,14 @@ returned =
 abbrev pub returned_gone : List Call
 returned_gone =
     call 100 (codes "WATCH" ∷ codes "unacked" ∷ []) done
-    ∷ call 100 (codes "HGET" ∷ codes "unacked" ∷ tag ∷ []) NullBulk
+    ∷ call 100 (codes "HGET" ∷ codes "unacked" ∷ message_tag ∷ []) NullBulk
     ∷ call 100 (codes "UNWATCH" ∷ []) done
     ∷ []
 
 abbrev pub returned_junk : List Call
 returned_junk =
     call 100 (codes "WATCH" ∷ codes "unacked" ∷ []) done
-    ∷ call 100 (codes "HGET" ∷ codes "unacked" ∷ tag ∷ []) (Bulk (codes "junk"))
+    ∷ call 100 (codes "HGET" ∷ codes "unacked" ∷ message_tag ∷ []) (Bulk (codes "junk"))
     ∷ call 100 (codes "UNWATCH" ∷ []) done
     ∷ []
 
@@ -119,10 +119,10 @@ returned_nowhere =
 abbrev pub returned_late : List Call
 returned_late =
     call 100 (codes "WATCH" ∷ codes "unacked" ∷ []) done
-    ∷ call 100 (codes "HGET" ∷ codes "unacked" ∷ tag ∷ []) (Bulk plain_envelope)
+    ∷ call 100 (codes "HGET" ∷ codes "unacked" ∷ message_tag ∷ []) (Bulk plain_envelope)
     ∷ call 100 (codes "MULTI" ∷ []) done
-    ∷ call 100 (codes "ZREM" ∷ codes "unacked_index" ∷ tag ∷ []) queued
-    ∷ call 100 (codes "HDEL" ∷ codes "unacked" ∷ tag ∷ []) queued
+    ∷ call 100 (codes "ZREM" ∷ codes "unacked_index" ∷ message_tag ∷ []) queued
+    ∷ call 100 (codes "HDEL" ∷ codes "unacked" ∷ message_tag ∷ []) queued
     ∷ call 100 (codes "RPUSH" ∷ q ∷ marked_envelope ∷ []) queued
     ∷ call 100 (codes "EXEC" ∷ []) NullArray
     ∷ returned_gone
@@ -140,10 +140,10 @@ released =
     ∷ call 100 (codes "EXEC" ∷ []) (Array (Integer (pos 1) ∷ []))
     ∷ []
 
-abbrev pub passed : List Call
-passed =
+abbrev pub passed_calls : List Call
+passed_calls =
     call 100 (codes "SET" ∷ codes "unacked_mutex" ∷ token 7 2 ∷ codes "NX" ∷ codes "EX" ∷ codes "300" ∷ []) done
-    ∷ call 100 (codes "ZREVRANGEBYSCORE" ∷ codes "unacked_index" ∷ decimal 90 ∷ codes "0" ∷ codes "LIMIT" ∷ codes "0" ∷ codes "10" ∷ []) (bulks (tag ∷ codes "junk" ∷ []))
+    ∷ call 100 (codes "ZREVRANGEBYSCORE" ∷ codes "unacked_index" ∷ decimal 90 ∷ codes "0" ∷ codes "LIMIT" ∷ codes "0" ∷ codes "10" ∷ []) (bulks (message_tag ∷ codes "junk" ∷ []))
     ∷ returned ++ released
 
 -- a command that concerns no message
@@ -156,4 +156,4 @@ all_blocks =
     declared (codes "SADD") ∷ declared (codes "SREM") ∷ published ∷ published_to_two ∷ published_to_none
     ∷ popped_nothing ∷ popped_junk ∷ popped ∷ ended
     ∷ returned ∷ returned_gone ∷ returned_junk ∷ returned_nowhere ∷ returned_late
-    ∷ passed_held ∷ passed ∷ pinged ∷ []
+    ∷ passed_held ∷ passed_calls ∷ pinged ∷ []

@@ -1,10 +1,10 @@
 use Rattle.std.proofs.Common.{◌≡◌, List, [], ◌∷◌, length, Option, None, refl, arith}
 use Rattle.serde_json.specs.View.{items_view}
 use Rattle.serde_json.specs.declared.value.Value.{Value}
-use Rattle.envelope.specs.Entries.{Entry, of_items}
+use Rattle.envelope.specs.Entries.{EntryParts, of_items}
 use Rattle.envelope.proofs.entry.three_of.Goals as goal
 
-not_three : (vs : List Value) → (length vs ≡ 3 → ⊥) → ◌≡◌ {A = Option Entry} None (of_items (items_view vs))
+not_three : (vs : List Value) → (length vs ≡ 3 → ⊥) → ◌≡◌ {A = Option EntryParts} None (of_items (items_view vs))
 not_three [] h = refl
 not_three (a ∷ []) h = refl
 not_three (a ∷ b ∷ []) h = refl
