@@ -22,8 +22,8 @@ use Rattle.block_core.specs.Cores.{HasHad, HasHadOn, IsListed, StateTells, core_
 use Rattle.block_core.specs.Goings.{HasGone, IsRefused}
 use Rattle.block_core.specs.Stages.{TellsOn, progress_left}
 use Rattle.block_core.specs.declared.block.BlockCore.{BlockCore}
-use Rattle.block_core.specs.declared.block.State.{State}
-use Rattle.block_core.specs.declared.block.State.TheVariants as state
+use Rattle.block_core.specs.declared.block.CoreState.{CoreState}
+use Rattle.block_core.specs.declared.block.CoreState.TheVariants as state
 use Rattle.block_core.specs.declared.fault.ReplyFault.{ReplyFault}
 use Rattle.block_core.specs.declared.fault.ReplyFault.TheVariants.{Refused, Memory}
 use Rattle.block_core.specs.declared.stage.Progress.{Progress}
@@ -52,10 +52,10 @@ module _ {S E : Type 0} (left : S → Script) (had : Plan → List Call → S �
       → ((plan : Plan) (calls : List Call) (last : Call) → last.answer ≡ r → had plan calls stage → TellsOn (had plan) (tell plan) (calls ++ last ∷ []) progress)
       → HasHad left had tell s p plan calls old → next_words (core_left left old) at ≡ Some words → HasHadOn (HasHad left had tell s p plan) calls (call at words r) new result
   gone_on old new stage progress reply result e is gone answered told h next = by progress gone (answered at) (told plan calls (call at words r) refl (subst (StateTells (had plan) (tell plan) calls) is h.tells)) where
-    after : (q : State S E) (rest : Script) → new.state ≡ q → state_left left q ≡ rest → IsAnswered (left stage) rest at r → IsAnswered (core_left left old) (core_left left new) at r
+    after : (q : CoreState S E) (rest : Script) → new.state ≡ q → state_left left q ≡ rest → IsAnswered (left stage) rest at r → IsAnswered (core_left left old) (core_left left new) at r
     after q rest e f a = subst (λ z. IsAnswered (state_left left z) (core_left left new) at r) (sym is) (subst (λ z. IsAnswered (left stage) z at r) (sym f ∙ sym (ap (state_left left) e)) a)
 
-    went : (q : State S E) → new.state ≡ q → result ≡ Ok tt → IsAnswered (left stage) (state_left left q) at r → StateTells (had plan) (tell plan) (calls ++ call at words r ∷ []) q → HasHadOn (HasHad left had tell s p plan) calls (call at words r) new result
+    went : (q : CoreState S E) → new.state ≡ q → result ≡ Ok tt → IsAnswered (left stage) (state_left left q) at r → StateTells (had plan) (tell plan) (calls ++ call at words r ∷ []) q → HasHadOn (HasHad left had tell s p plan) calls (call at words r) new result
     went q e f a t = subst (HasHadOn (HasHad left had tell s p plan) calls (call at words r) new) (sym f)
         (goes_on old new h next (after q (state_left left q) e refl a) (subst (StateTells (had plan) (tell plan) (calls ++ call at words r ∷ [])) (sym e) t))
 
@@ -102,7 +102,7 @@ listed_on {S} {E} left had tell s n p plan calls x new progress reply result say
 pub whole_ended : {S E : Type 0} (left : S → Script) (had : Plan → List Call → S → Type 0) (tell : Plan → List Call → E → Type 0) (s n p : ℕ) (plan : Plan) (calls : List Call) (core : BlockCore S E) → IsLawfulPlan plain_setting s n plan → HasHad left had tell s p plan calls core
     → IfSome (core_end core) (λ end. IsPlanBlock plain_setting s n p plan calls)
 whole_ended {S} {E} left had tell s n p plan calls core lawful h = by core.state h.trace where
-  by : (q : State S E) → IsTrace (script_of plain_setting s p plan) calls (state_left left q) → IfSome (state_end q) (λ end. IsPlanBlock plain_setting s n p plan calls)
+  by : (q : CoreState S E) → IsTrace (script_of plain_setting s p plan) calls (state_left left q) → IfSome (state_end q) (λ end. IsPlanBlock plain_setting s n p plan calls)
   by (state.Saying stage) t = tt
   by (state.Over None) t = tt
   by (state.Over (Some end)) t = (trace_front plain_setting s n p plan lawful calls Over t).whole refl

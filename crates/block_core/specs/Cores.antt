@@ -8,13 +8,13 @@ use Rattle.command_blocks.specs.Scripts.{Plan, Script, Over, Off, script_of}
 use Rattle.block_laws.specs.Rows.{IsLawfulPlan, IsPlanBlock}
 use Rattle.block_laws.specs.Traces.{IsTrace, IsFrontOf}
 use Rattle.block_core.specs.declared.block.BlockCore.{BlockCore}
-use Rattle.block_core.specs.declared.block.State.{State}
-use Rattle.block_core.specs.declared.block.State.TheVariants as state
+use Rattle.block_core.specs.declared.block.CoreState.{CoreState}
+use Rattle.block_core.specs.declared.block.CoreState.TheVariants as state
 use Rattle.block_core.specs.declared.fault.ReplyFault.{ReplyFault}
 use Rattle.block_core.specs.declared.fault.ReplyFault.TheVariants.{Refused, Memory}
 
 -- what is left to say in a state, by what is left at a stage
-abbrev pub state_left : {S E : Type 0} → (S → Script) → State S E → Script
+abbrev pub state_left : {S E : Type 0} → (S → Script) → CoreState S E → Script
 state_left left (state.Saying stage) = left stage
 state_left left (state.Over end) = Over
 state_left left state.Off = Off
@@ -25,7 +25,7 @@ abbrev pub core_left : {S E : Type 0} → (S → Script) → BlockCore S E → S
 core_left left core = state_left left core.state
 
 -- the end of a block that is over, if it wasn't given yet
-abbrev pub state_end : {S E : Type 0} → State S E → Option E
+abbrev pub state_end : {S E : Type 0} → CoreState S E → Option E
 state_end (state.Saying stage) = None
 state_end (state.Over end) = end
 state_end state.Off = None
@@ -35,7 +35,7 @@ abbrev pub core_end : {S E : Type 0} → BlockCore S E → Option E
 core_end core = state_end core.state
 
 -- whether memory was wanting
-abbrev pub is_spent_state : {S E : Type 0} → State S E → Bool
+abbrev pub is_spent_state : {S E : Type 0} → CoreState S E → Bool
 is_spent_state (state.Saying stage) = false
 is_spent_state (state.Over end) = false
 is_spent_state state.Off = false
@@ -47,7 +47,7 @@ is_spent core = is_spent_state core.state
 -- ---- what a core has had
 
 -- what a state holds tells of the calls so far
-abbrev pub StateTells : {S E : Type 0} → (List Call → S → Type 0) → (List Call → E → Type 0) → List Call → State S E → Type 0
+abbrev pub StateTells : {S E : Type 0} → (List Call → S → Type 0) → (List Call → E → Type 0) → List Call → CoreState S E → Type 0
 StateTells had tells calls (state.Saying stage) = had calls stage
 StateTells had tells calls (state.Over None) = Unit {0}
 StateTells had tells calls (state.Over (Some end)) = tells calls end

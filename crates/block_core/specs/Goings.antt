@@ -2,7 +2,7 @@
 use Rattle.std.specs.Prelude.{◌≡◌, ⊤, Result, Ok, Err, Some}
 use Rattle.store_model.specs.declared.reply.Reply.{Reply}
 use Rattle.block_core.specs.declared.block.BlockCore.{BlockCore}
-use Rattle.block_core.specs.declared.block.State.TheVariants as state
+use Rattle.block_core.specs.declared.block.CoreState.TheVariants as state
 use Rattle.block_core.specs.declared.fault.ReplyFault.{ReplyFault}
 use Rattle.block_core.specs.declared.fault.ReplyFault.TheVariants.{Refused, Memory}
 use Rattle.block_core.specs.declared.stage.Progress.{Progress}

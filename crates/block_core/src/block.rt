@@ -23,12 +23,12 @@ use wire_values::Words;
 /// spent: `next` and `took` answer want of memory from then on, and there is no end.
 #[derive(Drop)]
 pub struct BlockCore<S, E> {
-    state: State<S, E>,
+    state: CoreState<S, E>,
 }
 
 /// How far a block is.
 #[derive(Drop)]
-pub(crate) enum State<S, E> {
+pub(crate) enum CoreState<S, E> {
     /// A command is next.
     Saying(S),
     /// The block is over, with its end where that wasn't given yet.
@@ -49,7 +49,7 @@ impl<S: Stage> BlockCore<S, S::End> {
             → HasHad S.left S.had S.tells s p plan [] result }
     {
         BlockCore {
-            state: State::Saying(stage),
+            state: CoreState::Saying(stage),
         }
     }
 
@@ -66,9 +66,9 @@ impl<S: Stage> BlockCore<S, S::End> {
         ensures spent { is_spent self.now ≡ true → result ≡ Err alloc_error }
     {
         match &self.state {
-            State::Saying(stage) => Ok(Some(stage.words(alloc, at)?)),
-            State::Over(_) | State::Off => Ok(None),
-            State::Spent => Err(AllocError),
+            CoreState::Saying(stage) => Ok(Some(stage.words(alloc, at)?)),
+            CoreState::Over(_) | CoreState::Off => Ok(None),
+            CoreState::Spent => Err(AllocError),
         }
     }
 
@@ -95,13 +95,13 @@ impl<S: Stage> BlockCore<S, S::End> {
             → next_words (core_left S.left self.old) at ≡ Some words
             → IsListed (IsPlanBlock plain_setting s n p plan) (calls ++ call at words reply.now.answer ∷ []) result }
     {
-        match mem::replace(&mut self.state, State::Spent) {
-            State::Saying(stage) => match stage.answered(alloc, &reply.answer) {
+        match mem::replace(&mut self.state, CoreState::Spent) {
+            CoreState::Saying(stage) => match stage.answered(alloc, &reply.answer) {
                 Ok(progress) => self.go(alloc, reply, progress),
                 Err(_) => Err(ReplyFault::Memory),
             },
-            State::Spent => Err(ReplyFault::Memory),
-            State::Over(_) | State::Off => unreachable!(),
+            CoreState::Spent => Err(ReplyFault::Memory),
+            CoreState::Over(_) | CoreState::Off => unreachable!(),
         }
     }
 
@@ -116,11 +116,11 @@ impl<S: Stage> BlockCore<S, S::End> {
     {
         match progress {
             Progress::Next(stage) => {
-                self.put(State::Saying(stage));
+                self.put(CoreState::Saying(stage));
                 Ok(())
             }
             Progress::Over(end) => {
-                self.put(State::Over(Some(end)));
+                self.put(CoreState::Over(Some(end)));
                 Ok(())
             }
             Progress::Refused => self.refuse(alloc, reply),
@@ -144,8 +144,8 @@ impl<S: Stage> BlockCore<S, S::End> {
             → IfSome result (λ _. IsPlanBlock plain_setting s n p plan calls) }
     {
         match &mut self.state {
-            State::Over(end) => end.take(),
-            State::Saying(_) | State::Off | State::Spent => None,
+            CoreState::Over(end) => end.take(),
+            CoreState::Saying(_) | CoreState::Off | CoreState::Spent => None,
         }
     }
 
@@ -154,8 +154,8 @@ impl<S: Stage> BlockCore<S, S::End> {
         ensures { result ≡ is_saying (core_left S.left self.now) }
     {
         match &self.state {
-            State::Saying(_) => true,
-            State::Over(_) | State::Off | State::Spent => false,
+            CoreState::Saying(_) => true,
+            CoreState::Over(_) | CoreState::Off | CoreState::Spent => false,
         }
     }
 
@@ -164,13 +164,13 @@ impl<S: Stage> BlockCore<S, S::End> {
         ensures { result ≡ is_off (core_left S.left self.now) }
     {
         match &self.state {
-            State::Saying(_) | State::Over(_) => false,
-            State::Off | State::Spent => true,
+            CoreState::Saying(_) | CoreState::Over(_) => false,
+            CoreState::Off | CoreState::Spent => true,
         }
     }
 
     /// Goes to a state.
-    fn put(&mut self, state: State<S, S::End>)
+    fn put(&mut self, state: CoreState<S, S::End>)
         ensures { self.new.state ≡ state }
     {
         self.state = state;
@@ -180,7 +180,7 @@ impl<S: Stage> BlockCore<S, S::End> {
     fn refuse(&mut self, alloc: Global, reply: &Reply) -> Result<(), ReplyFault>
         ensures { IsRefused reply.now self.new result }
     {
-        self.put(State::Off);
+        self.put(CoreState::Off);
         match ReplyFault::refused(alloc, reply) {
             Ok(fault) => Err(fault),
             Err(_) => self.spend(),
@@ -191,7 +191,7 @@ impl<S: Stage> BlockCore<S, S::End> {
     fn spend(&mut self) -> Result<(), ReplyFault>
         ensures { IsSpent self.new result }
     {
-        self.put(State::Spent);
+        self.put(CoreState::Spent);
         Err(ReplyFault::Memory)
     }
 }

@@ -96,13 +96,13 @@ pub record IsLawful (σ : Setting) : Type 0 where
 -- ---- the setting of a layout
 
 -- an exchange that has a name
-abbrev pub if_named : Bytes → Option Bytes
-if_named [] = None
-if_named (b ∷ e) = Some (b ∷ e)
+abbrev pub named_or_none : Bytes → Option Bytes
+named_or_none [] = None
+named_or_none (b ∷ e) = Some (b ∷ e)
 
 -- the exchange of a way, none where it is empty
 abbrev pub named_exchange : Option Way → Option Bytes
-named_exchange w = option_and_then (λ w. if_named w.exchange) w
+named_exchange w = option_and_then (λ w. named_or_none w.exchange) w
 
 -- the keys of a way's queues at the step of its priority, by the members of its exchange's bindings
 abbrev pub way_keys : Layout → Option Way → List Bytes → List Bytes

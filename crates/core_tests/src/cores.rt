@@ -128,9 +128,11 @@ fn pop_refuses(alloc: Global, count: usize) -> Result<bool, Fail> {
     let mut store = store_with(alloc, message())?;
     let mut core = pop(alloc)?;
     let rows = pop_rows();
-    Ok(count <= rows.len()
-        && says_all(alloc, &mut store, &mut core, &rows[..count])?
-        && refuses(alloc, &mut core)?)
+    Ok(
+        count <= rows.len()
+            && says_all(alloc, &mut store, &mut core, &rows[..count])?
+            && refuses(alloc, &mut core)?,
+    )
 }
 
 /// The same of an acknowledgement.
@@ -138,9 +140,11 @@ fn end_refuses(alloc: Global, count: usize) -> Result<bool, Fail> {
     let mut store = Store::new(alloc);
     let mut core = acknowledgement();
     let rows = end_rows();
-    Ok(count <= rows.len()
-        && says_all(alloc, &mut store, &mut core, &rows[..count])?
-        && refuses(alloc, &mut core)?)
+    Ok(
+        count <= rows.len()
+            && says_all(alloc, &mut store, &mut core, &rows[..count])?
+            && refuses(alloc, &mut core)?,
+    )
 }
 
 #[test]
@@ -150,7 +154,10 @@ fn another_answer_puts_a_core_off(rt: HostRuntime) -> Result<(), Fail> {
         assert!(rt; pop_refuses(alloc, count)?, "a pop after {count} commands");
     }
     for count in 0..4 {
-        assert!(rt; end_refuses(alloc, count)?, "an acknowledgement after {count} commands");
+        assert!(rt;
+            end_refuses(alloc, count)?,
+            "an acknowledgement after {count} commands"
+        );
     }
     let mut core = publication(alloc)?;
     assert!(rt; refuses(alloc, &mut core)?);

@@ -63,12 +63,7 @@ pub fn write_entry(alloc: Global, e: &Envelope) -> Result<Bytes, AllocError>
 {
     let exchange = quoted(alloc, e.found.exchange.as_str())?;
     let routing_key = quoted(alloc, e.found.routing_key.as_str())?;
-    array_text(
-        alloc,
-        e.text(),
-        exchange.as_slice(),
-        routing_key.as_slice(),
-    )
+    array_text(alloc, e.text(), exchange.as_slice(), routing_key.as_slice())
 }
 
 /// A text as it stands in JSON.
@@ -81,12 +76,7 @@ fn quoted(alloc: Global, text: &str) -> Result<Bytes, AllocError>
 }
 
 /// The text of an array of three texts.
-fn array_text(
-    alloc: Global,
-    first: &[u8],
-    second: &[u8],
-    third: &[u8],
-) -> Result<Bytes, AllocError>
+fn array_text(alloc: Global, first: &[u8], second: &[u8], third: &[u8]) -> Result<Bytes, AllocError>
     ensures { IfOk result (λ b. b
         ≡ 91 ∷ (first.now ++ 44 ∷ (second.now ++ 44 ∷ (third.now ++ 93 ∷ [])))) }
 {

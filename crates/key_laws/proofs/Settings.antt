@@ -3,13 +3,13 @@ use Rattle.std.proofs.Common.{◌≡◌, List, [], ◌∷◌, true, Option, Some
 use Rattle.queue_keys.specs.Names.{Bytes}
 use Rattle.queue_keys.specs.Layouts.{Layout, is_layout, step_of}
 use Rattle.queue_keys.specs.QueueKeys.{is_queue_key, Each, Differ}
-use Rattle.command_blocks.specs.Setting.{Texts, IsTexts, IsLawful, Way, if_named, named_exchange, way_keys, setting_of}
+use Rattle.command_blocks.specs.Setting.{Texts, IsTexts, IsLawful, Way, named_or_none, named_exchange, way_keys, setting_of}
 use Rattle.key_laws.proofs.Others.{unacked_not, index_not, mutex_not, binding_not, reply_not, table_apart, mutex_unacked, mutex_index, binding_unacked, binding_index, reply_unacked, reply_index}
 use Rattle.key_laws.proofs.Lists.{pops_are}
 use Rattle.key_laws.proofs.Steps.{has_step}
 use Rattle.key_laws.proofs.Routes.{routes_are, routes_differ}
 
-unnamed : (e : Bytes) → if_named e ≡ None → e ≡ []
+unnamed : (e : Bytes) → named_or_none e ≡ None → e ≡ []
 unnamed [] h = refl
 unnamed (b ∷ e) h = cc
 

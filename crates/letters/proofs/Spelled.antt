@@ -8,7 +8,7 @@ use Rattle.envelope.specs.declared.fault.EnvelopeFault.{EnvelopeFault}
 use Rattle.envelope.proofs.BodyTexts.{entry_is_read, envelope_from_read}
 use Rattle.envelope.proofs.Said.{said_is}
 use Rattle.envelope.proofs.Told.{told_by}
-use Rattle.letters.specs.Letters.{entry_letter, entry_or_none, envelope_letter, envelope_or, letter_of}
+use Rattle.letters.specs.Letters.{entry_letter, entry_or_none, envelope_letter, letter_or, letter_of}
 
 same_tree : (a b : Data) → ◌≡◌ {A = Option Data} (Some a) (Some b) → a ≡ b
 same_tree a b e = cc
@@ -41,6 +41,6 @@ pub of_entry : (w : List ℕ) (f : EntryParts) → entry_at w ≡ Ok f → lette
 unfolding letter_of
 of_entry w f e = go (envelope_at w) refl
   where
-    go : (r : Result Data EnvelopeFault) → envelope_at w ≡ r → envelope_or r (entry_or_none (entry_at w)) ≡ Some (entry_letter f.tree)
+    go : (r : Result Data EnvelopeFault) → envelope_at w ≡ r → letter_or r (entry_or_none (entry_at w)) ≡ Some (entry_letter f.tree)
     go (Ok d) h = absurd (no_envelope w f d e h)
     go (Err x) h = rw e refl

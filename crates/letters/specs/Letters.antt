@@ -22,10 +22,10 @@ entry_or_none (Ok e) = Some (entry_letter e.tree)
 entry_or_none (Err fault) = None
 
 -- an envelope, or else what it spells besides
-abbrev pub envelope_or : Result Data EnvelopeFault → Option Letter → Option Letter
-envelope_or (Ok d) rest = Some (envelope_letter d)
-envelope_or (Err fault) rest = rest
+abbrev pub letter_or : Result Data EnvelopeFault → Option Letter → Option Letter
+letter_or (Ok d) rest = Some (envelope_letter d)
+letter_or (Err fault) rest = rest
 
 -- what a text spells, none where it is neither
 unfoldable pub letter_of : List ℕ → Option Letter
-letter_of b = envelope_or (envelope_at b) (entry_or_none (entry_at b))
+letter_of b = letter_or (envelope_at b) (entry_or_none (entry_at b))

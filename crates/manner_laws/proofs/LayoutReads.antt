@@ -6,7 +6,7 @@ use Rattle.std.proofs.lemmas.Bool.Decides.{nat_tests}
 use Rattle.queue_keys.specs.Names.{Bytes, is_name, binding_front}
 use Rattle.queue_keys.specs.Layouts.{Layout, is_layout, is_prefix, HasStep, rises, rises_from_zero}
 use Rattle.queue_keys.specs.QueueKeys.{after_front, queue_key, keys_at, keys_by, Each}
-use Rattle.command_blocks.specs.Setting.{Texts, Way, if_named, named_exchange, setting_of}
+use Rattle.command_blocks.specs.Setting.{Texts, Way, named_or_none, named_exchange, setting_of}
 use Rattle.command_blocks.specs.RouteBlocks.{is_exchange}
 use Rattle.queue_keys.proofs.Splits.{rest_after-front, split_of_key}
 use Rattle.manner_laws.specs.Cursor.{onto_queues, queues_among, IsReadable}
@@ -23,7 +23,7 @@ above_zero s t h = grind (arith, nat_tests)
 fits : (k : ℕ) → nat_le (suc k) 255 ≡ true → nat_lt k 255 ≡ true
 fits k h = grind (arith, nat_tests)
 
-short_enough : (e : Bytes) (x : Bytes) → if_named x ≡ Some e → (nat_le (length x) 255 && is_utf8 x) ≡ true → is_exchange e ≡ true
+short_enough : (e : Bytes) (x : Bytes) → named_or_none x ≡ Some e → (nat_le (length x) 255 && is_utf8 x) ≡ true → is_exchange e ≡ true
 short_enough e [] h i = none_some _ e h
 short_enough e (b ∷ x) h i =
     let s = and_true (nat_le (length (b ∷ x)) 255) (is_utf8 (b ∷ x)) i in

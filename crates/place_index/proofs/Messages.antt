@@ -9,7 +9,7 @@ use Rattle.envelope.specs.Marks.{is_marked}
 use Rattle.envelope.specs.Tags.{tag_text}
 use Rattle.envelope.specs.declared.fault.EnvelopeFault.{EnvelopeFault}
 use Rattle.envelope.proofs.TagTexts.{tag_of_text-tag_text}
-use Rattle.letters.specs.Letters.{entry_or_none, envelope_or, letter_of}
+use Rattle.letters.specs.Letters.{entry_or_none, letter_or, letter_of}
 use Rattle.letters.specs.declared.letter.Letter.{Letter}
 use Rattle.letters.specs.declared.letter.Letter.TheVariants as letter
 use Rattle.place_index.specs.Gathered.{number_told}
@@ -39,7 +39,7 @@ letter_tells b n m h fits = go (envelope_at b) refl h
     by_entry (Ok x) i = cc
     by_entry (Err f) i = cc
 
-    go : (r : Result Data EnvelopeFault) → envelope_at b ≡ r → envelope_or r (entry_or_none (entry_at b)) ≡ Some (letter.Envelope n m) → Some n ≡ number_told (tag_of_bytes b)
+    go : (r : Result Data EnvelopeFault) → envelope_at b ≡ r → letter_or r (entry_or_none (entry_at b)) ≡ Some (letter.Envelope n m) → Some n ≡ number_told (tag_of_bytes b)
     go (Ok d) e i = message_is b d n e (sym (same_number (parts_in d).tag n (is_marked d) m i)) fits
     go (Err f) e i = by_entry (entry_at b) i
 
@@ -48,6 +48,6 @@ pub entry_tells : (b : Bytes) (n : ℕ) (m : Bool) → letter_of b ≡ Some (let
 unfolding letter_of
 entry_tells b n m h = go (envelope_at b) refl h
   where
-    go : (r : Result Data EnvelopeFault) → envelope_at b ≡ r → envelope_or r (entry_or_none (entry_at b)) ≡ Some (letter.Entry n m) → None ≡ number_told (tag_of_bytes b)
+    go : (r : Result Data EnvelopeFault) → envelope_at b ≡ r → letter_or r (entry_or_none (entry_at b)) ≡ Some (letter.Entry n m) → None ≡ number_told (tag_of_bytes b)
     go (Ok d) e i = cc
     go (Err f) e i = no_message b f e

@@ -36,11 +36,7 @@ pub(crate) fn read_words(
 }
 
 /// What a command tells.
-fn of_command(
-    alloc: Global,
-    letters: &mut Letters,
-    command: Command,
-) -> Result<Told, AllocError>
+fn of_command(alloc: Global, letters: &mut Letters, command: Command) -> Result<Told, AllocError>
     ensures { IfOk result (λ told. told ≡ record { kind = kind_of command; act = act_of plain_setting command }) }
 {
     let kind = kind_of(&command);

@@ -16,11 +16,11 @@ use Rattle.replay.proofs.Written.{piece}
 use Rattle.replay.specs.Kinds.{totals}
 use Rattle.place_model.specs.Placed.{all_placed, placed}
 use Rattle.schedule_model.specs.Legends.{number_or}
-use Rattle.schedule_model.specs.Reports.{Legend, entry_line, entry_lines, line, place_line, report_text, total_line}
+use Rattle.schedule_model.specs.Reports.{ReportLegend, entry_line, entry_lines, line, place_line, report_text, total_line}
 use Rattle.place_model.specs.Accepted.{places}
 
 -- one more entry is written
-pub lines_more : (l : Legend) (out longer whole : List ℕ) (es : List (Entry Heard)) (i : ℕ) (e : Entry Heard) → i < length es → e ≡ get_or es i e → longer ≡ out ++ entry_line l (i + 1) e → out ++ entry_lines l (i + 1) (drop i es) ≡ whole → longer ++ entry_lines l (i + 1 + 1) (drop (i + 1) es) ≡ whole
+pub lines_more : (l : ReportLegend) (out longer whole : List ℕ) (es : List (Entry Heard)) (i : ℕ) (e : Entry Heard) → i < length es → e ≡ get_or es i e → longer ≡ out ++ entry_line l (i + 1) e → out ++ entry_lines l (i + 1) (drop i es) ≡ whole → longer ++ entry_lines l (i + 1 + 1) (drop (i + 1) es) ≡ whole
 lines_more l out longer whole es i e lt read f so_far =
     let left = drop (i + 1) es in
     let next : drop i es ≡ e ∷ left = drop_more es i e lt ∙ ap (λ x. x ∷ left) (sym read) in
@@ -51,7 +51,7 @@ place_written n fits words out o p q e f g =
     ∙ ap (λ m. out ++ ((codes "place" ++ ((codes " " ++ tag_short (m / 2 ^ 64) (m % 2 ^ 64)) ++ words)) ++ 10 ∷ [])) (sym (number_of_tag n fits)))))
 
 -- a report is written
-pub report_written : (l : Legend) (h : History Heard) (es : List (Entry Heard)) (tags : List (Tag × Place)) (o p q r : List ℕ) → h.entries ≡ es → all_placed tags ≡ places l.setting h → o ≡ codes "celery-report 1\n" → p ≡ o ++ entry_lines l 1 es → q ≡ p ++ flat_map (λ t. place_line l (placed t)) tags → r ≡ q ++ total_line (all_placed tags) → r ≡ report_text l h
+pub report_written : (l : ReportLegend) (h : History Heard) (es : List (Entry Heard)) (tags : List (Tag × Place)) (o p q r : List ℕ) → h.entries ≡ es → all_placed tags ≡ places l.setting h → o ≡ codes "celery-report 1\n" → p ≡ o ++ entry_lines l 1 es → q ≡ p ++ flat_map (λ t. place_line l (placed t)) tags → r ≡ q ++ total_line (all_placed tags) → r ≡ report_text l h
 report_written l h es tags o p q r same told e f g k =
     k ∙ (ap (λ t. t ++ total_line (all_placed tags)) (g ∙ (ap (λ t. t ++ flat_map (λ x. place_line l (placed x)) tags) (f ∙ ap (λ t. t ++ entry_lines l 1 es) e)
     ∙ ap (λ t. (codes "celery-report 1\n" ++ entry_lines l 1 es) ++ t) (sym (flat_map-map (place_line l) placed tags))))

@@ -1,12 +1,12 @@
 -- The kinds of place that a report counts.
 use Rattle.std.specs.Prelude.{ℕ, Bool, List, ◌++◌, codes, decimal}
 use Rattle.place_model.specs.declared.place.Place.{Place}
-use Rattle.replay.specs.declared.place_text.Kind.{Kind}
-use Rattle.replay.specs.declared.place_text.Kind.TheVariants.{Lists, Unacked, Hands, Ended, Lost, Copies}
+use Rattle.replay.specs.declared.place_text.PlaceKind.{PlaceKind}
+use Rattle.replay.specs.declared.place_text.PlaceKind.TheVariants.{Lists, Unacked, Hands, Ended, Lost, Copies}
 use Rattle.schedule_model.specs.Reports.{is_copies, is_ended, is_hand, is_list, is_lost, is_unacked}
 
 -- whether a place is of a kind
-abbrev pub is_of : Kind → Place → Bool
+abbrev pub is_of : PlaceKind → Place → Bool
 is_of Lists = is_list
 is_of Unacked = is_unacked
 is_of Hands = is_hand

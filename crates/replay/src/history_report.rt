@@ -11,7 +11,7 @@ use letters::Letters;
 use mini_store::Store;
 use place_index::{places_beside, store_after};
 use place_model::History;
-use schedule_world::Ran;
+use schedule_world::ScheduleRun;
 use std::alloc::{AllocError, Global};
 use wire_values::Bytes;
 
@@ -24,11 +24,11 @@ pub fn report(alloc: Global, history: &History) -> Result<Bytes, AllocError>
 }
 
 /// The report of the history that a schedule's run leaves, beside its store and what is known of its texts.
-pub fn report_ran(alloc: Global, ran: Ran) -> Result<Bytes, AllocError>
+pub fn report_ran(alloc: Global, ran: ScheduleRun) -> Result<Bytes, AllocError>
     requires { ran.store.state ≡ (after (history_of ran.history)).store }
     ensures { IfOk result (λ text. text ≡ report_text program_legend (history_of ran.history)) }
 {
-    let Ran {
+    let ScheduleRun {
         history,
         store,
         letters,

@@ -11,4 +11,4 @@ mod report_lines;
 pub use history_report::{report, report_ran};
 pub use legend::{Celery, Lettered};
 pub use report_lines::report_of;
-pub use schedule_world::{LineFault, Ran, RunFault, World, run_schedule, run_whole};
+pub use schedule_world::{LineFault, RunFault, ScheduleRun, World, run_schedule, run_whole};

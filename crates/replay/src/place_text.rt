@@ -18,7 +18,7 @@ use std::alloc::{AllocError, Global};
 
 /// A kind of place.
 #[derive(Clone, Copy, Debug, PartialEq, Eq, Drop)]
-pub(crate) enum Kind {
+pub(crate) enum PlaceKind {
     Lists,
     Unacked,
     Hands,
@@ -113,12 +113,12 @@ pub(crate) fn total_line(
     ensures { OnOk result (out.new.items
         ≡ out.old.items ++ total_line (all_placed places.now)) }
 {
-    let lists = total(places, Kind::Lists);
-    let unacked = total(places, Kind::Unacked);
-    let hands = total(places, Kind::Hands);
-    let ended = total(places, Kind::Ended);
-    let lost = total(places, Kind::Lost);
-    let copies = total(places, Kind::Copies);
+    let lists = total(places, PlaceKind::Lists);
+    let unacked = total(places, PlaceKind::Unacked);
+    let hands = total(places, PlaceKind::Hands);
+    let ended = total(places, PlaceKind::Ended);
+    let lost = total(places, PlaceKind::Lost);
+    let copies = total(places, PlaceKind::Copies);
     total_text(alloc, out, lists, unacked, hands, ended, lost, copies)?;
     Ok(())
 }
@@ -158,29 +158,29 @@ fn counted(alloc: Global, out: &mut Vec<u8>, name: &[u8], count: usize) -> Resul
 }
 
 /// How many of the places are of a kind.
-fn total(places: &[(Tag, Place)], kind: Kind) -> usize
+fn total(places: &[(Tag, Place)], kind: PlaceKind) -> usize
     ensures { result ≡ count_by (λ p. is_of kind p.1) (all_placed places.now) }
 {
     count(places, kind)
 }
 
 /// The same, over tags as numbers.
-fn count(places: &[(Tag, Place)], kind: Kind) -> usize
+fn count(places: &[(Tag, Place)], kind: PlaceKind) -> usize
     ensures { result ≡ count_by (λ p. is_of kind p.1) places.now }
 {
     places.iter().filter(|p| is_of(kind, &p.1)).count()
 }
 
 /// Whether a place is of a kind.
-fn is_of(kind: Kind, place: &Place) -> bool
+fn is_of(kind: PlaceKind, place: &Place) -> bool
     ensures { result ≡ is_of kind place.now }
 {
     match kind {
-        Kind::Lists => matches!(place, Place::List { .. }),
-        Kind::Unacked => matches!(place, Place::Unacked),
-        Kind::Hands => matches!(place, Place::Hand(_)),
-        Kind::Ended => matches!(place, Place::Ended),
-        Kind::Lost => matches!(place, Place::Lost(_)),
-        Kind::Copies => matches!(place, Place::Copies),
+        PlaceKind::Lists => matches!(place, Place::List { .. }),
+        PlaceKind::Unacked => matches!(place, Place::Unacked),
+        PlaceKind::Hands => matches!(place, Place::Hand(_)),
+        PlaceKind::Ended => matches!(place, Place::Ended),
+        PlaceKind::Lost => matches!(place, Place::Lost(_)),
+        PlaceKind::Copies => matches!(place, Place::Copies),
     }
 }

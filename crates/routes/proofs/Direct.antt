@@ -15,7 +15,7 @@ use Rattle.queue_keys.specs.Lookup.{route_keys}
 use Rattle.queue_keys.specs.Names.{Bytes, is_name}
 use Rattle.queue_keys.specs.QueueKeys.{keys_at, queue_key}
 use Rattle.command_blocks.specs.Scripts.{asking_script, publish_script, pushes}
-use Rattle.command_blocks.specs.Setting.{Way, if_named, named_exchange, way_keys}
+use Rattle.command_blocks.specs.Setting.{Way, named_or_none, named_exchange, way_keys}
 use Rattle.place_model.proofs.CommandLimits.{IsShort, key_short, three_within}
 use Rattle.routes.specs.Publishes.{GoesDirectly, direct_key}
 
@@ -39,7 +39,7 @@ module _ (d : Data) (h : GoesDirectly d) where
   pub direct_script : publish_script plain_setting text ≡ pushes text (direct_key d ∷ [])
   direct_script =
       ap (λ (w : Option Way). asking_script plain_setting (named_exchange w) (λ ms. pushes text (way_keys plain w ms))) way_is
-      ∙ ap (λ (e : Bytes). asking_script plain_setting (if_named e) (λ ms. pushes text (route_keys plain step e (parts_in d).routing_key ms))) h.exchange
+      ∙ ap (λ (e : Bytes). asking_script plain_setting (named_or_none e) (λ ms. pushes text (route_keys plain step e (parts_in d).routing_key ms))) h.exchange
       ∙ ap (pushes text) one_key
 
   -- its keys without bindings are that one

@@ -5,7 +5,7 @@ use Rattle.std.specs.List.{list_any}
 use Rattle.queue_keys.specs.Bindings.{is_part}
 use Rattle.queue_keys.specs.Names.{Bytes, all_free, has_length, is_name, is_reserved}
 use Rattle.queue_keys.specs.QueueKeys.{Each}
-use Rattle.command_blocks.specs.Setting.{if_named}
+use Rattle.command_blocks.specs.Setting.{named_or_none}
 use Rattle.command_blocks.specs.TakeBlocks.{IsPop}
 use Rattle.command_blocks.specs.Scripts.{Plan, Declare, Undeclare, Publish, Pop, End, Return, Pass}
 use Rattle.command_blocks.specs.declared.block.Side.TheVariants.{Left, Right}
@@ -62,7 +62,7 @@ declaration x k p q h =
 
 -- ---- publications
 
-unnamed : (x : Bytes) → if_named x ≡ None → x ≡ []
+unnamed : (x : Bytes) → named_or_none x ≡ None → x ≡ []
 unnamed [] e = refl
 unnamed (b ∷ x) e = cc
 

@@ -14,7 +14,7 @@ use Rattle.place_model.specs.Histories.{calls_of, Client, SystemState, after_ent
 use Rattle.command_blocks.specs.Scripts.{Script, Over, Off, Say}
 use Rattle.place_model.specs.declared.history.Entry.TheVariants.{Call as Called, Stop}
 use Rattle.schedule_model.specs.Costs.{is_full}
-use Rattle.schedule_model.specs.Desk.{Book, ScheduleReader, first_desk, with_book, reader_with_client, Said, with_call, said_one, said_all, with_stop}
+use Rattle.schedule_model.specs.Desk.{ClientBook, ScheduleReader, first_desk, with_book, reader_with_client, Said, with_call, said_one, said_all, with_stop}
 use Rattle.schedule_model.specs.Faults.{has_number, has_seed}
 use Rattle.schedule_laws.specs.Sound.{RisesTo}
 use Rattle.block_laws.proofs.Values.{some_is}
@@ -30,7 +30,7 @@ abbrev pub now : ScheduleReader → SystemState
 now d = after_entries (start d) d.entries
 
 -- a client's book: the client is known by the world, and has called what the book says
-pub record IsBookOf (σ : Setting) (d : ScheduleReader) (c : ℕ) (b : Book) : Type 0 where
+pub record IsBookOf (σ : Setting) (d : ScheduleReader) (c : ℕ) (b : ClientBook) : Type 0 where
   pub client : Client
   pub known : get (now d).clients c ≡ Some client
   pub stopped : client.stopped ≡ b.stopped
@@ -43,8 +43,8 @@ pub record Holds (σ : Setting) (d : ScheduleReader) : Type 0 where
   pub rises : RisesTo 0 d.entries d.moment
   pub store : (now d).store ≡ d.store
   pub legal : AllMayCome (start d) d.entries
-  pub book_of : (c s : ℕ) → Among (c, s) d.clients → (b : Book) × (get d.books c ≡ Some b) × (b.seed ≡ s)
-  pub books : (c : ℕ) (b : Book) → get d.books c ≡ Some b → IsBookOf σ d c b
+  pub book_of : (c s : ℕ) → Among (c, s) d.clients → (b : ClientBook) × (get d.books c ≡ Some b) × (b.seed ≡ s)
+  pub books : (c : ℕ) (b : ClientBook) → get d.books c ≡ Some b → IsBookOf σ d c b
 
 pub first_holds : (σ : Setting) → Holds σ first_desk
 first_holds σ = record {
@@ -56,20 +56,20 @@ first_holds σ = record {
   book_of = λ c s h. absurd h;
   books = λ c b is. absurd (nobody c b is);
 } where
-  nobody : (c : ℕ) (b : Book) → get (empty {X = Book} {R = nat_cmp}) c ≡ Some b → ⊥
+  nobody : (c : ℕ) (b : ClientBook) → get (empty {X = ClientBook} {R = nat_cmp}) c ≡ Some b → ⊥
   nobody c b is = let e : None ≡ Some b = sym (get-empty nat_cmp c) ∙ is in absurd (cc e)
 
 -- ---- a book that changes
 
 -- where a book is written that keeps its client's seed, each client of the table has a book with its seed
-rewritten : (m : FinMap nat_cmp Book) (c : ℕ) (b b' : Book) → get m c ≡ Some b → b'.seed ≡ b.seed → (k s : ℕ) → (x : Book) × (get m k ≡ Some x) × (x.seed ≡ s) → (x : Book) × (get (insert m c b') k ≡ Some x) × (x.seed ≡ s)
+rewritten : (m : FinMap nat_cmp ClientBook) (c : ℕ) (b b' : ClientBook) → get m c ≡ Some b → b'.seed ≡ b.seed → (k s : ℕ) → (x : ClientBook) × (get m k ≡ Some x) × (x.seed ≡ s) → (x : ClientBook) × (get (insert m c b') k ≡ Some x) × (x.seed ≡ s)
 rewritten m c b b' book seed k s old = by (same_or k c) where
-  by : (k ≡ c) ⊎ (k ≢ c) → (x : Book) × (get (insert m c b') k ≡ Some x) × (x.seed ≡ s)
-  by (inl e) = (b', ap (get (insert m c b')) e ∙ get_same m c b', seed ∙ (ap (λ (x : Book). x.seed) (some_is b old.0 (sym book ∙ (ap (get m) (sym e) ∙ old.1))) ∙ old.2))
+  by : (k ≡ c) ⊎ (k ≢ c) → (x : ClientBook) × (get (insert m c b') k ≡ Some x) × (x.seed ≡ s)
+  by (inl e) = (b', ap (get (insert m c b')) e ∙ get_same m c b', seed ∙ (ap (λ (x : ClientBook). x.seed) (some_is b old.0 (sym book ∙ (ap (get m) (sym e) ∙ old.1))) ∙ old.2))
   by (inr n) = (old.0, get_other m c b' k n ∙ old.1, old.2)
 
-module _ (σ : Setting) (d : ScheduleReader) (h : Holds σ d) (c : ℕ) (b b' : Book) (book : get d.books c ≡ Some b) (seed : b'.seed ≡ b.seed) (stopped : b'.stopped ≡ b.stopped) (kept : IsKept σ (calls_of c d.entries) b') where
-  its : (k : ℕ) (x : Book) → (k ≡ c) ⊎ (k ≢ c) → get (insert d.books c b') k ≡ Some x → IsBookOf σ d k x
+module _ (σ : Setting) (d : ScheduleReader) (h : Holds σ d) (c : ℕ) (b b' : ClientBook) (book : get d.books c ≡ Some b) (seed : b'.seed ≡ b.seed) (stopped : b'.stopped ≡ b.stopped) (kept : IsKept σ (calls_of c d.entries) b') where
+  its : (k : ℕ) (x : ClientBook) → (k ≡ c) ⊎ (k ≢ c) → get (insert d.books c b') k ≡ Some x → IsBookOf σ d k x
   its k x (inl e) is =
       let same : b' ≡ x = some_is b' x (sym (get_same d.books c b') ∙ (ap (get (insert d.books c b')) (sym e) ∙ is)) in
       let old = h.books c b book in
@@ -90,11 +90,11 @@ module _ (σ : Setting) (d : ScheduleReader) (h : Holds σ d) (c : ℕ) (b b' : 
 
 -- ---- a call
 
-module _ (σ : Setting) (d : ScheduleReader) (h : Holds σ d) (c : ℕ) (b : Book) (w : ℕ → Words) (go : Value → Script) (book : get d.books c ≡ Some b) (on : b.stopped ≡ false) (says : b.left ≡ Say w go) where
+module _ (σ : Setting) (d : ScheduleReader) (h : Holds σ d) (c : ℕ) (b : ClientBook) (w : ℕ → Words) (go : Value → Script) (book : get d.books c ≡ Some b) (on : b.stopped ≡ false) (says : b.left ≡ Say w go) where
   abbrev r : State × Reply
   r = apply_of d.store d.moment c (w d.moment)
 
-  abbrev b' : Book
+  abbrev b' : ClientBook
   b' = record b { left = go r.1.answer }
 
   abbrev d' : ScheduleReader
@@ -112,7 +112,7 @@ module _ (σ : Setting) (d : ScheduleReader) (h : Holds σ d) (c : ℕ) (b : Boo
       ∙ (next_called (now d) c d.moment (w d.moment) r.1 mine.client mine.known
       ∙ ap (λ s. with_known (apply_of s d.moment c (w d.moment)).0 (now d) c client) h.store)
 
-  spoken : (k : ℕ) (x : Book) → (k ≡ c) ⊎ (k ≢ c) → get (insert d.books c b') k ≡ Some x → IsBookOf σ d' k x
+  spoken : (k : ℕ) (x : ClientBook) → (k ≡ c) ⊎ (k ≢ c) → get (insert d.books c b') k ≡ Some x → IsBookOf σ d' k x
   spoken k x (inl e) is =
       let same : b' ≡ x = some_is b' x (sym (get_same d.books c b') ∙ (ap (get (insert d.books c b')) (sym e) ∙ is)) in
       let new : IsBookOf σ d' c b' = record {
@@ -144,20 +144,20 @@ module _ (σ : Setting) (d : ScheduleReader) (h : Holds σ d) (c : ℕ) (b : Boo
 -- ---- what a client says
 
 -- after what a client of this book said the desk holds, and where there was no room it is full
-abbrev pub HeardHolds : Setting → ℕ → Book → Said → Type 0
+abbrev pub HeardHolds : Setting → ℕ → ClientBook → Said → Type 0
 HeardHolds σ c b s = Holds σ (with_book s.desk c (record b { left = s.left })) × (s.room ≡ false → is_full s.desk.entries ≡ true)
 
 no_room : {A : Type 0} → true ≡ false → A
 no_room e = absurd (cc e)
 
-module _ (σ : Setting) (c : ℕ) (b : Book) (on : b.stopped ≡ false) where
+module _ (σ : Setting) (c : ℕ) (b : ClientBook) (on : b.stopped ≡ false) where
   -- one call, while the book waits to be written
   one : (d : ScheduleReader) (w : ℕ → Words) (go : Value → Script) → Holds σ (with_book d c (record b { left = Say w go }))
       → let r = apply_of d.store d.moment c (w d.moment) in Holds σ (with_book (with_call d c (w d.moment) r) c (record b { left = go r.1.answer }))
   one d w go h =
       let r = apply_of d.store d.moment c (w d.moment) in
-      let b₁ : Book = record b { left = Say w go } in
-      let b₂ : Book = record b { left = go r.1.answer } in
+      let b₁ : ClientBook = record b { left = Say w go } in
+      let b₂ : ClientBook = record b { left = go r.1.answer } in
       let d₁ = with_call d c (w d.moment) r in
       let e : Holds σ (with_book (with_call (with_book d c b₁) c (w d.moment) r) c b₂) = call_holds σ (with_book d c b₁) h c b₁ w go (get_same d.books c b₁) on refl in
       subst (λ m. Holds σ (record d₁ { books = m })) (insert_twice d.books c b₁ b₂) e
@@ -199,8 +199,8 @@ moment_holds σ d m h less le = record {
 
 -- ---- a client that stops
 
-module _ (σ : Setting) (d : ScheduleReader) (h : Holds σ d) (c : ℕ) (b : Book) (book : get d.books c ≡ Some b) (on : b.stopped ≡ false) where
-  abbrev gone : Book
+module _ (σ : Setting) (d : ScheduleReader) (h : Holds σ d) (c : ℕ) (b : ClientBook) (book : get d.books c ≡ Some b) (on : b.stopped ≡ false) where
+  abbrev gone : ClientBook
   gone = record b { stopped = true }
 
   theirs : IsBookOf σ d c b
@@ -212,7 +212,7 @@ module _ (σ : Setting) (d : ScheduleReader) (h : Holds σ d) (c : ℕ) (b : Boo
   left_is : now (with_stop d c b) ≡ with_known (gone_of (now d).store c) (now d) c leaver
   left_is = after-append (start d) d.entries (Stop c ∷ []) ∙ next_stopped (now d) c theirs.client theirs.known
 
-  stayed : (k : ℕ) (x : Book) → (k ≡ c) ⊎ (k ≢ c) → get (insert d.books c gone) k ≡ Some x → IsBookOf σ (with_stop d c b) k x
+  stayed : (k : ℕ) (x : ClientBook) → (k ≡ c) ⊎ (k ≢ c) → get (insert d.books c gone) k ≡ Some x → IsBookOf σ (with_stop d c b) k x
   stayed k x (inl e) is =
       let same : gone ≡ x = some_is gone x (sym (get_same d.books c gone) ∙ (ap (get (insert d.books c gone)) (sym e) ∙ is)) in
       let k' = theirs.kept in
@@ -245,7 +245,7 @@ module _ (σ : Setting) (d : ScheduleReader) (h : Holds σ d) (c : ℕ) (b : Boo
 -- ---- a client more
 
 module _ (σ : Setting) (d : ScheduleReader) (h : Holds σ d) (c s : ℕ) (fresh : has_number c d.clients ≡ false) (seed : has_seed s d.clients ≡ false) where
-  abbrev blank : Book
+  abbrev blank : ClientBook
   blank = record { seed = s; drawn = 0; passes = 0; left = Over; stopped = false }
 
   stranger : get (start d).clients c ≡ None
@@ -257,7 +257,7 @@ module _ (σ : Setting) (d : ScheduleReader) (h : Holds σ d) (c s : ℕ) (fresh
   world_is : now (reader_with_client d c s) ≡ add c (new_client s) (now d)
   world_is = ap (λ v. after_entries v d.entries) start_is ∙ after_add c (new_client s) (start d) d.entries h.legal stranger
 
-  joined : (k : ℕ) (x : Book) → (k ≡ c) ⊎ (k ≢ c) → get (insert d.books c blank) k ≡ Some x → IsBookOf σ (reader_with_client d c s) k x
+  joined : (k : ℕ) (x : ClientBook) → (k ≡ c) ⊎ (k ≢ c) → get (insert d.books c blank) k ≡ Some x → IsBookOf σ (reader_with_client d c s) k x
   joined k x (inl e) is =
       let same : blank ≡ x = some_is blank x (sym (get_same d.books c blank) ∙ (ap (get (insert d.books c blank)) (sym e) ∙ is)) in
       let new : IsBookOf σ (reader_with_client d c s) c blank = record {
@@ -274,7 +274,7 @@ module _ (σ : Setting) (d : ScheduleReader) (h : Holds σ d) (c s : ℕ) (fresh
     kept = old.kept;
   }
 
-  listed : (k t : ℕ) → (Among (k, t) d.clients × (k ≢ c)) ⊎ ((k ≡ c) × (t ≡ s)) → (x : Book) × (get (insert d.books c blank) k ≡ Some x) × (x.seed ≡ t)
+  listed : (k t : ℕ) → (Among (k, t) d.clients × (k ≢ c)) ⊎ ((k ≡ c) × (t ≡ s)) → (x : ClientBook) × (get (insert d.books c blank) k ≡ Some x) × (x.seed ≡ t)
   listed k t (inl a) = let old = h.book_of k t a.0 in (old.0, get_other d.books c blank k a.1 ∙ old.1, old.2)
   listed k t (inr a) = (blank, ap (get (insert d.books c blank)) a.0 ∙ get_same d.books c blank, sym a.1)
 

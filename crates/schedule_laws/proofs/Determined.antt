@@ -13,8 +13,8 @@ use Rattle.command_blocks.specs.Setting.{Setting}
 use Rattle.command_blocks.specs.Scripts.{Script, Over, Off, Say, Plan}
 use Rattle.schedule_model.specs.Built.{waits}
 use Rattle.schedule_model.specs.Costs.{is_full}
-use Rattle.schedule_model.specs.Desk.{ScheduleReader, Book, Said, first_desk, with_book, begun, said_one, said_all, with_stop}
-use Rattle.schedule_model.specs.Faults.{Craft, first_reason, tests, is_off, is_gone, has_more, is_busy, has_number, has_seed, asked_tests, client_seed, counter_of}
+use Rattle.schedule_model.specs.Desk.{ScheduleReader, ClientBook, Said, first_desk, with_book, begun, said_one, said_all, with_stop}
+use Rattle.schedule_model.specs.Faults.{Craft, first_reason, tests, is_script_off, is_gone, has_more, is_busy, has_number, has_seed, asked_tests, client_seed, counter_of}
 use Rattle.schedule_model.specs.Lines.{line_in}
 use Rattle.schedule_model.specs.Schedules.{Led, Went, Filled, Bad, plan_of, with_plan, reader_after, stepped, run_through, stopped, led, led_unless, led_by, text_led, line_led, header_led, Determined, Whole, led_on, last_led, lines_led, header_on, max_input, schedule_run}
 use Rattle.schedule_model.specs.declared.line.Asked.{Asked}
@@ -40,42 +40,42 @@ true_not : {A : Type 0} → true ≡ false → A
 true_not e = absurd (cc e)
 
 -- a client that isn't off and has nothing to say has no block
-over_of : (p : Script) → is_off p ≡ false → has_more p ≡ false → p ≡ Over
+over_of : (p : Script) → is_script_off p ≡ false → has_more p ≡ false → p ≡ Over
 over_of Over e f = refl
 over_of Off e f = true_not e
 over_of (Say w go) e f = true_not f
 
-heard_holds : (σ : Setting) (c : ℕ) (b : Book) (s : Said) → HeardHolds σ c b s → LedHolds σ (reader_after c b s)
+heard_holds : (σ : Setting) (c : ℕ) (b : ClientBook) (s : Said) → HeardHolds σ c b s → LedHolds σ (reader_after c b s)
 heard_holds σ c b s h = by s.room h.1 where
   by : (room : Bool) → (room ≡ false → is_full s.desk.entries ≡ true) → LedHolds σ (if room then Went (with_book s.desk c (record b { left = s.left })) else Filled (with_book s.desk c (record b { left = s.left })))
   by true f = h.0
   by false f = (h.0, f refl)
 
 -- the book as it is, which is written again
-written : (σ : Setting) (d : ScheduleReader) (c : ℕ) (b : Book) → Holds σ d → get d.books c ≡ Some b → Holds σ (with_book d c (record b { left = b.left }))
+written : (σ : Setting) (d : ScheduleReader) (c : ℕ) (b : ClientBook) → Holds σ d → get d.books c ≡ Some b → Holds σ (with_book d c (record b { left = b.left }))
 written σ d c b h book = book_holds σ d h c b b book refl refl (h.books c b book).kept
 
-step_holds : (σ : Setting) (d : ScheduleReader) (c : ℕ) → Holds σ d → (o : Option Book) → get d.books c ≡ o → is_gone o ≡ false → LedHolds σ (stepped d c o)
+step_holds : (σ : Setting) (d : ScheduleReader) (c : ℕ) → Holds σ d → (o : Option ClientBook) → get d.books c ≡ o → is_gone o ≡ false → LedHolds σ (stepped d c o)
 step_holds σ d c h None book on = tt
-step_holds σ d c h (Some b) book on = heard_holds σ c b (said_one d c b.left) (said_one_holds σ c b (neither b.stopped (is_off b.left) on).0 b.left d (written σ d c b h book))
+step_holds σ d c h (Some b) book on = heard_holds σ c b (said_one d c b.left) (said_one_holds σ c b (neither b.stopped (is_script_off b.left) on).0 b.left d (written σ d c b h book))
 
-run_holds : (σ : Setting) (d : ScheduleReader) (c : ℕ) → Holds σ d → (o : Option Book) → get d.books c ≡ o → is_gone o ≡ false → LedHolds σ (run_through d c o)
+run_holds : (σ : Setting) (d : ScheduleReader) (c : ℕ) → Holds σ d → (o : Option ClientBook) → get d.books c ≡ o → is_gone o ≡ false → LedHolds σ (run_through d c o)
 run_holds σ d c h None book on = tt
-run_holds σ d c h (Some b) book on = heard_holds σ c b (said_all d c b.left) (said_all_holds σ c b (neither b.stopped (is_off b.left) on).0 b.left d (written σ d c b h book))
+run_holds σ d c h (Some b) book on = heard_holds σ c b (said_all d c b.left) (said_all_holds σ c b (neither b.stopped (is_script_off b.left) on).0 b.left d (written σ d c b h book))
 
-stopped_holds : (σ : Setting) (d : ScheduleReader) (c : ℕ) → Holds σ d → (o : Option Book) → get d.books c ≡ o → is_gone o ≡ false → LedHolds σ (stopped d c o)
+stopped_holds : (σ : Setting) (d : ScheduleReader) (c : ℕ) → Holds σ d → (o : Option ClientBook) → get d.books c ≡ o → is_gone o ≡ false → LedHolds σ (stopped d c o)
 stopped_holds σ d c h None book on = tt
 stopped_holds σ d c h (Some b) book on = by (is_full d.entries) refl where
   by : (f : Bool) → is_full d.entries ≡ f → LedHolds σ (if f then Filled d else Went (with_stop d c b))
   by true is = (h, is)
-  by false is = stop_holds σ d h c b book (neither b.stopped (is_off b.left) on).0
+  by false is = stop_holds σ d h c b book (neither b.stopped (is_script_off b.left) on).0
 
-begin_holds : (κ : Craft) (craft : IsCraft κ) (d : ScheduleReader) (c : ℕ) (a : Asked) → Holds κ.setting d → IsAskedWithin a → (o : Option Book) → get d.books c ≡ o → is_gone o ≡ false → is_busy o ≡ false
+begin_holds : (κ : Craft) (craft : IsCraft κ) (d : ScheduleReader) (c : ℕ) (a : Asked) → Holds κ.setting d → IsAskedWithin a → (o : Option ClientBook) → get d.books c ≡ o → is_gone o ≡ false → is_busy o ≡ false
     → AreFaultless (asked_tests κ (client_seed o) (counter_of o) a) → LedHolds κ.setting (with_plan κ d c o (plan_of κ (client_seed o) (counter_of o) a))
 begin_holds κ craft d c a h within None book on idle fine = tt
 begin_holds κ craft d c a h within (Some b) book on idle fine = by (plan_of κ b.seed (suc b.drawn) a) refl where
   over : b.left ≡ Over
-  over = over_of b.left (neither b.stopped (is_off b.left) on).1 idle
+  over = over_of b.left (neither b.stopped (is_script_off b.left) on).1 idle
 
   by : (p : Option Plan) → plan_of κ b.seed (suc b.drawn) a ≡ p → LedHolds κ.setting (with_plan κ d c (Some b) p)
   by None e = tt

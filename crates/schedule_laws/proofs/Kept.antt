@@ -7,7 +7,7 @@ use Rattle.command_blocks.specs.Setting.{Setting}
 use Rattle.command_blocks.specs.Calls.{Call, call, concat}
 use Rattle.command_blocks.specs.Blocks.{drawn, passes_after, IsFrontOfBlocks, IsMannered}
 use Rattle.command_blocks.specs.Scripts.{Script, Over, Off, Say, Plan, script_of, counter_use, after_call, rest_of, IsSaid}
-use Rattle.schedule_model.specs.Desk.{Book, begun}
+use Rattle.schedule_model.specs.Desk.{ClientBook, begun}
 use Rattle.block_laws.specs.Rows.{IsGood, AreTimely, IsRow}
 use Rattle.block_laws.proofs.Talks.{says_not}
 use Rattle.block_laws.proofs.Fronts.{said-append, rest-append, timely-append, end_of, IsPutOff, rest_good, BlocksTo, blocks_more, concat_more, whole_front, part_front}
@@ -17,14 +17,14 @@ abbrev pub DecidesFronts : Setting → Type 0
 DecidesFronts σ = (s : ℕ) (l : List Call) → AreTimely l → IsFrontOfBlocks σ s l ⊎ (IsFrontOfBlocks σ s l → ⊥)
 
 -- no block is in progress after whole blocks with these counters
-pub record IsIdle (m q : ℕ) (part : List Call) (b : Book) : Type 0 where
+pub record IsIdle (m q : ℕ) (part : List Call) (b : ClientBook) : Type 0 where
   pub part_none : part ≡ []
   pub over : b.left ≡ Over
   pub drawn_same : b.drawn ≡ m
   pub passes_same : b.passes ≡ q
 
 -- these are the calls so far of a block that began at these counters
-pub record IsBusy (σ : Setting) (m q : ℕ) (part : List Call) (b : Book) : Type 0 where
+pub record IsBusy (σ : Setting) (m q : ℕ) (part : List Call) (b : ClientBook) : Type 0 where
   pub plan : Plan
   pub row : IsRow σ b.seed m q plan
   pub said : IsSaid (script_of σ b.seed q plan) part
@@ -34,7 +34,7 @@ pub record IsBusy (σ : Setting) (m q : ℕ) (part : List Call) (b : Book) : Typ
   pub passes_after : b.passes ≡ passes_after (counter_use plan) q
 
 -- a client's calls are as its book says
-pub record IsKept (σ : Setting) (calls : List Call) (b : Book) : Type 0 where
+pub record IsKept (σ : Setting) (calls : List Call) (b : ClientBook) : Type 0 where
   pub whole : List (List Call)
   pub part : List Call
   pub m : ℕ
@@ -56,10 +56,10 @@ new_kept σ s = record {
 }
 
 -- whole blocks alone, with the book's counters
-abbrev IsWholly : Setting → List Call → Book → Type 0
+abbrev IsWholly : Setting → List Call → ClientBook → Type 0
 IsWholly σ calls b = (whole : List (List Call)) × BlocksTo σ b.seed 0 0 whole b.drawn b.passes × (calls ≡ concat whole)
 
-wholly : (σ : Setting) (calls : List Call) (b : Book) → IsKept σ calls b → b.left ≡ Over → IsWholly σ calls b
+wholly : (σ : Setting) (calls : List Call) (b : ClientBook) → IsKept σ calls b → b.left ≡ Over → IsWholly σ calls b
 wholly σ calls b k over = by k.standing where
   by : IsIdle k.m k.q k.part b ⊎ IsBusy σ k.m k.q k.part b → IsWholly σ calls b
   by (inl i) = (
@@ -76,7 +76,7 @@ wholly σ calls b k over = by k.standing where
   )
 
 -- a block begins
-pub begun_kept : (σ : Setting) (calls : List Call) (b : Book) (plan : Plan) → IsKept σ calls b → b.left ≡ Over → IsRow σ b.seed b.drawn b.passes plan → IsKept σ calls (begun σ b plan)
+pub begun_kept : (σ : Setting) (calls : List Call) (b : ClientBook) (plan : Plan) → IsKept σ calls b → b.left ≡ Over → IsRow σ b.seed b.drawn b.passes plan → IsKept σ calls (begun σ b plan)
 begun_kept σ calls b plan k over row = let h = wholly σ calls b k over in record {
   whole = h.0;
   part = [];
@@ -88,7 +88,7 @@ begun_kept σ calls b plan k over row = let h = wholly σ calls b k over in reco
 }
 
 -- a call of the block
-pub call_kept : (σ : Setting) (calls : List Call) (b : Book) (w : ℕ → Words) (go : Value → Script) (at : ℕ) (r : Value) → IsKept σ calls b → b.left ≡ Say w go → at < 2 ^ 40
+pub call_kept : (σ : Setting) (calls : List Call) (b : ClientBook) (w : ℕ → Words) (go : Value → Script) (at : ℕ) (r : Value) → IsKept σ calls b → b.left ≡ Say w go → at < 2 ^ 40
     → IsKept σ (calls ++ call at (w at) r ∷ []) (record b { left = go r })
 call_kept σ calls b w go at r k says soon = by k.standing where
   x : Call
@@ -115,14 +115,14 @@ call_kept σ calls b w go at r k says soon = by k.standing where
   }
 
 -- a client that is gone
-pub gone_kept : (σ : Setting) (calls : List Call) (b : Book) → IsKept σ calls b → IsKept σ calls (record b { stopped = true })
+pub gone_kept : (σ : Setting) (calls : List Call) (b : ClientBook) → IsKept σ calls b → IsKept σ calls (record b { stopped = true })
 gone_kept σ calls b k = record { whole = k.whole; part = k.part; m = k.m; q = k.q; blocks = k.blocks; calls_are = k.calls_are; standing = by k.standing } where
   by : IsIdle k.m k.q k.part b ⊎ IsBusy σ k.m k.q k.part b → IsIdle k.m k.q k.part (record b { stopped = true }) ⊎ IsBusy σ k.m k.q k.part (record b { stopped = true })
   by (inl i) = inl (record { part_none = i.part_none; over = i.over; drawn_same = i.drawn_same; passes_same = i.passes_same })
   by (inr i) = inr (record { plan = i.plan; row = i.row; said = i.said; timely = i.timely; rest = i.rest; drawn_after = i.drawn_after; passes_after = i.passes_after })
 
 -- a client whose last answer was a listed one has called a front of blocks, and any client is mannered where fronts are decided
-module _ (σ : Setting) (calls : List Call) (b : Book) (k : IsKept σ calls b) where
+module _ (σ : Setting) (calls : List Call) (b : ClientBook) (k : IsKept σ calls b) where
   abbrev Front : List Call → Type 0
   Front l = IsFrontOfBlocks σ b.seed l
 

@@ -2,7 +2,7 @@
 use Rattle.std.specs.Prelude.{◌≡◌, ℕ, ◌^◌, ◌<◌, ◌≤◌, true, List, [], ◌∷◌, length, Option, Some}
 use Rattle.queue_keys.specs.Names.{Bytes, is_name}
 use Rattle.queue_keys.specs.Layouts.{Layout, is_layout}
-use Rattle.command_blocks.specs.Setting.{Setting, Texts, IsTexts, IsLawful, if_named, setting_of}
+use Rattle.command_blocks.specs.Setting.{Setting, Texts, IsTexts, IsLawful, named_or_none, setting_of}
 use Rattle.place_model.specs.Histories.{after}
 use Rattle.place_model.specs.Starts.{IsSound}
 use Rattle.place_model.specs.declared.history.Entry.{Entry}
@@ -17,7 +17,7 @@ use Rattle.schedule_model.specs.Schedules.{Determined, Whole, Full, Bad_line, sc
 -- the envelope v, as it is written, tells what was asked: a tag's seed and counter, an exchange, and with the empty exchange one key
 pub record IsSealed (σ : Setting) (s n : ℕ) (x k v : Bytes) : Type 0 where
   pub tag : σ.written_tag v ≡ Some (σ.tag s n)
-  pub exchange : σ.exchange_of v ≡ if_named x
+  pub exchange : σ.exchange_of v ≡ named_or_none x
   pub key : x ≡ [] → is_name k ≡ true → (q : Bytes) × (σ.keys_for v [] ≡ q ∷ [])
 
 -- the names and texts are lawful, keys tell what they were made of, sealed envelopes tell what was asked, and as many queues as a line may name can be popped

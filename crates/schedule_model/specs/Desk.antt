@@ -13,7 +13,7 @@ use Rattle.place_model.specs.declared.history.Entry.TheVariants.{Call, Stop}
 use Rattle.schedule_model.specs.Costs.{is_full}
 
 -- of a client: its seed, the tags that it drew, the passes that it made, what is left of its block, and whether it is stopped
-pub record Book : Type 0 where
+pub record ClientBook : Type 0 where
   pub seed : ℕ
   pub drawn : ℕ
   pub passes : ℕ
@@ -26,14 +26,14 @@ pub record ScheduleReader : Type 0 where
   pub clients : List (ℕ × ℕ)  -- the numbers of the clients with their seeds, in the order of their lines
   pub entries : List (Entry Heard)
   pub store : State
-  pub books : FinMap nat_cmp Book
+  pub books : FinMap nat_cmp ClientBook
 
 -- before the first line
 abbrev pub first_desk : ScheduleReader
 first_desk = record { moment = 0; clients = []; entries = []; store = empty_state; books = empty }
 
 -- the desk with this book of a client
-abbrev pub with_book : ScheduleReader → ℕ → Book → ScheduleReader
+abbrev pub with_book : ScheduleReader → ℕ → ClientBook → ScheduleReader
 with_book d c b = record d { books = insert d.books c b }
 
 -- a client more, which has no block
@@ -44,7 +44,7 @@ reader_with_client d c s = record d {
 }
 
 -- the book of a client that begins a plan
-abbrev pub begun : Setting → Book → Plan → Book
+abbrev pub begun : Setting → ClientBook → Plan → ClientBook
 begun σ b p = record b { drawn = drawn (counter_use p) b.drawn; passes = passes_after (counter_use p) b.passes; left = script_of σ b.seed b.passes p }
 
 -- the desk and the script after one more command, and whether the history had room for it
@@ -74,5 +74,5 @@ said_all d c (Say w go) =
     let r = apply_of d.store d.moment c (w d.moment) in said_all (with_call d c (w d.moment) r) c (go r.1.answer)
 
 -- a client that is gone
-abbrev pub with_stop : ScheduleReader → ℕ → Book → ScheduleReader
+abbrev pub with_stop : ScheduleReader → ℕ → ClientBook → ScheduleReader
 with_stop d c b = record d { entries = d.entries ++ Stop c ∷ []; store = gone_of d.store c; books = insert d.books c (record b { stopped = true }) }

@@ -9,7 +9,7 @@ use Rattle.queue_keys.specs.Names.{Bytes, all_free, has_length, is_reserved}
 use Rattle.command_blocks.specs.Scripts.{Script, Off, Say}
 use Rattle.command_blocks.specs.Setting.{Setting}
 use Rattle.schedule_model.specs.Built.{Built}
-use Rattle.schedule_model.specs.Desk.{ScheduleReader, Book}
+use Rattle.schedule_model.specs.Desk.{ScheduleReader, ClientBook}
 use Rattle.schedule_model.specs.declared.line.Asked.{Asked}
 use Rattle.schedule_model.specs.declared.line.Asked.TheVariants as asked
 use Rattle.schedule_model.specs.declared.line.Line.{Line}
@@ -32,20 +32,20 @@ first_reason [] = None
 first_reason (t ∷ ts) = if t.0 then Some t.1 else first_reason ts
 
 -- whether a client is stopped, or was put off by an answer that isn't listed
-abbrev pub is_off : Script → Bool
-is_off Off = true
-is_off other = false
+abbrev pub is_script_off : Script → Bool
+is_script_off Off = true
+is_script_off other = false
 
-abbrev pub is_gone : Option Book → Bool
+abbrev pub is_gone : Option ClientBook → Bool
 is_gone None = false
-is_gone (Some b) = b.stopped || is_off b.left
+is_gone (Some b) = b.stopped || is_script_off b.left
 
 -- whether a client has a block that isn't over
 abbrev pub has_more : Script → Bool
 has_more (Say w go) = true
 has_more other = false
 
-abbrev pub is_busy : Option Book → Bool
+abbrev pub is_busy : Option ClientBook → Bool
 is_busy None = false
 is_busy (Some b) = has_more b.left
 
@@ -62,7 +62,7 @@ is_empty (b ∷ bs) = false
 -- ---- the tests
 
 -- those of each line for a client that has to be there
-abbrev pub present_tests : Option Book → List Test
+abbrev pub present_tests : Option ClientBook → List Test
 present_tests b = (is_none b, UnknownClient) ∷ (is_gone b, Stopped) ∷ []
 
 -- those of a declaration
@@ -83,11 +83,11 @@ asked_tests κ s n (asked.Requeue a b) = []
 asked_tests κ s n (asked.Pass v) = []
 
 -- the seed of a client, and the counter of its next tag
-abbrev pub client_seed : Option Book → ℕ
+abbrev pub client_seed : Option ClientBook → ℕ
 client_seed None = 0
 client_seed (Some b) = b.seed
 
-abbrev pub counter_of : Option Book → ℕ
+abbrev pub counter_of : Option ClientBook → ℕ
 counter_of None = 0
 counter_of (Some b) = suc b.drawn
 

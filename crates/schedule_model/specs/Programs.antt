@@ -6,7 +6,7 @@ use Rattle.schedule_model.specs.Built.{workers}
 use Rattle.schedule_model.specs.Drafts.{arguments_of, sealed_task}
 use Rattle.schedule_model.specs.Faults.{Craft}
 use Rattle.schedule_model.specs.Legends.{legend_of}
-use Rattle.schedule_model.specs.Reports.{Legend}
+use Rattle.schedule_model.specs.Reports.{ReportLegend}
 use Rattle.schedule_model.specs.Shapes.{shape_of}
 
 -- whether a JSON text may be a task's arguments
@@ -18,5 +18,5 @@ abbrev pub program_craft : Craft
 program_craft = record { setting = plain_setting; built = workers; are_arguments = are_arguments; sealed = sealed_task }
 
 -- the words that spell envelopes, entries and tags, under the same names
-abbrev pub program_legend : Legend
+abbrev pub program_legend : ReportLegend
 program_legend = legend_of plain_setting shape_of

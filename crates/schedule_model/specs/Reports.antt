@@ -21,7 +21,7 @@ use Rattle.place_model.specs.declared.place.Place.{Place}
 use Rattle.place_model.specs.declared.place.Place.TheVariants.{List as InList, Unacked, Hand, Ended, Lost, Copies, Never}
 
 -- how a report reads bytes: the names of keys, what a word spells, and the seed and counter of a tag's text
-pub record Legend : Type 0 where
+pub record ReportLegend : Type 0 where
   pub setting : Setting
   pub shape : Bytes → Shape
   pub seed : Bytes → ℕ
@@ -39,7 +39,7 @@ line ws = parted (codes " ") ws ++ 10 ∷ []
 -- ---- entries
 
 -- a reply: the values that were pushed, and the answer
-abbrev pub reply_text : Legend → Reply → Bytes
+abbrev pub reply_text : ReportLegend → Reply → Bytes
 reply_text l r = parted (codes " ; ") (map (short_value l.shape) (r.pushed ++ r.answer ∷ []))
 
 -- a tag by its seed and counter
@@ -63,20 +63,20 @@ note_words (Held t eta) = codes "HELD" ∷ noted_tag t ∷ signed_decimal eta �
 note_words Unreadable = codes "UNREADABLE" ∷ []
 
 -- the entry of this number
-abbrev pub entry_line : Legend → ℕ → Entry Heard → Bytes
+abbrev pub entry_line : ReportLegend → ℕ → Entry Heard → Bytes
 entry_line l n (Call c at words reply) = line (decimal n ∷ decimal at ∷ decimal c ∷ map (short_word l.shape) words ++ codes "=" ∷ reply_text l reply ∷ [])
 entry_line l n (Noted c note) = line (decimal n ∷ codes "-" ∷ decimal c ∷ note_words note)
 entry_line l n (Stop c) = line (decimal n ∷ codes "-" ∷ decimal c ∷ codes "STOP" ∷ [])
 
 -- the entries, the first of them numbered n
-abbrev pub entry_lines : Legend → ℕ → List (Entry Heard) → Bytes
+abbrev pub entry_lines : ReportLegend → ℕ → List (Entry Heard) → Bytes
 entry_lines l n [] = []
 entry_lines l n (e ∷ es) = entry_line l n e ++ entry_lines l (n + 1) es
 
 -- ---- places
 
 -- the words of a place
-abbrev pub place_words : Legend → Place → List Bytes
+abbrev pub place_words : ReportLegend → Place → List Bytes
 place_words l (InList queue step) = codes "list" ∷ short_word l.shape queue ∷ decimal step ∷ []
 place_words l Unacked = codes "unacked" ∷ []
 place_words l (Hand c) = codes "hand" ∷ decimal c ∷ []
@@ -86,7 +86,7 @@ place_words l Copies = codes "copies" ∷ []
 place_words l Never = codes "never" ∷ []
 
 -- a tag with its place
-abbrev pub place_line : Legend → Bytes × Place → Bytes
+abbrev pub place_line : ReportLegend → Bytes × Place → Bytes
 place_line l p = line (codes "place" ∷ tag_short (l.seed p.0) (l.counter p.0) ∷ place_words l p.1)
 
 -- ---- totals
@@ -130,7 +130,7 @@ total_line ps = line (codes "total"
     ∷ codes "copies" ∷ place_total is_copies ps ∷ [])
 
 -- the report of a history
-abbrev pub report_text : Legend → History Heard → Bytes
+abbrev pub report_text : ReportLegend → History Heard → Bytes
 report_text l h =
     let ps = places l.setting h in
     line (codes "celery-report 1" ∷ []) ++ entry_lines l 1 h.entries ++ flat_map (place_line l) ps ++ total_line ps

@@ -12,7 +12,7 @@ use Rattle.command_blocks.specs.declared.block.Side.TheVariants.{Left, Right}
 use Rattle.place_model.specs.declared.heard.Heard.{Heard}
 use Rattle.schedule_model.specs.Built.{waits}
 use Rattle.schedule_model.specs.Costs.{is_full, total_cost}
-use Rattle.schedule_model.specs.Desk.{ScheduleReader, Book, Said, first_desk, with_book, reader_with_client, begun, said_one, said_all, with_stop}
+use Rattle.schedule_model.specs.Desk.{ScheduleReader, ClientBook, Said, first_desk, with_book, reader_with_client, begun, said_one, said_all, with_stop}
 use Rattle.schedule_model.specs.Faults.{Craft, first_reason, tests, client_seed, counter_of}
 use Rattle.schedule_model.specs.Lines.{line_in}
 use Rattle.schedule_model.specs.declared.line.Asked.{Asked}
@@ -45,27 +45,27 @@ plan_of κ s n (asked.Requeue a b) = Some (Return Left (κ.setting.tag a b))
 plan_of κ s n (asked.Pass v) = Some (Pass v)
 
 -- a plan begun; nothing is said yet
-abbrev pub with_plan : Craft → ScheduleReader → ℕ → Option Book → Option Plan → Led
+abbrev pub with_plan : Craft → ScheduleReader → ℕ → Option ClientBook → Option Plan → Led
 with_plan κ d c None p = Bad UnknownClient
 with_plan κ d c (Some b) None = Bad Task
 with_plan κ d c (Some b) (Some p) = Went (with_book d c (begun κ.setting b p))
 
 -- the desk after what a client said, by whether there was room for all of it
-abbrev pub reader_after : ℕ → Book → Said → Led
+abbrev pub reader_after : ℕ → ClientBook → Said → Led
 reader_after c b s = let d = with_book s.desk c (record b { left = s.left }) in if s.room then Went d else Filled d
 
 -- a client says the next command of its block
-abbrev pub stepped : ScheduleReader → ℕ → Option Book → Led
+abbrev pub stepped : ScheduleReader → ℕ → Option ClientBook → Led
 stepped d c None = Bad UnknownClient
 stepped d c (Some b) = reader_after c b (said_one d c b.left)
 
 -- a client says its block to the end
-abbrev pub run_through : ScheduleReader → ℕ → Option Book → Led
+abbrev pub run_through : ScheduleReader → ℕ → Option ClientBook → Led
 run_through d c None = Bad UnknownClient
 run_through d c (Some b) = reader_after c b (said_all d c b.left)
 
 -- a client is gone, where the history has room
-abbrev pub stopped : ScheduleReader → ℕ → Option Book → Led
+abbrev pub stopped : ScheduleReader → ℕ → Option ClientBook → Led
 stopped d c None = Bad UnknownClient
 stopped d c (Some b) = if is_full d.entries then Filled d else Went (with_stop d c b)
 

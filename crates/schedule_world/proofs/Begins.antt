@@ -11,7 +11,7 @@ use Rattle.queue_keys.specs.Names.{Bytes}
 use Rattle.command_blocks.specs.Scripts.{End, Plan, Pop, Publish, Script, counter_use, script_of}
 use Rattle.schedule_model.specs.Desk as desk
 use Rattle.schedule_model.specs.Desk.{ScheduleReader, begun, with_book}
-use Rattle.schedule_model.specs.Faults.{asked_tests, counter_of, first_reason, has_more, is_busy, is_off, present_tests, client_seed}
+use Rattle.schedule_model.specs.Faults.{asked_tests, counter_of, first_reason, has_more, is_busy, is_script_off, present_tests, client_seed}
 use Rattle.schedule_model.specs.Programs.{program_craft}
 use Rattle.schedule_model.specs.Schedules.{Led, Bad, Went, led_unless, plan_of, publish_plan, with_plan}
 use Rattle.schedule_model.specs.declared.line.Asked.{Asked}
@@ -25,7 +25,7 @@ use Rattle.schedule_world.specs.Plans.{IsBegun, IsBuiltBlock, IsPrepared}
 use Rattle.schedule_world.specs.Rests.{IsResting}
 use Rattle.schedule_world.specs.Shelves.{Shelf}
 use Rattle.schedule_world.specs.Told.{IsTold}
-use Rattle.schedule_world.specs.declared.book.Book.{Book}
+use Rattle.schedule_world.specs.declared.book.ClientBook.{ClientBook}
 use Rattle.schedule_world.specs.declared.fault.LineFault.{LineFault}
 use Rattle.schedule_world.specs.declared.fault.LineFault.TheVariants as fault
 use Rattle.schedule_world.specs.declared.left.Left.{Left}
@@ -54,9 +54,9 @@ passing : (x y : Bool) (o : Option Reason) → x ≡ false → y ≡ false → (
 passing x y o e f = ap (λ t. if t then Some Stopped else if y then Some Busy else o) e ∙ ap (λ t. if t then Some Busy else o) f
 
 -- a book by its seed and how many tags were drawn
-pub found_so : (o : Option Book) (k : Book) (s n : ℕ) → o ≡ Some k → ◌≡◌ {A = ℕ × ℕ} (s, n) (k.seed, k.drawn) → o ≡ Some (record { seed = s; drawn = n; left = k.left })
+pub found_so : (o : Option ClientBook) (k : ClientBook) (s n : ℕ) → o ≡ Some k → ◌≡◌ {A = ℕ × ℕ} (s, n) (k.seed, k.drawn) → o ≡ Some (record { seed = s; drawn = n; left = k.left })
 found_so o k s n e f =
-    let again : ℕ × ℕ → Option Book = λ q. Some (record { seed = q.0; drawn = q.1; left = k.left }) in
+    let again : ℕ × ℕ → Option ClientBook = λ q. Some (record { seed = q.0; drawn = q.1; left = k.left }) in
     e ∙ sym (ap again f)
 
 -- a publication makes no pass
@@ -75,7 +75,7 @@ passes_kept s n (asked.Restore a b) p h e = absurd h
 passes_kept s n (asked.Requeue a b) p h e = absurd h
 passes_kept s n (asked.Pass v) p h e = absurd h
 
-module _ (past : Past) (m t : Shelf) (c s n : ℕ) (l : Left) (a : Asked) (found : get m c ≡ Some (record { seed = s; drawn = n; left = l })) (on : is_off (script_left l) ≡ false) (free : has_more (script_left l) ≡ false) where
+module _ (past : Past) (m t : Shelf) (c s n : ℕ) (l : Left) (a : Asked) (found : get m c ≡ Some (record { seed = s; drawn = n; left = l })) (on : is_script_off (script_left l) ≡ false) (free : has_more (script_left l) ≡ false) where
   abbrev before : ScheduleReader
   before = desk_with past (books_of m)
 
@@ -86,7 +86,7 @@ module _ (past : Past) (m t : Shelf) (c s n : ℕ) (l : Left) (a : Asked) (found
   book_found = get-books_of m c ∙ ap (option_map book_of) found
 
   reason_is : begin_reason a (get (books_of m) c) ≡ first_reason (asked_tests program_craft s (suc n) a)
-  reason_is = ap (begin_reason a) book_found ∙ passing (is_off (script_left l)) (has_more (script_left l)) (first_reason (asked_tests program_craft s (suc n) a)) on free
+  reason_is = ap (begin_reason a) book_found ∙ passing (is_script_off (script_left l)) (has_more (script_left l)) (first_reason (asked_tests program_craft s (suc n) a)) on free
 
   -- a block that fails a test
   pub asked_bad : (r : Reason) → first_reason (asked_tests program_craft s (suc n) a) ≡ Some r → begin_led before c a (get (books_of m) c) ≡ Bad r
@@ -114,7 +114,7 @@ module _ (past : Past) (m t : Shelf) (c s n : ℕ) (l : Left) (a : Asked) (found
   pub asked_went : (b : Begun) (p : Plan) → IsBuiltBlock a → first_reason (asked_tests program_craft s (suc n) a) ≡ None → plan_of program_craft s (suc n) a ≡ Some p → IsBegun s n p b
       → t ≡ insert m c (record { seed = s; drawn = b.drawn; left = b.left }) → begin_led before c a (get (books_of m) c) ≡ Went (desk_with past (books_of t))
   asked_went b p built none plan h grown =
-      let k : Book = record { seed = s; drawn = b.drawn; left = b.left } in
+      let k : ClientBook = record { seed = s; drawn = b.drawn; left = b.left } in
       let books : insert (books_of m) c (begun plain_setting there p) ≡ books_of t =
       ap (insert (books_of m) c) (book_begun b p (passes_kept s (suc n) a p built plan) h) ∙ sym (ap books_of grown ∙ books_of-insert m c k) in
       ap (led_unless program_craft before (Begin c a)) (reason_is ∙ none)

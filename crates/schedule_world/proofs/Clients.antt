@@ -20,7 +20,7 @@ use Rattle.schedule_world.specs.Books.{books_of}
 use Rattle.schedule_world.specs.Desks.{desk_with}
 use Rattle.schedule_world.specs.Running.{AreKnown}
 use Rattle.schedule_world.specs.Shelves.{Shelf}
-use Rattle.schedule_world.specs.declared.book.Book.{Book}
+use Rattle.schedule_world.specs.declared.book.ClientBook.{ClientBook}
 use Rattle.schedule_world.specs.declared.left.Left.{Left}
 use Rattle.schedule_world.specs.declared.past.Past.{Past}
 
@@ -42,7 +42,7 @@ pub added : (p p' : Past) (m t : Shelf) (c s : ℕ) (l : Left) → script_left l
     → ((bs : FinMap nat_cmp desk.Book) → desk_with p' bs ≡ record (desk_with p bs) { clients = (history_of p.history).clients ++ (c, s) ∷ [] })
     → reader_with_client (desk_with p (books_of m)) c s ≡ desk_with p' (books_of t)
 added p p' m t c s l over e grown =
-    let k : Book = record { seed = s; drawn = 0; left = l } in
+    let k : ClientBook = record { seed = s; drawn = 0; left = l } in
     let same : books_of t ≡ insert (books_of m) c (record { seed = s; drawn = 0; passes = 0; left = Over; stopped = false }) =
     ap books_of e ∙ (books_of-insert m c k ∙ ap (λ x. insert (books_of m) c (record { seed = s; drawn = 0; passes = 0; left = x; stopped = false })) over) in
     sym (grown (books_of t) ∙ ap (λ b. record (desk_with p b) { clients = (history_of p.history).clients ++ (c, s) ∷ [] }) same)

@@ -14,7 +14,7 @@ use Rattle.queue_keys.specs.QueueKeys.{Among, IsAway}
 use Rattle.schedule_model.specs.Faults.{has_number, has_seed}
 use Rattle.schedule_world.specs.Running.{AreKnown}
 use Rattle.schedule_world.specs.Shelves.{Shelf}
-use Rattle.schedule_world.specs.declared.book.Book.{Book}
+use Rattle.schedule_world.specs.declared.book.ClientBook.{ClientBook}
 
 true_false : true ≡ false → ⊥
 true_false e = cc
@@ -54,7 +54,7 @@ pub newest : (c s : ℕ) (cs : List (ℕ × ℕ)) → has_number c (cs ++ (c, s)
 newest c s cs = list_any-append (λ d. nat_eq d.0 c) cs ((c, s) ∷ []) ∙ (ap (λ b. has_number c cs || (b || false)) (eq-eqb c c refl) ∙ or-true (has_number c cs))
 
 -- a client with a book more
-pub one_more_known : (m : Shelf) (cs : List (ℕ × ℕ)) (c : ℕ) (b : Book) → AreKnown m cs → has_number c cs ≡ true → AreKnown (insert m c b) cs
+pub one_more_known : (m : Shelf) (cs : List (ℕ × ℕ)) (c : ℕ) (b : ClientBook) → AreKnown m cs → has_number c cs ≡ true → AreKnown (insert m c b) cs
 one_more_known m cs c b known h q e =
     elim (decided nat_cmp_total nat_cmp-IsAntisymmetric q c) [
       | inl same ↦ ap (λ n. has_number n cs) same ∙ h

@@ -9,24 +9,24 @@ use Rattle.message_schedules.proofs.Program.{whole_placed, whole_sound, whole_st
 use Rattle.schedule_model.specs.Programs.{program_craft}
 use Rattle.schedule_model.specs.Schedules.{Determined, schedule_run}
 use Rattle.schedule_world.specs.Runs.{HasRun, IsEachPlaced, IsRun, history_alone}
-use Rattle.schedule_world.specs.declared.run.Ran.{Ran}
+use Rattle.schedule_world.specs.declared.run.ScheduleRun.{ScheduleRun}
 use Rattle.schedule_world.specs.declared.run.RunFault.{RunFault}
 use Rattle.schedule_world.specs.declared.run.RunFault.TheVariants.{Bad, Full, Memory}
 
-pub run_sound : (bytes : Bytes) (result : Result Ran RunFault) → HasRun (schedule_run program_craft bytes) result → IfOk result (λ ran. IsSound plain_setting (history_of ran.history))
+pub run_sound : (bytes : Bytes) (result : Result ScheduleRun RunFault) → HasRun (schedule_run program_craft bytes) result → IfOk result (λ ran. IsSound plain_setting (history_of ran.history))
 run_sound bytes (Ok ran) answer = subst (IsSound plain_setting) answer.2 (whole_sound bytes answer.0 answer.1)
 run_sound bytes (Err fault) answer = tt
 
-pub run_placed : (bytes : Bytes) (result : Result Ran RunFault) → HasRun (schedule_run program_craft bytes) result → IfOk result (λ ran. IsEachPlaced (history_of ran.history))
+pub run_placed : (bytes : Bytes) (result : Result ScheduleRun RunFault) → HasRun (schedule_run program_craft bytes) result → IfOk result (λ ran. IsEachPlaced (history_of ran.history))
 run_placed bytes (Ok ran) answer = subst IsEachPlaced answer.2 (whole_placed bytes answer.0 answer.1)
 run_placed bytes (Err fault) answer = tt
 
-pub run_store : (bytes : Bytes) (result : Result Ran RunFault) → HasRun (schedule_run program_craft bytes) result → IfOk result (λ ran. ran.store.state ≡ (after (history_of ran.history)).store)
+pub run_store : (bytes : Bytes) (result : Result ScheduleRun RunFault) → HasRun (schedule_run program_craft bytes) result → IfOk result (λ ran. ran.store.state ≡ (after (history_of ran.history)).store)
 run_store bytes (Ok ran) answer = sym answer.3 ∙ (sym (whole_store bytes answer.0 answer.1) ∙ ap (λ h. (after h).store) answer.2)
 run_store bytes (Err fault) answer = tt
 
 -- a run's end has the history that is determined
-pub run_history : (r : Determined) (result : Result Ran RunFault) → HasRun r result → IsRun r (history_alone result)
+pub run_history : (r : Determined) (result : Result ScheduleRun RunFault) → HasRun r result → IsRun r (history_alone result)
 run_history r (Ok ran) h = (h.0, h.1, h.2)
 run_history r (Err (Bad b)) h = h
 run_history r (Err (Full n cost)) h = h

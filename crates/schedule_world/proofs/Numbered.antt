@@ -8,7 +8,7 @@ use Rattle.schedule_model.specs.Faults.{Craft}
 use Rattle.schedule_model.specs.Schedules.{Led, Went, Filled, header_led, header_on, last_led, led_on, line_led, lines_led}
 use Rattle.schedule_model.specs.Schedules as schedules
 use Rattle.schedule_world.specs.Runs.{HasRun, from_present, numbered_led}
-use Rattle.schedule_world.specs.declared.run.Ran.{Ran}
+use Rattle.schedule_world.specs.declared.run.ScheduleRun.{ScheduleRun}
 use Rattle.schedule_world.specs.declared.run.RunFault.{RunFault}
 
 -- how it goes on depends on what the desks determine
@@ -72,7 +72,7 @@ past_else true flag more p r = absurd (cc)
 past_else false flag more p r = r
 
 -- the answer of the lines behind the header is that of the text
-pub behind_header : (κ : Craft) (cut flag : Bool) (d : ScheduleReader) (first : Option (ℕ × Bor Bytes)) (mid rest : List (ℕ × Bytes)) (ls : List Bytes) (n : ℕ) (h : Bytes) (result : Result Ran RunFault)
+pub behind_header : (κ : Craft) (cut flag : Bool) (d : ScheduleReader) (first : Option (ℕ × Bor Bytes)) (mid rest : List (ℕ × Bytes)) (ls : List Bytes) (n : ℕ) (h : Bytes) (result : Result ScheduleRun RunFault)
     → numbered 1 ls ≡ (n, h) ∷ mid → MatchOption first ((mid ≡ []) × (rest ≡ [])) (λ x. mid ≡ (x.0, x.1.now) ∷ rest) → flag ≡ is_past cut (from_present first rest)
     → last_led flag (header_led h (text_fault 65536 h)) ≡ Went first_desk → d ≡ first_desk → HasRun (numbered_led κ cut d (from_present first rest)) result → HasRun (header_on κ cut ls) result
 behind_header κ cut flag d first mid rest ls n h result is given past went fresh run =

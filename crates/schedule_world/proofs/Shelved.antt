@@ -8,7 +8,7 @@ use Rattle.std.specs.FinMap.Entries.{find}
 use Rattle.store_tables.proofs.Lookups.{insert-remove}
 use Rattle.schedule_world.specs.Books.{book_of, books_of}
 use Rattle.schedule_world.specs.Shelves.{Shelf}
-use Rattle.schedule_world.specs.declared.book.Book.{Book}
+use Rattle.schedule_world.specs.declared.book.ClientBook.{ClientBook}
 
 found_mapped : {A B : Type 0} (f : A → B) (b : Bool) (a : A) (o : Option A) → cond b (Some (f a)) (option_map f o) ≡ option_map f (cond b (Some a) o)
 found_mapped f true a o = refl
@@ -24,7 +24,7 @@ unfolding books_of
 get-books_of m q = get-from_entries nat_cmp_total (map (λ e. (e.0, book_of e.1)) (entries m)) q ∙ (find-map book_of q (entries m) ∙ ap (option_map book_of) (sym (get-entries m q)))
 
 -- one more book, or another one
-pub books_of-insert : (m : Shelf) (c : ℕ) (b : Book) → books_of (insert m c b) ≡ insert (books_of m) c (book_of b)
+pub books_of-insert : (m : Shelf) (c : ℕ) (b : ClientBook) → books_of (insert m c b) ≡ insert (books_of m) c (book_of b)
 books_of-insert m c b = same_map nat_cmp_total nat_cmp-IsAntisymmetric _ _ (λ q.
     get-books_of (insert m c b) q
     ∙ (ap (option_map book_of) (get-insert nat_cmp_total m c b q)
@@ -37,5 +37,5 @@ pub books_of-empty : books_of empty ≡ empty
 books_of-empty = same_map nat_cmp_total nat_cmp-IsAntisymmetric _ _ (λ q. get-books_of empty q ∙ (ap (option_map book_of) (get-empty nat_cmp q) ∙ sym (get-empty nat_cmp q)))
 
 -- a book that is taken out and put back in another state
-pub books_of_again : (m : Shelf) (c : ℕ) (b : Book) → books_of (insert (remove m c) c b) ≡ insert (books_of m) c (book_of b)
+pub books_of_again : (m : Shelf) (c : ℕ) (b : ClientBook) → books_of (insert (remove m c) c b) ≡ insert (books_of m) c (book_of b)
 books_of_again m c b = ap books_of (insert-remove nat_cmp_total nat_cmp-IsAntisymmetric m c b) ∙ books_of-insert m c b

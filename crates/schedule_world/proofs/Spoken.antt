@@ -23,7 +23,7 @@ use Rattle.schedule_world.specs.Desks.{desk_with}
 use Rattle.schedule_world.specs.Running.{AreKnown}
 use Rattle.schedule_world.specs.Shelves.{Shelf}
 use Rattle.schedule_world.specs.Told.{IsRoom, IsTold}
-use Rattle.schedule_world.specs.declared.book.Book.{Book}
+use Rattle.schedule_world.specs.declared.book.ClientBook.{ClientBook}
 use Rattle.schedule_world.specs.declared.fault.LineFault.{LineFault}
 use Rattle.schedule_world.specs.declared.fault.LineFault.TheVariants.{Bad, Full, Memory}
 use Rattle.schedule_world.specs.declared.left.Left.{Left}
@@ -52,7 +52,7 @@ told_room l d e room (Err (Bad w)) h q = absurd q
 told_room l d e room (Err (Full n k)) h q = (h ∙ ap (λ b. if b then Went e else Filled e) q.0, q.1, q.2)
 told_room l d e room (Err Memory) h q = absurd q
 
-module _ (p p' : Past) (m n : Shelf) (c : ℕ) (k : Book) (l : Left) (room : Bool) (found : get m c ≡ Some k) (free : idle_reason (option_map book_of (get m c)) ≡ None) (grown : n ≡ insert (remove m c) c (record { seed = k.seed; drawn = k.drawn; left = l })) where
+module _ (p p' : Past) (m n : Shelf) (c : ℕ) (k : ClientBook) (l : Left) (room : Bool) (found : get m c ≡ Some k) (free : idle_reason (option_map book_of (get m c)) ≡ None) (grown : n ≡ insert (remove m c) c (record { seed = k.seed; drawn = k.drawn; left = l })) where
   abbrev before : ScheduleReader
   before = desk_with p (books_of m)
 
@@ -84,6 +84,6 @@ pub taken_known : (m n : Shelf) (cs ds : List (ℕ × ℕ)) (c : ℕ) → AreKno
 taken_known m n cs ds c known e f = known_same (remove m c) n cs ds e f (one_less_known m cs c known)
 
 -- and after one was put back, if there was the memory
-pub set_known : (n t : Shelf) (ds : List (ℕ × ℕ)) (c : ℕ) (k : Book) (r : Result (Unit {0}) AllocError) → AreKnown n ds → has_number c ds ≡ true → OnOk r (t ≡ insert n c k) → OnErr r (t ≡ n) → AreKnown t ds
+pub set_known : (n t : Shelf) (ds : List (ℕ × ℕ)) (c : ℕ) (k : ClientBook) (r : Result (Unit {0}) AllocError) → AreKnown n ds → has_number c ds ≡ true → OnOk r (t ≡ insert n c k) → OnErr r (t ≡ n) → AreKnown t ds
 set_known n t ds c k (Ok u) known h ok err = known_same (insert n c k) t ds ds ok refl (one_more_known n ds c k known h)
 set_known n t ds c k (Err e) known h ok err = known_same n t ds ds err refl known

@@ -5,10 +5,10 @@ use Rattle.std.specs.Ordering.{nat_cmp}
 use Rattle.schedule_model.specs.Desk as desk
 use Rattle.schedule_world.specs.Blocks.{script_left}
 use Rattle.schedule_world.specs.Shelves.{Shelf}
-use Rattle.schedule_world.specs.declared.book.Book.{Book}
+use Rattle.schedule_world.specs.declared.book.ClientBook.{ClientBook}
 
 -- a client's book: it made no passes, and isn't stopped
-abbrev pub book_of : Book → desk.Book
+abbrev pub book_of : ClientBook → desk.Book
 book_of b = record { seed = b.seed; drawn = b.drawn; passes = 0; left = script_left b.left; stopped = false }
 
 -- the books of all clients

@@ -2,13 +2,13 @@
 use Rattle.std.specs.FinMap.{FinMap}
 use Rattle.std.specs.Ordering.{nat_cmp}
 use Rattle.place_model.specs.Shown.{history_of}
-use Rattle.schedule_model.specs.Desk.{Book, ScheduleReader}
+use Rattle.schedule_model.specs.Desk.{ClientBook, ScheduleReader}
 use Rattle.schedule_world.specs.Books.{books_of}
 use Rattle.schedule_world.specs.declared.past.Past.{Past}
 use Rattle.schedule_world.specs.declared.world.World.{World}
 
 -- what happened so far, with these books
-abbrev pub desk_with : Past → FinMap nat_cmp Book → ScheduleReader
+abbrev pub desk_with : Past → FinMap nat_cmp ClientBook → ScheduleReader
 desk_with p bs = record { moment = p.moment; clients = (history_of p.history).clients; entries = (history_of p.history).entries; store = p.store.state; books = bs }
 
 -- the desk of a world

@@ -7,7 +7,7 @@ use Rattle.place_model.specs.declared.history.History as code
 use Rattle.line_text.specs.declared.reason.Reason.{Reason}
 use Rattle.schedule_world.specs.declared.fault.LineFault.{LineFault}
 use Rattle.schedule_world.specs.declared.fault.LineFault.TheVariants as line
-use Rattle.schedule_world.specs.declared.run.Ran.{Ran}
+use Rattle.schedule_world.specs.declared.run.ScheduleRun.{ScheduleRun}
 use Rattle.schedule_world.specs.declared.run.RunFault.{RunFault}
 use Rattle.schedule_world.specs.declared.run.RunFault.TheVariants.{Bad, Full, Memory}
 use Rattle.schedule_model.specs.Desk.{ScheduleReader, first_desk}
@@ -25,14 +25,14 @@ IsRun r (Err (Full n cost)) = r ≡ schedules.Full n cost
 IsRun r (Err Memory) = Unit {0}
 
 -- the same of a run's end, whose store is that of the desk
-abbrev pub HasRun : Determined → Result Ran RunFault → Type 0
+abbrev pub HasRun : Determined → Result ScheduleRun RunFault → Type 0
 HasRun r (Ok ran) = (d : ScheduleReader) × (r ≡ Whole d) × (schedules.history_of d ≡ history_of ran.history) × (d.store ≡ ran.store.state)
 HasRun r (Err (Bad b)) = r ≡ Bad_line b.line b.reason
 HasRun r (Err (Full n cost)) = r ≡ schedules.Full n cost
 HasRun r (Err Memory) = Unit {0}
 
 -- the history of a run's end
-abbrev pub history_alone : Result Ran RunFault → Result code.History RunFault
+abbrev pub history_alone : Result ScheduleRun RunFault → Result code.History RunFault
 history_alone (Ok ran) = Ok ran.history
 history_alone (Err fault) = Err fault
 

@@ -2,12 +2,12 @@
 use Rattle.std.specs.Coded.{Coded, coded_ℕ}
 use Rattle.std.specs.FinMap.{FinMap, code}
 use Rattle.std.specs.Ordering.{nat_cmp}
-use Rattle.schedule_world.specs.declared.book.Book.{Book}
-use Rattle.schedule_world.specs.contracts.book.Book.{the_row as book_row}
+use Rattle.schedule_world.specs.declared.book.ClientBook.{ClientBook}
+use Rattle.schedule_world.specs.contracts.book.ClientBook.{the_row as book_row}
 
 -- books by the numbers of their clients
 abbrev pub Shelf : Type 0
-Shelf = FinMap nat_cmp Book
+Shelf = FinMap nat_cmp ClientBook
 
 -- they can stand in a model
 abbrev pub shelf_code : Coded Shelf

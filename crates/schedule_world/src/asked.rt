@@ -8,9 +8,9 @@ ghost use Rattle.schedule_model.specs.declared.line.Asked.TheVariants.{Ack, Decl
 
 use crate::word::{dashed_in, joined, name_in, priority_in, queues_in, visibility_in};
 use line_text::tag_in;
-use wire_values::Bytes;
 use schedule_model::Asked;
 use std::alloc::{AllocError, Global};
+use wire_values::Bytes;
 
 /// What these words begin, the word of the block before the others. None where they spell nothing that can be begun.
 pub(crate) fn asked_in(

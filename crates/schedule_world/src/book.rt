@@ -12,7 +12,7 @@ use std::marker::Model;
 
 /// What is kept of a client: its seed, how many tags it drew, and what is left of its block.
 #[derive(Drop)]
-pub(crate) struct Book {
+pub(crate) struct ClientBook {
     pub(crate) seed: u64,
     pub(crate) drawn: u64,
     pub(crate) left: Left,
@@ -21,7 +21,7 @@ pub(crate) struct Book {
 /// The clients' books by their numbers, seen by contracts as a finite map.
 #[derive(Drop)]
 pub(crate) struct Books {
-    kept: BTreeMap<u32, Book>,
+    kept: BTreeMap<u32, ClientBook>,
 }
 
 impl Model for Books {
@@ -46,7 +46,7 @@ impl Books {
     }
 
     /// A client's book.
-    pub(crate) fn get(&self, client: u32) -> Option<&Book>
+    pub(crate) fn get(&self, client: u32) -> Option<&ClientBook>
         ensures { option_copied result ≡ map.get self.now client }
     {
         self.kept.get(&client)
@@ -73,7 +73,7 @@ impl Books {
     ///
     /// # Errors
     /// `UnknownClient`, `Stopped` since an answer wasn't listed, or `Idle`; then nothing changed.
-    pub(crate) fn take_busy(&mut self, client: u32) -> Result<Book, Reason>
+    pub(crate) fn take_busy(&mut self, client: u32) -> Result<ClientBook, Reason>
         ensures taken { IsBusy (map.get self.old client) result }
         ensures kept { OnErr result (self.new ≡ self.old) }
         ensures removed { OnOk result (self.new ≡ map.remove self.old client) }
@@ -89,7 +89,7 @@ impl Books {
     }
 
     /// Takes a client's book out.
-    fn take(&mut self, client: u32) -> Option<Book>
+    fn take(&mut self, client: u32) -> Option<ClientBook>
         ensures taken { result ≡ map.get self.old client }
         ensures removed { self.new ≡ map.remove self.old client }
     {
@@ -97,7 +97,7 @@ impl Books {
     }
 
     /// Sets a client's book; without memory the table is as it was.
-    pub(crate) fn set(&mut self, client: u32, book: Book) -> Result<(), AllocError>
+    pub(crate) fn set(&mut self, client: u32, book: ClientBook) -> Result<(), AllocError>
         ensures ok { OnOk result (self.new ≡ map.insert self.old client book) }
         ensures err { OnErr result (self.new ≡ self.old) }
     {

@@ -4,7 +4,7 @@ ghost use Rattle.command_blocks.specs.EnvelopeTexts.{plain_setting};
 ghost use Rattle.command_blocks.specs.Scripts.{Over, end_script, next_words, pop_script, publish_script};
 ghost use Rattle.envelope.specs.Tags.{tag_text};
 ghost use Rattle.routes.specs.Publishes.{GoesDirectly};
-ghost use Rattle.schedule_model.specs.Faults.{has_more, is_off};
+ghost use Rattle.schedule_model.specs.Faults.{has_more, is_script_off};
 ghost use Rattle.schedule_world.specs.Blocks.{script_left};
 ghost use Rattle.schedule_world.specs.Lefts.{after_answer, heard_by};
 ghost use Rattle.serde_json.specs.View.{view as data_of};
@@ -64,7 +64,7 @@ impl Left {
 
     /// Whether an answer wasn't listed.
     pub(crate) fn is_off(&self) -> bool
-        ensures { result ≡ is_off (script_left self.now) }
+        ensures { result ≡ is_script_off (script_left self.now) }
     {
         match self {
             Left::Over => false,

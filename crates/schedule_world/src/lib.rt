@@ -20,5 +20,5 @@ mod world;
 
 pub use fault::LineFault;
 pub use line::line_of;
-pub use run::{Ran, RunFault, run_schedule, run_whole};
+pub use run::{RunFault, ScheduleRun, run_schedule, run_whole};
 pub use world::World;

@@ -9,8 +9,8 @@ use crate::cost::call_cost;
 use crate::left::Left;
 use mini_store::Store;
 use place_model::{Entry, History};
-use wire_values::Words;
 use std::alloc::{AllocError, Global};
+use wire_values::Words;
 
 /// The greatest number of entries of a history.
 const ENTRY_LIMIT: usize = 1_000_000;
@@ -38,7 +38,7 @@ impl Past {
     ghost use Rattle.store_model.specs.Words.{IsWithinLimits};
     ghost use Rattle.command_blocks.specs.Scripts.{next_words};
     ghost use Rattle.schedule_model.specs.Costs.{is_full};
-    ghost use Rattle.schedule_model.specs.Desk.{Book, first_desk, said_all, said_one, with_call};
+    ghost use Rattle.schedule_model.specs.Desk.{ClientBook, first_desk, said_all, said_one, with_call};
     ghost use Rattle.schedule_model.specs.Faults.{has_more};
     ghost use Rattle.schedule_world.specs.Desks.{desk_with};
     ghost use Rattle.schedule_world.specs.Blocks.{script_left};
@@ -102,7 +102,7 @@ impl Past {
     /// Another moment is the present one.
     pub(crate) fn set_moment(&mut self, moment: u64)
         requires { moment < 2 ^ 40 }
-        ensures { (bs : FinMap nat_cmp Book) → desk_with self.new bs ≡ record (desk_with self.old bs) { moment = moment } }
+        ensures { (bs : FinMap nat_cmp ClientBook) → desk_with self.new bs ≡ record (desk_with self.old bs) { moment = moment } }
     {
         self.moment = moment;
     }
@@ -116,7 +116,7 @@ impl Past {
     ) -> Result<(), AllocError>
         requires number { has_number client (history_of self.old.history).clients ≡ false }
         requires seed { has_seed seed (history_of self.old.history).clients ≡ false }
-        ensures ok { OnOk result ((bs : FinMap nat_cmp Book) → desk_with self.new bs ≡ record (desk_with self.old bs) { clients = (history_of self.old.history).clients ++ (client, seed) ∷ [] }) }
+        ensures ok { OnOk result ((bs : FinMap nat_cmp ClientBook) → desk_with self.new bs ≡ record (desk_with self.old bs) { clients = (history_of self.old.history).clients ++ (client, seed) ∷ [] }) }
         ensures err { OnErr result ((history_of self.new.history).clients ≡ (history_of self.old.history).clients) }
     {
         self.history.client(alloc, client, seed)
@@ -133,7 +133,7 @@ impl Past {
         requires known { has_number client (history_of self.old.history).clients ≡ true }
         requires limits { IsWithinLimits words }
         requires next { next_words (script_left left.old) self.old.moment ≡ Some words }
-        ensures desk { OnOk result ((bs : FinMap nat_cmp Book) → desk_with self.new bs ≡ with_call (desk_with self.old bs) client words (apply_of self.old.store.state self.old.moment client words)) }
+        ensures desk { OnOk result ((bs : FinMap nat_cmp ClientBook) → desk_with self.new bs ≡ with_call (desk_with self.old bs) client words (apply_of self.old.store.state self.old.moment client words)) }
         ensures left { OnOk result (script_left left.new ≡ after_answer (script_left left.old) (apply_of self.old.store.state self.old.moment client words).1.answer) }
         ensures table { (history_of self.new.history).clients ≡ (history_of self.old.history).clients }
     {
@@ -166,7 +166,7 @@ impl Past {
         left: &mut Left,
     ) -> Result<bool, AllocError>
         requires { has_number client (history_of self.old.history).clients ≡ true }
-        ensures said { IfOk result (λ room. (bs : FinMap nat_cmp Book) → said_one (desk_with self.old bs) client (script_left left.old) ≡ record { desk = desk_with self.new bs; left = script_left left.new; room = room }) }
+        ensures said { IfOk result (λ room. (bs : FinMap nat_cmp ClientBook) → said_one (desk_with self.old bs) client (script_left left.old) ≡ record { desk = desk_with self.new bs; left = script_left left.new; room = room }) }
         ensures fewer { IfOk result (λ room. room ≡ true → has_more (script_left left.old) ≡ true → room_left self.new < room_left self.old) }
         ensures table { (history_of self.new.history).clients ≡ (history_of self.old.history).clients }
     {
@@ -188,7 +188,7 @@ impl Past {
         left: &mut Left,
     ) -> Result<bool, AllocError>
         requires { has_number client (history_of self.old.history).clients ≡ true }
-        ensures said { IfOk result (λ room. (bs : FinMap nat_cmp Book) → said_all (desk_with self.old bs) client (script_left left.old) ≡ record { desk = desk_with self.new bs; left = script_left left.new; room = room }) }
+        ensures said { IfOk result (λ room. (bs : FinMap nat_cmp ClientBook) → said_all (desk_with self.old bs) client (script_left left.old) ≡ record { desk = desk_with self.new bs; left = script_left left.new; room = room }) }
         ensures table { (history_of self.new.history).clients ≡ (history_of self.old.history).clients }
     {
         while left.has_more() {

@@ -19,9 +19,9 @@ use envelope::{Envelope, Tag};
 use letters::Letters;
 use line_text::Reason;
 use queue_keys::{NameFault, QueueName, is_reserved};
-use wire_values::{Bytes, List, Words};
 use schedule_model::Asked;
 use std::alloc::{AllocError, Global};
+use wire_values::{Bytes, List, Words};
 
 /// A block that was begun, and how many tags its client drew by then.
 #[derive(Drop)]

@@ -33,7 +33,7 @@ pub enum RunFault {
 
 /// What a schedule's run leaves: its history, the store after it, and what is known of texts of the history.
 #[derive(Drop)]
-pub struct Ran {
+pub struct ScheduleRun {
     /// The history.
     pub history: History,
     /// The store that the history leaves.
@@ -63,7 +63,7 @@ pub fn run_schedule(alloc: Global, bytes: &[u8]) -> Result<History, RunFault>
 ///
 /// # Errors
 /// As `run_schedule`.
-pub fn run_whole(alloc: Global, bytes: &[u8]) -> Result<Ran, RunFault>
+pub fn run_whole(alloc: Global, bytes: &[u8]) -> Result<ScheduleRun, RunFault>
     ensures answer { IsAnswer bytes.now (history_alone result) }
     ensures sound { IfOk result (λ ran. IsSound plain_setting (history_of ran.history)) }
     ensures placed { IfOk result (λ ran. IsEachPlaced (history_of ran.history)) }
@@ -79,7 +79,7 @@ pub fn run_whole(alloc: Global, bytes: &[u8]) -> Result<Ran, RunFault>
 }
 
 /// The lines of a text, the header first, taken by a world before its first line.
-fn text_run(alloc: Global, world: World, is_cut: bool, text: &[u8]) -> Result<Ran, RunFault>
+fn text_run(alloc: Global, world: World, is_cut: bool, text: &[u8]) -> Result<ScheduleRun, RunFault>
     requires { desk_of world ≡ first_desk }
     ensures { HasRun (header_on program_craft is_cut (lines_of text.now)) result }
 {
@@ -122,7 +122,7 @@ fn lines_run<'a>(
     is_cut: bool,
     first: Option<(u64, &'a [u8])>,
     mut lines: Lines<'a>,
-) -> Result<Ran, RunFault>
+) -> Result<ScheduleRun, RunFault>
     ensures { HasRun (numbered_led program_craft is_cut (desk_of world) (from_present first.entry (lines_left lines.entry))) result }
 {
     let mut present = first;

@@ -13,9 +13,9 @@ ghost use Rattle.schedule_world.specs.Tasks.{IsDraftOf, Names, content_around, e
 
 use envelope::walk::{holds_float, nests_within};
 use envelope::{Draft, Envelope, EnvelopeFault, Tag, Tree, seal};
-use wire_values::Bytes;
 use serde_json::{Value, json};
 use std::alloc::{AllocError, Global};
+use wire_values::Bytes;
 
 /// The deepest nesting of a task's arguments.
 const MAX_LEVELS: u32 = 90;

@@ -6,8 +6,8 @@ ghost use Rattle.line_text.specs.Words.{is_word};
 ghost use Rattle.schedule_model.specs.Lines.{client_in, dashed_in, name_in, queues_in, seed_in};
 
 use line_text::{is_word, number_in};
-use wire_values::{Bytes, List, Words};
 use std::alloc::{AllocError, Global};
+use wire_values::{Bytes, List, Words};
 
 /// The number of a client, from 1 to 4,096.
 pub(crate) fn client_in(word: &str) -> Option<u32>

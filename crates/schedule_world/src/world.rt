@@ -2,14 +2,14 @@
 ghost use Rattle.place_model.specs.Shown.{history_of};
 ghost use Rattle.schedule_world.specs.Running.{AreKnown};
 
-use crate::run::Ran;
 use crate::LineFault;
-use crate::book::{Book, Books};
+use crate::book::{Books, ClientBook};
 use crate::built::waits;
 use crate::left::Left;
 use crate::line::line_of;
 use crate::past::Past;
 use crate::plan::prepared;
+use crate::run::ScheduleRun;
 use letters::Letters;
 use line_text::{LINE_LIMIT, MOMENT_LIMIT, Reason, line_text, words};
 use place_model::History;
@@ -76,12 +76,12 @@ impl World {
     }
 
     /// The history so far, the store that answered, and what is known of texts.
-    pub(crate) fn into_ran(self) -> Ran
+    pub(crate) fn into_ran(self) -> ScheduleRun
         ensures history { history_of result.history ≡ schedules.history_of (desk_of self) }
         ensures store { result.store.state ≡ (desk_of self).store }
     {
         let Past { history, store, .. } = self.past;
-        Ran {
+        ScheduleRun {
             history,
             store,
             letters: self.letters,
@@ -130,7 +130,7 @@ impl World {
         self.past.add_client(alloc, client, seed)?;
         self.books.set(
             client,
-            Book {
+            ClientBook {
                 seed,
                 drawn: 0,
                 left: Left::over(),
@@ -169,7 +169,7 @@ impl World {
         let begun = prepared(alloc, &mut self.letters, seed, drawn, asked)?;
         self.books.set(
             client,
-            Book {
+            ClientBook {
                 seed,
                 drawn: begun.drawn,
                 left: begun.left,

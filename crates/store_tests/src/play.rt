@@ -3,7 +3,7 @@ use crate::rows::{
     channels, commands, eleven, exchanges, faults, keys, limits, names, passes, queues, stops,
     tables, transactions,
 };
-use crate::stage::Stage;
+use crate::stage::PlayedStore;
 use line_text::number_in;
 use std::alloc::{AllocError, Global};
 use std::process::Abort;
@@ -19,7 +19,7 @@ fn play<R: Abort>(rt: &R, alloc: Global, scripts: &str) -> Result<(), Fail> {
 
 /// Plays the rows of a script, whose first line is its title.
 fn play_script<R: Abort>(rt: &R, alloc: Global, script: &str) -> Result<(), Fail> {
-    let mut stage = Stage::new(alloc);
+    let mut stage = PlayedStore::new(alloc);
     stage.begin(rt, alloc)?;
     for row in script.split('\n').skip(1) {
         play_row(rt, alloc, &mut stage, row)?;
@@ -28,7 +28,12 @@ fn play_script<R: Abort>(rt: &R, alloc: Global, script: &str) -> Result<(), Fail
 }
 
 /// Plays a row, if it is no remark.
-fn play_row<R: Abort>(rt: &R, alloc: Global, stage: &mut Stage, row: &str) -> Result<(), Fail> {
+fn play_row<R: Abort>(
+    rt: &R,
+    alloc: Global,
+    stage: &mut PlayedStore,
+    row: &str,
+) -> Result<(), Fail> {
     if row.is_empty() || row.starts_with('#') {
         return Ok(());
     }
@@ -42,7 +47,7 @@ fn play_row<R: Abort>(rt: &R, alloc: Global, stage: &mut Stage, row: &str) -> Re
 fn play_asked<R: Abort>(
     rt: &R,
     alloc: Global,
-    stage: &mut Stage,
+    stage: &mut PlayedStore,
     asked: &str,
     want: &str,
 ) -> Result<(), AllocError> {
@@ -56,7 +61,7 @@ fn play_asked<R: Abort>(
 fn repeat<R: Abort>(
     rt: &R,
     alloc: Global,
-    stage: &mut Stage,
+    stage: &mut PlayedStore,
     rest: &str,
     want: &str,
 ) -> Result<(), AllocError> {
@@ -81,7 +86,7 @@ fn numbered(alloc: Global, asked: &str, number: u64) -> Result<String, AllocErro
 fn expect<R: Abort>(
     rt: &R,
     alloc: Global,
-    stage: &mut Stage,
+    stage: &mut PlayedStore,
     asked: &str,
     want: &str,
 ) -> Result<(), AllocError> {

@@ -16,16 +16,16 @@ use wire_values::Words;
 
 /// A store, the history of its clients, and the names that rows have for byte strings.
 #[derive(Drop)]
-pub struct Stage {
+pub struct PlayedStore {
     store: Store,
     history: History,
     glossary: Glossary,
 }
 
-impl Stage {
+impl PlayedStore {
     /// An empty store without clients.
-    pub fn new(alloc: Global) -> Stage {
-        Stage {
+    pub fn new(alloc: Global) -> PlayedStore {
+        PlayedStore {
             store: Store::new(alloc),
             history: History::new(),
             glossary: Glossary::new(alloc),

@@ -10,11 +10,11 @@ use Rattle.command_blocks.specs.Calls.{Call}
 use Rattle.command_blocks.specs.EnvelopeTexts.{plain_setting}
 use Rattle.command_blocks.specs.Scripts.{Script, next_words}
 use Rattle.unacked.specs.Ends.{TellsEnd}
-use Rattle.unacked.specs.Steps.{HasRun}
+use Rattle.unacked.specs.Steps.{HasExecuted}
 use Rattle.unacked.specs.declared.step.Course.TheVariants.{Ran}
 
 -- what ran tells of its last answer
-pub ran_tells : (calls : List Call) (last : Call) (r : Value) (removed : Bool) → last.answer ≡ r → HasRun (Ran removed) r → TellsEnd (calls ++ last ∷ []) (record { removed = removed })
+pub ran_tells : (calls : List Call) (last : Call) (r : Value) (removed : Bool) → last.answer ≡ r → HasExecuted (Ran removed) r → TellsEnd (calls ++ last ∷ []) (record { removed = removed })
 ran_tells calls last r removed is (x, y, e, f) = (calls, last, x, y, refl, is ∙ e, f)
 
 -- words at every moment are those at this one

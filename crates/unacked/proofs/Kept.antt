@@ -24,7 +24,7 @@ use Rattle.queue_keys.specs.Layouts.{plain}
 use Rattle.queue_keys.specs.Names.{Bytes}
 use Rattle.queue_keys.specs.QueueKeys.{pop_keys}
 use Rattle.command_blocks.specs.Scripts.{Over, if_told, kept_by, next_words, null_array_in, on_popped, pop_script}
-use Rattle.unacked.specs.Pops.{index_words, table_words, tag_in}
+use Rattle.unacked.specs.Pops.{index_words, table_words, tag_within}
 use Rattle.unacked.specs.Queues.{are_some}
 use Rattle.unacked.proofs.Names.{no_some}
 use Rattle.unacked.specs.Steps.{begin_left, steps_left}
@@ -51,7 +51,7 @@ found r p e f =
 
 -- ---- an element that is an envelope
 
-tag_is : (d : Data) (v : Bytes) → envelope_at v ≡ Ok d → tag_of_bytes v ≡ Some (tag_in d)
+tag_is : (d : Data) (v : Bytes) → envelope_at v ≡ Ok d → tag_of_bytes v ≡ Some (tag_within d)
 tag_is d v e = ap (λ r. option_map (λ p. tag_text p.tag) (option_map parts_in (result_ok r))) e
 
 plain_is : (d : Data) → IsPlain d → if_plain d ≡ Some d
@@ -67,7 +67,7 @@ entry_is d v e =
 
 -- what was read as an envelope is put into the table
 pub kept : (d : Data) (v : Bytes) → envelope_at v ≡ Ok d → steps_left (index_words d) (table_words d) Begin ≡ kept_by plain_setting v (tag_of_bytes v)
-kept d v e = sym (ap (kept_by plain_setting v) (tag_is d v e) ∙ ap (λ u. begin_left (index_words d) (codes "HSET" ∷ codes "unacked" ∷ tag_in d ∷ u ∷ [])) (entry_is d v e))
+kept d v e = sym (ap (kept_by plain_setting v) (tag_is d v e) ∙ ap (λ u. begin_left (index_words d) (codes "HSET" ∷ codes "unacked" ∷ tag_within d ∷ u ∷ [])) (entry_is d v e))
 
 -- ---- an element that is none
 
@@ -95,13 +95,13 @@ asked_words names out pushed inserted v keys slice b one e f g h i j k l =
     e ∙ f ∙ ap (λ x. x ++ one ∷ []) g ∙ (λ t. (h t ∷ all t) ++ i t ∷ [])
 
 -- the command on the index
-pub index_said : (r : Result Words AllocError) (d : Data) (step : Step) (at : ℕ) (moment tag : Bytes) → step ≡ Index → IfOk r (λ w. w ≡ codes "ZADD" ∷ codes "unacked_index" ∷ moment ∷ tag ∷ []) → moment ≡ decimal at → tag ≡ tag_in d
+pub index_said : (r : Result Words AllocError) (d : Data) (step : Step) (at : ℕ) (moment tag : Bytes) → step ≡ Index → IfOk r (λ w. w ≡ codes "ZADD" ∷ codes "unacked_index" ∷ moment ∷ tag ∷ []) → moment ≡ decimal at → tag ≡ tag_within d
     → IfOk r (λ w. Some w ≡ next_words (steps_left (index_words d) (table_words d) step) at)
 index_said (Ok w) d step at moment tag is e m t = ap (λ (w : Words). Some w) (e ∙ (λ i. codes "ZADD" ∷ codes "unacked_index" ∷ m i ∷ t i ∷ [])) ∙ sym (ap (λ s. next_words (steps_left (index_words d) (table_words d) s) at) is)
 index_said (Err f) d step at moment tag is e m t = tt
 
 -- the command on the table
-pub table_said : (r : Result Words AllocError) (d : Data) (step : Step) (at : ℕ) (tag entry : Bytes) → step ≡ Table → IfOk r (λ w. w ≡ codes "HSET" ∷ codes "unacked" ∷ tag ∷ entry ∷ []) → tag ≡ tag_in d → entry ≡ compact_text (entry_data (entry_for d))
+pub table_said : (r : Result Words AllocError) (d : Data) (step : Step) (at : ℕ) (tag entry : Bytes) → step ≡ Table → IfOk r (λ w. w ≡ codes "HSET" ∷ codes "unacked" ∷ tag ∷ entry ∷ []) → tag ≡ tag_within d → entry ≡ compact_text (entry_data (entry_for d))
     → IfOk r (λ w. Some w ≡ next_words (steps_left (index_words d) (table_words d) step) at)
 table_said (Ok w) d step at tag entry is e t u = ap (λ (w : Words). Some w) (e ∙ (λ i. codes "HSET" ∷ codes "unacked" ∷ t i ∷ u i ∷ [])) ∙ sym (ap (λ s. next_words (steps_left (index_words d) (table_words d) s) at) is)
 table_said (Err f) d step at tag entry is e t u = tt

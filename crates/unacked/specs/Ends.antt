@@ -16,16 +16,16 @@ use Rattle.unacked.specs.declared.step.Step.{Step}
 use Rattle.unacked.specs.declared.step.Step.TheVariants.{Begin, Index, Table, Run}
 
 -- the command that takes a tag out of the index
-abbrev pub index_words : ℕ → ℕ → Words
-index_words tag at = codes "ZREM" ∷ plain_setting.index ∷ tag_text tag ∷ []
+abbrev pub unindex_words : ℕ → ℕ → Words
+unindex_words tag at = codes "ZREM" ∷ plain_setting.index ∷ tag_text tag ∷ []
 
 -- the command that takes its entry out of the table
-abbrev pub table_words : ℕ → Words
-table_words tag = codes "HDEL" ∷ plain_setting.unacked ∷ tag_text tag ∷ []
+abbrev pub untable_words : ℕ → Words
+untable_words tag = codes "HDEL" ∷ plain_setting.unacked ∷ tag_text tag ∷ []
 
 -- what is left at a stage
 abbrev pub end_stage_left : EndStage → Script
-end_stage_left stage = steps_left (index_words stage.tag.0) (table_words stage.tag.0) stage.step
+end_stage_left stage = steps_left (unindex_words stage.tag.0) (untable_words stage.tag.0) stage.step
 
 -- what is left to say of an acknowledgement
 abbrev pub end_left : BlockCore EndStage Acked → Script
@@ -40,7 +40,7 @@ abbrev pub HasEnding : ℕ → ℕ → ℕ → List Call → BlockCore EndStage 
 HasEnding s p tag calls core = HasHad end_stage_left (λ plan calls stage. Unit {0}) (λ plan calls end. TellsEnd calls end) s p (End (tag_text tag)) calls core
 
 -- at each step a command is next
-pub end_says : (tag : ℕ) (step : Step) → is_saying (steps_left (index_words tag) (table_words tag) step) ≡ true
+pub end_says : (tag : ℕ) (step : Step) → is_saying (steps_left (unindex_words tag) (untable_words tag) step) ≡ true
 end_says tag Begin = refl
 end_says tag Index = refl
 end_says tag Table = refl

@@ -34,16 +34,16 @@ use Rattle.unacked.specs.declared.step.Step.{Step}
 use Rattle.unacked.specs.declared.step.Step.TheVariants.{Begin, Index, Table, Run}
 
 -- the text of the tag of an envelope's tree
-abbrev pub tag_in : Data → Bytes
-tag_in d = tag_text (parts_in d).tag
+abbrev pub tag_within : Data → Bytes
+tag_within d = tag_text (parts_in d).tag
 
 -- the command that puts the tag of an envelope's tree into the index, under the moment
 abbrev pub index_words : Data → ℕ → Words
-index_words d at = codes "ZADD" ∷ plain_setting.index ∷ decimal at ∷ tag_in d ∷ []
+index_words d at = codes "ZADD" ∷ plain_setting.index ∷ decimal at ∷ tag_within d ∷ []
 
 -- the command that puts its entry into the table
 abbrev pub table_words : Data → Words
-table_words d = codes "HSET" ∷ plain_setting.unacked ∷ tag_in d ∷ compact_text (entry_data (entry_for d)) ∷ []
+table_words d = codes "HSET" ∷ plain_setting.unacked ∷ tag_within d ∷ compact_text (entry_data (entry_for d)) ∷ []
 
 -- what is left at a stage
 abbrev pub popping_left : Popping → Script

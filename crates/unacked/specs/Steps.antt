@@ -44,12 +44,12 @@ course_left index table (Ran removed) = Over
 course_left index table Refused = Off
 
 -- a transaction that ran was answered two integers, and the second tells whether its command on the table counted one member
-abbrev pub HasRun : Course → Value → Type 0
-HasRun (Next step) answer = Unit {0}
-HasRun (Ran removed) answer = (x : ℤ) × (y : ℤ) × (answer ≡ integers (x ∷ y ∷ [])) × (removed ≡ is_one (Some y))
-HasRun Refused answer = Unit {0}
+abbrev pub HasExecuted : Course → Value → Type 0
+HasExecuted (Next step) answer = Unit {0}
+HasExecuted (Ran removed) answer = (x : ℤ) × (y : ℤ) × (answer ≡ integers (x ∷ y ∷ [])) × (removed ≡ is_one (Some y))
+HasExecuted Refused answer = Unit {0}
 
 -- what two integers bring as EXEC's answer
-abbrev pub ran_by : Option (ℤ × ℤ) → Course
-ran_by None = Refused
-ran_by (Some p) = Ran (is_one (Some p.1))
+abbrev pub executed_by : Option (ℤ × ℤ) → Course
+executed_by None = Refused
+executed_by (Some p) = Ran (is_one (Some p.1))

@@ -6,7 +6,7 @@ ghost use Rattle.command_blocks.specs.EnvelopeTexts.{plain_setting};
 ghost use Rattle.command_blocks.specs.Scripts.{End, end_script, next_words};
 ghost use Rattle.block_core.specs.Cores.{core_end};
 ghost use Rattle.block_laws.specs.Rows.{IsLawfulPlan};
-ghost use Rattle.unacked.specs.Ends.{HasEnding, end_left, index_words, table_words};
+ghost use Rattle.unacked.specs.Ends.{HasEnding, end_left, unindex_words, untable_words};
 ghost use Rattle.unacked.specs.Steps.{steps_left};
 
 use crate::step::{Course, Step};
@@ -91,7 +91,7 @@ fn end_of(number: u128) -> EndCore
 /// The words of a command of the transaction.
 fn end_words(alloc: Global, tag: Tag, step: Step) -> Result<Words, AllocError>
     ensures words { IfOk result (λ words. (at : ℕ) → Some words
-        ≡ next_words (steps_left (index_words tag.0) (table_words tag.0) step) at) }
+        ≡ next_words (steps_left (unindex_words tag.0) (untable_words tag.0) step) at) }
     ensures limits { IfOk result (λ words. IsWithinLimits words) }
 {
     match step {

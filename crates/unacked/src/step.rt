@@ -2,7 +2,7 @@
 ghost use Rattle.std.specs.Prelude.{◌≡◌, ℕ, if◌then◌else◌};
 ghost use Rattle.store_model.specs.Words.{Words as Said};
 ghost use Rattle.command_blocks.specs.Answers.{numbers_of};
-ghost use Rattle.unacked.specs.Steps.{HasRun, answered_left, course_left, ran_by};
+ghost use Rattle.unacked.specs.Steps.{HasExecuted, answered_left, course_left, executed_by};
 
 use command_blocks::answer::{is_status, is_unit, two_integers};
 use wire_values::Value;
@@ -36,7 +36,7 @@ impl Step {
     pub(crate) fn answered(self, answer: &Value) -> Course
         ensures left { (index : ℕ → Said) (table : Said)
             → course_left index table result ≡ answered_left index table self answer.now }
-        ensures ran { HasRun result answer.now }
+        ensures ran { HasExecuted result answer.now }
     {
         match self {
             Step::Begin => next_if(is_status(answer, b"OK"), Step::Index),
@@ -60,7 +60,7 @@ fn next_if(listed: bool, step: Step) -> Course
 
 /// What an answer to EXEC brings.
 fn ran(answer: &Value) -> Course
-    ensures { result ≡ ran_by (numbers_of answer.now) }
+    ensures { result ≡ executed_by (numbers_of answer.now) }
 {
     match two_integers(answer) {
         Some((_, removed)) => Course::Ran(is_unit(removed)),

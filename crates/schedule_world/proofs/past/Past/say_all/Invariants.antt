@@ -1,7 +1,7 @@
 use Rattle.std.proofs.Common.{◌≡◌, ◌-◌, length}
 use Rattle.std.specs.FinMap.{FinMap}
 use Rattle.std.specs.Ordering.{nat_cmp}
-use Rattle.schedule_model.specs.Desk.{Book, said_all}
+use Rattle.schedule_model.specs.Desk.{ClientBook, said_all}
 use Rattle.schedule_world.specs.Desks.{desk_with}
 use Rattle.schedule_world.specs.Blocks.{script_left}
 use Rattle.schedule_world.proofs.past.Past.say_all.Given as goal
@@ -9,7 +9,7 @@ use Rattle.schedule_world.proofs.past.Past.say_all.Given as goal
 -- what is left is said as it was to be, and the table is as it was
 abbrev pub invariant-loop-alloc : goal.invariant-loop-alloc
 invariant-loop-alloc l = record {
-  said : (bs : FinMap nat_cmp Book) → said_all (desk_with l.fn.self bs) l.client (script_left l.fn.left) ≡ said_all (desk_with l.self bs) l.client (script_left l.left);
+  said : (bs : FinMap nat_cmp ClientBook) → said_all (desk_with l.fn.self bs) l.client (script_left l.fn.left) ≡ said_all (desk_with l.self bs) l.client (script_left l.left);
   table : l.self.history.clients ≡ l.fn.self.history.clients;
 }
 

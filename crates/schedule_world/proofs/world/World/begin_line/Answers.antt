@@ -4,7 +4,7 @@ use Rattle.std.specs.FinMap.{get}
 use Rattle.schedule_world.proofs.Begins.{asked_went, found_so, resting_bad, unprepared}
 use Rattle.schedule_world.proofs.Spoken.{set_known, told_bad}
 use Rattle.schedule_world.specs.Desks.{desk_of}
-use Rattle.schedule_world.specs.declared.book.Book.{Book}
+use Rattle.schedule_world.specs.declared.book.ClientBook.{ClientBook}
 use Rattle.schedule_world.proofs.world.World.begin_line.Goals as goal
 
 pub returns-in_err-seed : goal.returns-in_err-seed
@@ -14,7 +14,7 @@ returns-in_err-seed c =
 
 pub returns-in_err-begun : goal.returns-in_err-begun
 returns-in_err-begun c =
-    let k : Book = c.in_ok-seed.ensures.0 in
+    let k : ClientBook = c.in_ok-seed.ensures.0 in
     let s = c.in_ok-seed.seed in
     let n = c.in_ok-seed.drawn in
     unprepared c.args.self.now.past c.args.self.now.books c.args.self.now.books c.args.client s n k.left c.args.asked
@@ -31,7 +31,7 @@ invariant_of-self c =
 
 pub returns : goal.returns
 returns c =
-    let k : Book = c.in_ok-seed.ensures.0 in
+    let k : ClientBook = c.in_ok-seed.ensures.0 in
     let s = c.in_ok-seed.seed in
     let n = c.in_ok-seed.drawn in
     asked_went c.args.self.now.past c.args.self.now.books c.set.new.self c.args.client s n k.left c.args.asked
