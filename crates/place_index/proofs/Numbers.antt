@@ -3,10 +3,17 @@ use Rattle.std.proofs.Common.{◌≡◌, ℕ, ◌^◌, ◌<◌, List, Bool, true
 use Rattle.std.specs.Int.{w128, from_be_bytes}
 use Rattle.std.specs.Str.{bytes_eq}
 use Rattle.std.proofs.lemmas.Slice.Eq.{bytes_eq-Decides}
+use Rattle.std.specs.Prelude.{◌&&◌}
+use Rattle.std.specs.FinMap.{empty, entries}
 use Rattle.uuid.specs.Text.{parsed}
 use Rattle.envelope.specs.Tags.{if_spelled, tag_of_text, tag_text}
 use Rattle.envelope.proofs.TagTexts.{tag_of_text-tag_text}
 use Rattle.command_blocks.specs.EnvelopeTexts.{plain_setting}
+use Rattle.place_model.specs.Counts.{is_field, is_member}
+use Rattle.place_model.specs.Histories.{History, after}
+use Rattle.place_model.specs.PlaceOf.{place_of}
+use Rattle.place_model.specs.declared.heard.Heard.{Heard}
+use Rattle.place_index.specs.Gathered.{gathered, place_by, standing_in}
 use Rattle.queue_keys.specs.Names.{Bytes, same}
 use Rattle.queue_keys.proofs.Basics.{eqb-refl, eqb_true, false_true, same-refl, same_true}
 use Rattle.place_index.proofs.Gathers.{is_number}
@@ -43,5 +50,7 @@ text_tells t fits u = both_ways (same u (tag_text t)) (is_number t (tag_of_text 
         let s : u ≡ tag_text t = text_is u n i ∙ ap tag_text (eqb_true n t e) in
         subst (λ v. same v (tag_text t) ≡ true) (sym s) (same-refl (tag_text t))
 
-pub places_are : PlacesGathered
+-- the place of a tag after a history that begins with no key is read off the walk, the lists of queues and the table
+pub places_are : (t : ℕ) (h : History Heard) → t < 2 ^ 128 → h.start ≡ empty
+    → place_of plain_setting h (tag_text t) ≡ place_by t (gathered plain_setting h) (standing_in plain_setting (entries (after h).store.keys)) (is_field plain_setting (after h).store.keys (tag_text t) && is_member plain_setting (after h).store.keys (tag_text t))
 places_are t h fits e = place_is plain_setting t (tag_text t) (text_tells t fits) h e
