@@ -1,21 +1,18 @@
 -- How a core goes on by a reply.
-use Rattle.std.proofs.Common.{◌≡◌, ℕ, true, false, [], refl, ◌∙◌, ap, subst, sym, Result, Ok, Err, IsSome}
+use Rattle.std.proofs.Common.{◌≡◌, ℕ, true, false, [], refl, ◌∙◌, subst, sym, Result, Ok, Err, IsSome}
 use Rattle.std.specs.Prelude.{⊤, OnOk}
 use Rattle.std.specs.declared.alloc.AllocError.{AllocError}
 use Rattle.wire_values.specs.declared.value.Value.{Value}
 use Rattle.store_model.specs.Words.{Words}
 use Rattle.store_model.specs.declared.reply.Reply.{Reply}
 use Rattle.command_blocks.specs.Calls.{call}
-use Rattle.command_blocks.specs.Cores.{IsAnswered}
 use Rattle.command_blocks.specs.Scripts.{Script, Over, Off, Say, after_call, next_words}
 use Rattle.block_core.specs.Cores.{HasTaken, core_left}
 use Rattle.block_core.specs.declared.block.BlockCore.{BlockCore}
 use Rattle.block_core.specs.declared.fault.ReplyFault.{ReplyFault}
 use Rattle.block_core.specs.declared.fault.ReplyFault.TheVariants.{Refused, Memory}
 use Rattle.schedule_model.specs.Faults.{has_more}
-use Rattle.schedule_world.specs.Blocks.{script_left}
 use Rattle.schedule_world.specs.Lefts.{after_answer, heard_by}
-use Rattle.schedule_world.specs.declared.left.Left.{Left}
 
 false_true : false ≡ true → ⊥
 false_true e = cc
@@ -37,3 +34,10 @@ pub heard_on : {S E : Type 0} (left : S → Script) (old new : BlockCore S E) (a
 heard_on left old new at reply (Ok u) h = h.0 [] ∙ same_answer (core_left left old) at [] reply.answer
 heard_on left old new at reply (Err (Refused given)) h = h.0 [] ∙ same_answer (core_left left old) at [] reply.answer
 heard_on left old new at reply (Err Memory) h = tt
+
+-- so does a whole script that is the core's
+pub heard_so : {S E : Type 0} (left : S → Script) (old new : BlockCore S E) (at : ℕ) (reply : Reply) (taken : Result ⊤ ReplyFault) (result : Result ⊤ AllocError) (whole : Script) → HasTaken left old new at reply taken → result ≡ heard_by taken → core_left left old ≡ whole
+    → OnOk result (core_left left new ≡ after_answer whole reply.answer)
+heard_so left old new at reply taken result whole h e w =
+    subst (λ r. OnOk r (core_left left new ≡ after_answer whole reply.answer)) (sym e)
+    (subst (λ s. OnOk (heard_by taken) (core_left left new ≡ after_answer s reply.answer)) w (heard_on left old new at reply taken h))

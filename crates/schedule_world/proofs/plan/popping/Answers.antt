@@ -17,4 +17,4 @@ pub returns : goal.returns
 returns c =
     let named : list_any is_no_name c.args.queues.now ≡ false = ap (list_any is_no_name) (sym c.as_slice.ensures) ∙ sym c.has_no_name.ensures ∙ c.if-has_no_name.false in
     let free : list_any is_reserved c.args.queues.now ≡ false = ap (list_any is_reserved) (sym c.as_slice-2.ensures) ∙ sym c.has_reserved.ensures ∙ c.if-has_reserved.false in
-    popped c.args.seed c.args.drawn c.args.queues.now c.pop.result c.args.drawn named free (c.pop.ensures ∙ ap (pop_script plain_setting) (c.in_ok-names.ensures ∙ c.as_slice-3.ensures)) refl
+    popped c.args.seed c.args.drawn c.args.queues.now c.in_ok-left.left c.args.drawn named free (c.in_ok-left.ensures ∙ ap (pop_script plain_setting) (c.in_ok-names.ensures ∙ c.as_slice-3.ensures)) refl
