@@ -1,10 +1,14 @@
 -- A command that no earlier part took is one of the later part.
-use Rattle.std.proofs.Common.{◌≡◌, ℕ, List, Bool, true, false, Option, ℤ, refl}
+use Rattle.std.proofs.Common.{◌≡◌, ℕ, List, Bool, true, Option, ℤ, refl, Result, Ok, Err, OnOk}
 use Rattle.store_model.specs.Words.{Bytes}
 use Rattle.store_model.specs.Connections.{Conns, posted}
 use Rattle.store_model.specs.declared.command.Command.{Command}
 use Rattle.store_model.specs.declared.command.Command.TheVariants.{Set, Del, Expire, Lpush, Rpush, Rpop, Brpop, Sadd, Srem, Hset, Hdel, Zadd, Zrem, Publish}
 use Rattle.mini_store.specs.RunParts.{is_on_tables, only_looks}
+
+pub always_ok : {X E P : Type 0} (r : Result X E) → P → OnOk r P
+always_ok (Ok x) p = p
+always_ok (Err e) p = tt
 
 -- a command that is no message posts nothing
 pub posts_nothing : (c : Command) (m : Conns) → ((x t : Bytes) → c ≡ Publish x t → ⊥) → m ≡ posted c m

@@ -158,14 +158,14 @@ impl Database {
 fn channel_answer(
     alloc: Global,
     word: &[u8],
-    channel: Bytes,
+    channel: &Bytes,
     count: usize,
 ) -> Result<Value, AllocError>
-    ensures { IfOk result (λ v. v ≡ channel_answer word.now channel count) }
+    ensures { IfOk result (λ v. v ≡ channel_answer word.now channel.now count) }
 {
     let mut parts = Items::new(alloc);
     push_bulk(alloc, &mut parts, word)?;
-    parts.push(Value::Bulk(channel))?;
+    push_bulk(alloc, &mut parts, channel.as_slice())?;
     push_number(&mut parts, count)?;
     Ok(Value::Array(parts))
 }
@@ -213,11 +213,16 @@ impl Database {
     }
 
     // SUBSCRIBE.
-    fn subscribe(&mut self, alloc: Global, number: u32, channel: Bytes) -> Result<Value, AllocError>
-        ensures { IfOk result (λ v. (self.new, v) ≡ subscribe self.old number (conn self.old.conns number) channel) }
+    fn subscribe(
+        &mut self,
+        alloc: Global,
+        number: u32,
+        channel: &Bytes,
+    ) -> Result<Value, AllocError>
+        ensures { IfOk result (λ v. (self.new, v) ≡ subscribe self.old number (conn self.old.conns number) channel.now) }
     {
         let mut known = self.conns.take(alloc, number);
-        join(alloc, &mut known.channels, &channel)?;
+        join(alloc, &mut known.channels, channel)?;
         let count = known.channels.len();
         self.conns.set(number, known)?;
         let answer = channel_answer(alloc, b"subscribe".as_slice(), channel, count)?;
@@ -229,12 +234,12 @@ impl Database {
         &mut self,
         alloc: Global,
         number: u32,
-        channel: Bytes,
+        channel: &Bytes,
     ) -> Result<Value, AllocError>
-        ensures { IfOk result (λ v. (self.new, v) ≡ unsubscribe self.old number (conn self.old.conns number) channel) }
+        ensures { IfOk result (λ v. (self.new, v) ≡ unsubscribe self.old number (conn self.old.conns number) channel.now) }
     {
         let mut known = self.conns.take(alloc, number);
-        known.channels.take_out(&channel);
+        known.channels.take_out(channel);
         let count = known.channels.len();
         self.conns.set(number, known)?;
         let answer = channel_answer(alloc, b"unsubscribe".as_slice(), channel, count)?;
@@ -256,8 +261,8 @@ impl Database {
             Command::Multi => self.multi(alloc, number),
             Command::Watch(keys) => self.watch(alloc, number, keys),
             Command::Unwatch => self.unwatch(alloc, number),
-            Command::Subscribe(channel) => self.subscribe(alloc, number, channel),
-            Command::Unsubscribe(channel) => self.unsubscribe(alloc, number, channel),
+            Command::Subscribe(channel) => self.subscribe(alloc, number, &channel),
+            Command::Unsubscribe(channel) => self.unsubscribe(alloc, number, &channel),
             other => self.run_one(alloc, at, other),
         }
     }

@@ -2,7 +2,6 @@
 //! connection: the step of a command, over the definitions of `store_model`.
 #![tactic(auto)]
 
-mod conns;
 mod database;
 mod run;
 mod store;

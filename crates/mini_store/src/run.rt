@@ -9,6 +9,7 @@ ghost use Rattle.std.specs.FinMap.{entries};
 ghost use Rattle.std.specs.Prelude.{◌≡◌, ◌<◌, ◌^◌, [], IfOk, OnOk, true};
 
 use std::alloc::{AllocError, Global};
+use std::mem;
 use store_conns::Connections;
 use store_keys::Keyspace;
 use store_keys::effect::{Effect, error, number, status};
@@ -126,15 +127,19 @@ fn run_on_tables(keys: &mut Keyspace, alloc: Global, command: Command) -> Result
         Command::Hdel(key, names) => hashes::hdel(keys, alloc, key, names),
         Command::Zadd(key, score, name) => sorted_sets::zadd(keys, alloc, key, score, name),
         Command::Zrem(key, names) => sorted_sets::zrem(keys, alloc, key, names),
-        other => run_to_look(keys, alloc, other),
+        other => {
+            let effect = run_to_look(keys, alloc, &other);
+            mem::drop(other);
+            effect
+        }
     }
 }
 
 // Runs a command that only looks.
-fn run_to_look(keys: &Keyspace, alloc: Global, command: Command) -> Result<Effect, AllocError>
-    ensures { only_looks command ≡ true → (a : Around) → IfOk result (λ e. out keys.now e.altered e.answer ≡ run a keys.now command) }
+fn run_to_look(keys: &Keyspace, alloc: Global, command: &Command) -> Result<Effect, AllocError>
+    ensures { only_looks command.now ≡ true → (a : Around) → IfOk result (λ e. out keys.now e.altered e.answer ≡ run a keys.now command.now) }
 {
-    let answer = look(keys, alloc, &command)?;
+    let answer = look(keys, alloc, command)?;
     Ok(Effect::none(alloc, answer))
 }
 

@@ -5,7 +5,7 @@ ghost use Rattle.store_model.specs.Replies.{message};
 ghost use Rattle.std.specs.BTreeMap.{IsOrdered};
 ghost use Rattle.std.specs.FinMap as map;
 ghost use Rattle.std.specs.Ordering.{nat_cmp};
-ghost use Rattle.std.specs.Prelude.{◌≡◌, [], ◌∷◌, ◌++◌, IfOk, IsTrue, None, OnOk, is_some, length, map as mapped};
+ghost use Rattle.std.specs.Prelude.{◌≡◌, [], ◌∷◌, ◌++◌, IfOk, IsTrue, None, OnOk, Some, is_some, length, map as mapped};
 
 use sqlite_items::Items;
 use std::alloc::{AllocError, Global};
@@ -154,8 +154,8 @@ impl Connections {
     ) -> Result<(), AllocError>
         ensures { OnOk result (self.new ≡ map.insert self.old number (with_command command (conn self.old number))) }
     {
-        let mut known = self.take(alloc, number);
-        push_to(&mut known.queue, command)?;
+        let known = self.take(alloc, number);
+        let known = with_command(known, command)?;
         self.set(number, known)
     }
 
@@ -350,15 +350,38 @@ fn with_broken(known: Conn) -> Conn
     }
 }
 
-// Adds a command to a queue, if there is one.
-fn push_to(queue: &mut Option<Queue>, command: Command) -> Result<(), AllocError>
-    ensures { OnOk result (queue.new ≡ longer_queue command queue.old) }
+fn longer(queue: Option<Queue>, command: Command) -> Result<Option<Queue>, AllocError>
+    ensures { IfOk result (λ q. q ≡ longer_queue command queue) }
 {
-    let Some(queue) = queue else {
-        mem::drop(command);
-        return Ok(());
-    };
-    queue.commands.push(command)
+    match queue {
+        Some(queue) => longer_by_one(queue, command),
+        None => {
+            mem::drop(command);
+            Ok(None)
+        }
+    }
+}
+
+fn longer_by_one(queue: Queue, command: Command) -> Result<Option<Queue>, AllocError>
+    ensures { IfOk result (λ q. q ≡ longer_queue command (Some queue)) }
+{
+    let broken = queue.broken;
+    let mut commands = queue.commands;
+    commands.push(command)?;
+    Ok(Some(Queue { commands, broken }))
+}
+
+// The connection with a command more in its queue.
+fn with_command(known: Conn, command: Command) -> Result<Conn, AllocError>
+    ensures { IfOk result (λ c. c ≡ with_command command known) }
+{
+    Ok(Conn {
+        queue: longer(known.queue, command)?,
+        watched: known.watched,
+        marked: known.marked,
+        channels: known.channels,
+        pending: known.pending,
+    })
 }
 
 // The connection with no messages pending, and the messages.
