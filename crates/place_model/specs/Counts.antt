@@ -1,5 +1,5 @@
 -- The five counts of a message's places.
-use Rattle.std.specs.Prelude.{◌≡◌, ℕ, suc, zero, ◌+◌, ◌≤◌, Bool, false, ◌&&◌, List, [], ◌∷◌, is_some, Option, None, Some, if◌then◌else◌}
+use Rattle.std.specs.Prelude.{◌≡◌, ℕ, ℤ, suc, zero, ◌+◌, ◌≤◌, Bool, false, ◌&&◌, List, [], ◌∷◌, is_some, Option, None, Some, if◌then◌else◌}
 use Rattle.std.specs.FinMap.{get, entries}
 use Rattle.store_model.specs.Keys.{Keys, value_at}
 use Rattle.store_model.specs.declared.held.Held.{Held}
@@ -65,6 +65,11 @@ abbrev pub has_member : Option Stored → Bytes → Bool
 has_member (Some (Scores h)) t = is_some (get h t)
 has_member other t = false
 
+-- the score of a member of a sorted set
+abbrev pub score_of : Option Stored → Bytes → Option ℤ
+score_of (Some (Scores h)) t = get h t
+score_of other t = None
+
 -- what the table has of a tag
 abbrev pub table_entry : Setting → Keys → Bytes → Option Bytes
 table_entry σ m t = field_of (value_at m σ.unacked) t
@@ -76,6 +81,10 @@ is_field σ m t = has_field (value_at m σ.unacked) t
 -- whether t is in the table's index
 abbrev pub is_member : Setting → Keys → Bytes → Bool
 is_member σ m t = has_member (value_at m σ.index) t
+
+-- the score of a tag in the table's index
+abbrev pub score_at : Setting → Keys → Bytes → Option ℤ
+score_at σ m t = score_of (value_at m σ.index) t
 
 -- 1 where t is in the table and in its index
 abbrev pub table_count : Setting → Keys → Bytes → ℕ

@@ -10,7 +10,7 @@ use Rattle.queue_keys.specs.QueueKeys.{IsAway, Among}
 use Rattle.command_blocks.specs.Setting.{Setting}
 use Rattle.command_blocks.specs.ReturnBlocks.{Carries}
 use Rattle.place_model.specs.Seen.{Seen}
-use Rattle.place_model.specs.Counts.{table_entry, is_field, is_member}
+use Rattle.place_model.specs.Counts.{table_entry, is_field, is_member, score_at}
 use Rattle.place_model.specs.Starts.{elements_at}
 use Rattle.command_blocks.specs.declared.block.Side.{Side}
 use Rattle.command_blocks.specs.declared.block.Side.TheVariants.{Left, Right}
@@ -34,14 +34,14 @@ abbrev pub gain : Side → Bytes → List Bytes → List Bytes
 gain Left v xs = v ∷ xs
 gain Right v xs = xs ++ v ∷ []
 
--- from the keys m to m', at this moment: the entry u of t left the table, its envelope v with the two marks came to this side of each of these queues' lists, and nothing else changed
+-- from the keys m to m', at this moment: the entry u of t left the table, its envelope v with the two marks came to this side of each of these queues' lists, every other tag has the same entry and the same score, and every other key is as it was, or was due and is gone
 pub record IsWholeReturn (σ : Setting) (m m' : Keys) (at : ℕ) (side : Side) (t u v : Bytes) (ks : List Bytes) : Type 0 where
   pub was : table_entry σ m t ≡ Some u
   pub carries : Carries σ u t v
   pub no_field : is_field σ m' t ≡ false
   pub no_member : is_member σ m' t ≡ false
   pub gained : (k : Bytes) → Among k ks → elements_at m' k ≡ gain side v (elements_at m k)
-  pub others : (x : Bytes) → (x ≡ t → ⊥) → (is_field σ m' x ≡ is_field σ m x) × (is_member σ m' x ≡ is_member σ m x)
+  pub others : (x : Bytes) → (x ≡ t → ⊥) → (table_entry σ m' x ≡ table_entry σ m x) × (score_at σ m' x ≡ score_at σ m x)
   pub elsewhere : (k : Bytes) → IsAway k (σ.unacked ∷ σ.index ∷ ks) → (get m' k ≡ get m k) ⊎ ((is_expired at (get m k) ≡ true) × (get m' k ≡ None))
 
 -- the transaction that a client has queued is a return's, to the queues that the lookup gives over its last SMEMBERS, if the exchange has a name; and from the keys m to m' it returned its message whole

@@ -5,20 +5,21 @@ use Rattle.wire_values.specs.declared.value.Value.{Value}
 use Rattle.wire_values.specs.declared.value.Value.TheVariants.{Array}
 use Rattle.store_model.specs.Commands.{Around, is_queued, run}
 use Rattle.store_model.specs.Connections.{Conns, around, conn}
-use Rattle.store_model.specs.Keys.{Keys, is_expired, live_at, value_of}
+use Rattle.store_model.specs.Keys.{Keys, is_expired, live_at, value_at, value_of}
 use Rattle.store_model.specs.Replies.{bulks}
 use Rattle.store_model.specs.Store.{State, run_all, serve, settled}
 use Rattle.store_model.specs.Words.{Words, command_of}
 use Rattle.store_model.specs.declared.command.Command.{Command}
 use Rattle.store_model.specs.declared.command.Command.TheVariants.{Exec, Hdel, Zrem}
 use Rattle.store_model.specs.declared.reply.Reply.{Reply}
-use Rattle.store_laws.proofs.Changes.{queue_not_index, queue_not_unacked}
+use Rattle.store_laws.proofs.Changes.{queue_not_index, queue_not_unacked, unacked_not_index}
+use Rattle.store_laws.proofs.Others.{hdel_others, zrem_others}
 use Rattle.store_laws.proofs.Law.{framed}
 use Rattle.store_laws.proofs.Settled.{get-live_at}
 use Rattle.store_laws.proofs.Table.{Turned}
 use Rattle.command_blocks.specs.Answers.{items_of}
 use Rattle.command_blocks.specs.Calls.{Call}
-use Rattle.place_model.specs.Counts.{table_entry, field_of, has_field, has_member, is_field, is_member, start_count}
+use Rattle.place_model.specs.Counts.{table_entry, field_of, has_field, is_field, is_member, score_at, score_of, start_count}
 use Rattle.place_model.specs.Histories.{Client, History, IsHistoryPrefix, SystemState, after, and_then, start_from}
 use Rattle.queue_keys.specs.Lookup.{lookup}
 use Rattle.queue_keys.specs.Names.{Bytes}
@@ -27,7 +28,7 @@ use Rattle.command_blocks.specs.ReturnBlocks.{Carries}
 use Rattle.place_model.specs.Returns.{IsWholeReturn, ReturnsWhole, gain, push_commands, take_out}
 use Rattle.place_model.specs.Seen.{Seen, seen}
 use Rattle.command_blocks.specs.Setting.{is_queue}
-use Rattle.place_model.specs.Starts.{IsSound, elements_at, elements_of}
+use Rattle.place_model.specs.Starts.{IsHashOrNone, IsSound, elements_at, elements_of}
 use Rattle.command_blocks.specs.declared.block.Side.{Side}
 use Rattle.place_model.specs.declared.history.Entry.TheVariants.{Call as Called}
 use Rattle.place_theorem.proofs.Full.{Alike, Full, Kinds, keys_of}
@@ -67,7 +68,7 @@ pub record Taken (σ : Full) (m m' : Keys) (side : Side) (t v : Bytes) (ks : Lis
   pub no_field : is_field σ.names m' t ≡ false
   pub no_member : is_member σ.names m' t ≡ false
   pub gained : (k : Bytes) → Among k ks → elements_at m' k ≡ gain side v (elements_at m k)
-  pub others : (x : Bytes) → x ≢ t → (is_field σ.names m' x ≡ is_field σ.names m x) × (is_member σ.names m' x ≡ is_member σ.names m x)
+  pub others : (x : Bytes) → x ≢ t → (table_entry σ.names m' x ≡ table_entry σ.names m x) × (score_at σ.names m' x ≡ score_at σ.names m x)
   pub elsewhere : (k : Bytes) → IsAway k (σ.names.unacked ∷ σ.names.index ∷ ks) → get m' k ≡ get m k
 
 module _ (σ : Full) (at : ℕ) (cs : Conns) (s : State) (c : ℕ) (sn : Seen) (kinds : Kinds σ s.keys) (alike : Alike σ s.keys) (t : Bytes) (side : Side) (u v : Bytes) (ms : List Bytes) (tag : σ.names.tag_of v ≡ Some t) where
@@ -102,6 +103,22 @@ module _ (σ : Full) (at : ℕ) (cs : Conns) (s : State) (c : ℕ) (sn : Seen) (
   not_queue : (k : Bytes) → is_queue σ.names k ≡ true → (k ≢ σ.names.unacked) × (k ≢ σ.names.index)
   not_queue k q = ((λ z. queue_not_unacked (keys_of σ) k q (sym z)), (λ z. queue_not_index (keys_of σ) k q (sym z)))
 
+  -- the keys after the first command
+  abbrev first : Keys
+  first = (run e s.keys (Zrem σ.names.index (t ∷ []))).keys
+
+  -- each other tag keeps the bytes of its entry
+  entries_kept : (x : Bytes) → x ≢ t → table_entry σ.names last x ≡ table_entry σ.names s.keys x
+  entries_kept x n =
+      let still : value_at first σ.names.unacked ≡ value_at s.keys σ.names.unacked = ap value_of ((framed e s.keys (Zrem σ.names.index (t ∷ []))).away σ.names.unacked (unacked_not_index (keys_of σ), tt)) in
+      ap (λ o. field_of o x) all.table ∙ hdel_others e first σ.names.unacked t x n (subst IsHashOrNone (sym still) kinds.table) ∙ ap (λ o. field_of o x) still
+
+  -- and its score
+  scores_kept : (x : Bytes) → x ≢ t → score_at σ.names last x ≡ score_at σ.names s.keys x
+  scores_kept x n =
+      let still : value_at mid σ.names.index ≡ value_at first σ.names.index = ap value_of ((framed e first (Hdel σ.names.unacked (t ∷ []))).away σ.names.index ((λ z. unacked_not_index (keys_of σ) (sym z)), tt)) in
+      ap (λ o. score_of o x) all.members ∙ ap (λ o. score_of o x) still ∙ zrem_others e s.keys σ.names.index t x n kinds.members
+
   pub taken : Taken σ s.keys last side t v ks
   taken = record {
     no_field = field_now t ∙ out.this;
@@ -109,9 +126,7 @@ module _ (σ : Full) (at : ℕ) (cs : Conns) (s : State) (c : ℕ) (sn : Seen) (
     gained = λ k is.
         let n = not_queue k (among_queue σ k ks (σ.laws.keys_in_are u ms) is) in
         pushes_gain σ at cs mid side v k ks out.kinds (σ.laws.keys_in_are u ms) (σ.laws.keys_in_differ u ms) is ∙ ap (λ o. gain side v (elements_of (value_of o))) (between k n.0 n.1);
-    others = λ x n.
-        let f : is_field σ.names last x ≡ is_field σ.names s.keys x = field_now x ∙ out.others x n in
-        (f, sym (same_alike x) ∙ f ∙ alike x);
+    others = λ x n. (entries_kept x n, scores_kept x n);
     elsewhere = λ k far. pushes_away at cs mid side v k ks far.1.1 ∙ between k far.0 far.1.0;
   }
 
@@ -126,7 +141,7 @@ whole_from σ m m' at side t u v ms kinds carries was taken =
       no_field = taken.no_field;
       no_member = taken.no_member;
       gained = λ k is. taken.gained k is ∙ ap (λ o. gain side v (elements_of (value_of o))) (get-lasting σ m at kinds k (kinds.lists_last k (among_queue σ k (σ.names.keys_in u ms) (σ.laws.keys_in_are u ms) is)));
-      others = λ x n. ((taken.others x n).0 ∙ ap (λ o. has_field (value_of o) x) ua, (taken.others x n).1 ∙ ap (λ o. has_member (value_of o) x) ia);
+      others = λ x n. ((taken.others x n).0 ∙ ap (λ o. field_of (value_of o) x) ua, (taken.others x n).1 ∙ ap (λ o. score_of (value_of o) x) ia);
       elsewhere = λ k far. go k (is_expired at (get m k)) refl (taken.elsewhere k far ∙ get-live_at at m k);
     }
   where

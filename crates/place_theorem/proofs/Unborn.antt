@@ -7,14 +7,12 @@ use Rattle.wire_values.specs.Order.{bytes_cmp}
 use Rattle.wire_values.specs.declared.value.Value.{Value}
 use Rattle.wire_values.specs.declared.value.Value.TheVariants.{Array}
 use Rattle.store_model.specs.Connections.{conn}
-use Rattle.store_model.specs.Keys.{Keys, live_at, value_of}
+use Rattle.store_model.specs.Keys.{Keys, value_of}
 use Rattle.store_model.specs.Store.{State, apply_of, serve}
 use Rattle.store_model.specs.Words.{Words, command_of}
 use Rattle.store_model.specs.declared.command.Command.{Command}
 use Rattle.store_model.specs.declared.command.Command.TheVariants.{Exec, Lpush}
 use Rattle.store_model.specs.declared.held.Held.{Held}
-use Rattle.store_model.specs.declared.held.Stored.{Stored}
-use Rattle.store_model.specs.declared.held.Stored.TheVariants.{Items}
 use Rattle.store_model.specs.declared.reply.Reply.{Reply}
 use Rattle.store_laws.proofs.Live.{total-same}
 use Rattle.store_laws.proofs.Maps.{weight}
@@ -27,22 +25,22 @@ use Rattle.command_blocks.specs.declared.block.Side.TheVariants.{Left, Right}
 use Rattle.place_model.specs.Counts.{IsAccepted, copy_count, copy_one, copy_weight, count, direct_pushes, table_entry, field_of, in_held, in_value, is_field, list_count, one_if_more, place_count, push_weight, start_count, sum_of, table_count, tagged, total}
 use Rattle.place_model.specs.Histories.{AllMayCome, Client, History, IsHistoryPrefix, MayCome, SystemState, after, after_entries, and_then, next, start_from}
 use Rattle.place_model.specs.Identity.{HasEnvelope, In_a_list, In_the_table, IsPublished, IsPush, PushedIn}
-use Rattle.place_model.specs.Returns.{push_command, push_commands, take_out}
+use Rattle.place_model.specs.Returns.{push_commands, take_out}
 use Rattle.place_model.specs.Seen.{Seen, nothing_seen, push_by, push_weight_at, push_with, queued_pushes, ran_by, ran_with, seen, seen_by, seen_from, tag_list, tag_weight}
-use Rattle.place_model.specs.Starts.{IsSound, elements_at, elements_of}
+use Rattle.place_model.specs.Starts.{IsSound, elements_at}
 use Rattle.place_model.specs.declared.history.Entry.{Entry}
 use Rattle.place_model.specs.declared.history.Entry.TheVariants.{Call as Called, Heard, Stop}
 use Rattle.queue_keys.specs.Names.{Bytes}
 use Rattle.queue_keys.specs.QueueKeys.{Among}
 use Rattle.place_theorem.proofs.Full.{Alike, Full}
 use Rattle.place_theorem.proofs.Kept.{Inv, count-append, seen-push, stopped_is, sum_of-append, sums}
-use Rattle.place_theorem.proofs.Machine.{At, Cursor, Idle, Runs, Step, Whole, Whole_end, Whole_free, Whole_pop, Whole_return, runs_split, step_live}
+use Rattle.place_theorem.proofs.Machine.{At, Cursor, Idle, Runs, Whole, Whole_end, Whole_free, Whole_pop, Whole_return, runs_split, step_live}
 use Rattle.place_theorem.proofs.Once.{queue_weight}
 use Rattle.place_theorem.proofs.Returned.{exec_inside, exec_ran}
 use Rattle.place_theorem.proofs.Safe.{ReadOk, Stands, conn_in}
 use Rattle.place_theorem.proofs.Settle.{unacked_kept}
 use Rattle.place_theorem.proofs.Sound.{all_mannered, inv_begin, inv_of, parted}
-use Rattle.place_theorem.proofs.Transactions.{table_is, tag_other, tag_self}
+use Rattle.place_theorem.proofs.Transactions.{table_is, tag_other}
 use Rattle.place_theorem.proofs.Values.{array_of, text_or}
 use Rattle.place_theorem.proofs.Whole.{AllMannered, call_in, inv_ready, next_called, next_heard, one_entry, ready, ready_keys, runs_to, seen_none, served, table_total, total-empty}
 

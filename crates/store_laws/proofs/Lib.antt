@@ -10,4 +10,5 @@ pub mod Elsewhere
 pub mod Answers
 pub mod Elements
 pub mod Fields
+pub mod Others
 pub mod Ranks

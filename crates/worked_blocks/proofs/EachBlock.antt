@@ -1,5 +1,5 @@
 -- Each kind of block, with each of its ends, has a whole list, and a client may say all of them in a row.
-use Rattle.std.proofs.Common.{◌≡◌, ℕ, [], ◌∷◌, ◌++◌, Option, Some, None, codes, pos, true, false, refl, lit<, lit≤, inl}
+use Rattle.std.proofs.Common.{◌≡◌, ℕ, [], ◌∷◌, ◌++◌, Option, Some, None, codes, pos, true, false, refl, lit<, lit≤, inl, inr}
 use Rattle.std.proofs.lemmas.List.{append-nil}
 use Rattle.std.proofs.lemmas.Str.{is_utf8-from_IsUtf8}
 use Rattle.std.specs.Str.{is_utf8}
@@ -12,14 +12,14 @@ use Rattle.command_blocks.specs.Blocks.{AreBlocks, Drawing, IsBlock, IsMannered,
 use Rattle.command_blocks.specs.Blocks as block
 use Rattle.command_blocks.specs.Calls.{concat}
 use Rattle.queue_keys.specs.Names.{Bytes, same}
-use Rattle.command_blocks.specs.PassBlocks.{All_returned, Done, Held, IsReturns, Is_held, Own, Ran, Returned}
+use Rattle.command_blocks.specs.PassBlocks.{All_returned, Done, Ended_early, Foreign, Held, IsReturns, Is_held, Own, Ran, Returned, Returned_until, Stuck}
 use Rattle.queue_keys.specs.Patterns.{matches}
-use Rattle.command_blocks.specs.ReturnBlocks.{Again, Gone, IsTries, IsTry, Missing, Moved, Nowhere, Stayed, Try, Useless, Whole}
+use Rattle.command_blocks.specs.ReturnBlocks.{Again, Contended, Eighth, Gone, IsTries, IsTry, Missing, Moved, Nowhere, Stayed, Try, Useless, Whole}
 use Rattle.command_blocks.specs.RouteBlocks.{Asked, Named, Plain, Told}
 use Rattle.command_blocks.specs.TakeBlocks.{Acknowledged, Empty, IsPop, Popped, Unreadable}
 use Rattle.command_blocks.specs.declared.block.Side.{Side}
 use Rattle.command_blocks.specs.declared.block.Side.TheVariants.{Left, Right}
-use Rattle.worked_blocks.specs.Lists.{all_blocks, bindings, declared, ended, later_keys, marked_envelope, named_envelope, passed_calls, passed_held, pinged, plain_envelope, popped, popped_junk, popped_nothing, published, published_to_none, published_to_two, q, released, returned, returned_gone, returned_junk, returned_late, returned_nowhere, second_tag, message_tag}
+use Rattle.worked_blocks.specs.Lists.{all_blocks, bindings, declared, ended, later_keys, marked_envelope, named_envelope, named_marked, passed_calls, passed_held, passed_nothing, passed_stuck, pinged, plain_envelope, popped, popped_junk, popped_nothing, published, published_to_none, published_to_two, q, released, released_altered, released_foreign, released_nobody, requeued, returned, returned_by_bindings, returned_contended, returned_gone, returned_junk, returned_late, returned_nowhere, second_gone, second_tag, message_tag}
 use Rattle.worked_blocks.specs.Toy.{toy_setting}
 
 -- ---- declaring and publishing
@@ -114,6 +114,51 @@ returns_late : (n p : ℕ) → IsBlock toy_setting 7 n p Other returned_late
 unfolding one_try
 returns_late n p = block.Return message_tag Right Gone _ (refl, Again 0 one_try Gone returned_gone (lit< tt) is_try (misses Right 1))
 
+requeues : (n p : ℕ) → IsBlock toy_setting 7 n p Other requeued
+unfolding one_try
+requeues n p = block.Return message_tag Left Moved _ (refl, Whole 0 one_try (pos 1 ∷ pos 1 ∷ pos 1 ∷ []) is_try)
+
+-- a try over bindings
+bound_try : Try
+bound_try = record {
+  a = 100;
+  b = 100;
+  c = 100;
+  d = 100;
+  e = 100;
+  f = 100;
+  g = 100;
+  entry = named_envelope;
+  envelope = named_marked;
+  members = bindings;
+  first = (100, codes "a");
+  others = (100, q) ∷ [];
+}
+
+is_bound_try : IsTry toy_setting second_tag bound_try
+unfolding same matches binding_of bound_try
+is_bound_try = ((refl, refl), refl)
+
+returns_by_bindings : (n p : ℕ) → IsBlock toy_setting 7 n p Other returned_by_bindings
+unfolding bound_try
+returns_by_bindings n p = block.Return second_tag Right Moved _ (refl, Whole 0 bound_try (pos 1 ∷ pos 1 ∷ pos 1 ∷ pos 1 ∷ []) is_bound_try)
+
+-- eight tries that failed
+contends : IsTries toy_setting Right message_tag 0 Contended returned_contended
+unfolding one_try
+contends =
+    Again 0 one_try Contended _ (lit< tt) is_try
+    (Again 1 one_try Contended _ (lit< tt) is_try
+    (Again 2 one_try Contended _ (lit< tt) is_try
+    (Again 3 one_try Contended _ (lit< tt) is_try
+    (Again 4 one_try Contended _ (lit< tt) is_try
+    (Again 5 one_try Contended _ (lit< tt) is_try
+    (Again 6 one_try Contended _ (lit< tt) is_try
+    (Eighth one_try is_try)))))))
+
+returns_contended : (n p : ℕ) → IsBlock toy_setting 7 n p Other returned_contended
+returns_contended n p = block.Return message_tag Right Contended _ (refl, contends)
+
 -- ---- passing, and what concerns no message
 
 passes_held : (n : ℕ) → IsBlock toy_setting 7 n 0 Passing passed_held
@@ -125,6 +170,20 @@ returns_of_pass = Returned message_tag [] Moved [] returned [] (moves Right refl
 passes : (n : ℕ) → IsBlock toy_setting 7 n 1 Passing passed_calls
 passes n = block.Pass 10 (Done (Moved ∷ [])) _ (lit< tt) (Ran 100 100 (message_tag ∷ codes "junk" ∷ []) (Done (Moved ∷ [])) returned released returns_of_pass
     (Own 100 100 100 100 100 _ (inl (Integer (pos 1) ∷ [], refl))))
+
+other_token : token 8 1 ≡ token 7 3 → ⊥
+other_token e = cc e
+
+passes_stuck : (n : ℕ) → IsBlock toy_setting 7 n 2 Passing passed_stuck
+passes_stuck n = block.Pass 10 (Stuck message_tag) _ (lit< tt) (Ran 100 100 (second_tag ∷ message_tag ∷ []) (Stuck message_tag) (second_gone ++ returned_contended) released_foreign
+    (Returned_until second_tag (message_tag ∷ []) Gone message_tag second_gone returned_contended (Missing 0 100 100 100) refl (Ended_early message_tag [] returned_contended contends))
+    (Foreign 100 100 100 _ (inl (token 8 1, refl, other_token))))
+
+passes_nobody : (n : ℕ) → IsBlock toy_setting 7 n 3 Passing (passed_nothing (token 7 4) released_nobody)
+passes_nobody n = block.Pass 10 (Done []) _ (lit< tt) (Ran 100 100 [] (Done []) [] released_nobody All_returned (Foreign 100 100 100 _ (inr refl)))
+
+passes_altered : (n : ℕ) → IsBlock toy_setting 7 n 4 Passing (passed_nothing (token 7 5) released_altered)
+passes_altered n = block.Pass 10 (Done []) _ (lit< tt) (Ran 100 100 [] (Done []) [] released_altered All_returned (Own 100 100 100 100 100 _ (inr refl)))
 
 pong_is_fine : is_error pong ≡ false
 unfolding layer
@@ -178,7 +237,19 @@ each = (
                           (
                             Other,
                             returns_late 3 0,
-                            (Passing, passes_held 3, (Passing, passes 3, (Other, pings 3 2, tt))),
+                            (
+                              Other,
+                              requeues 3 0,
+                              (
+                                Other,
+                                returns_by_bindings 3 0,
+                                (
+                                  Other,
+                                  returns_contended 3 0,
+                                  (Passing, passes_held 3, (Passing, passes 3, (Passing, passes_stuck 3, (Passing, passes_nobody 3, (Passing, passes_altered 3, (Other, pings 3 5, tt)))))),
+                                ),
+                              ),
+                            ),
                           ),
                         ),
                       ),

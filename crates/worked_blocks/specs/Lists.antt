@@ -33,6 +33,9 @@ second_tag = 7 ∷ 2 ∷ []
 abbrev pub named_envelope : Bytes
 named_envelope = 0 ∷ 7 ∷ 2 ∷ 0 ∷ 1 ∷ codes "rk"
 
+abbrev pub named_marked : Bytes
+named_marked = 1 ∷ 7 ∷ 2 ∷ 0 ∷ 1 ∷ codes "rk"
+
 abbrev pub bindings : List Bytes
 bindings = member (codes "rk") [] (codes "q") ∷ member (codes "x") (codes "#") (codes "a") ∷ []
 
@@ -115,9 +118,35 @@ returned_nowhere =
     ∷ call 100 (codes "UNWATCH" ∷ []) done
     ∷ []
 
--- a return that fails once and then finds its message gone
-abbrev pub returned_late : List Call
-returned_late =
+-- a requeue, which puts its message where the next pop finds it last
+abbrev pub requeued : List Call
+requeued =
+    call 100 (codes "WATCH" ∷ codes "unacked" ∷ []) done
+    ∷ call 100 (codes "HGET" ∷ codes "unacked" ∷ message_tag ∷ []) (Bulk plain_envelope)
+    ∷ call 100 (codes "MULTI" ∷ []) done
+    ∷ call 100 (codes "ZREM" ∷ codes "unacked_index" ∷ message_tag ∷ []) queued
+    ∷ call 100 (codes "HDEL" ∷ codes "unacked" ∷ message_tag ∷ []) queued
+    ∷ call 100 (codes "LPUSH" ∷ q ∷ marked_envelope ∷ []) queued
+    ∷ call 100 (codes "EXEC" ∷ []) (integers (pos 1 ∷ pos 1 ∷ pos 1 ∷ []))
+    ∷ []
+
+-- a return over the bindings of its exchange
+abbrev pub returned_by_bindings : List Call
+returned_by_bindings =
+    call 100 (codes "WATCH" ∷ codes "unacked" ∷ []) done
+    ∷ call 100 (codes "HGET" ∷ codes "unacked" ∷ second_tag ∷ []) (Bulk named_envelope)
+    ∷ call 100 (codes "SMEMBERS" ∷ codes "_kombu.binding.ex" ∷ []) (bulks bindings)
+    ∷ call 100 (codes "MULTI" ∷ []) done
+    ∷ call 100 (codes "ZREM" ∷ codes "unacked_index" ∷ second_tag ∷ []) queued
+    ∷ call 100 (codes "HDEL" ∷ codes "unacked" ∷ second_tag ∷ []) queued
+    ∷ call 100 (codes "RPUSH" ∷ codes "a" ∷ named_marked ∷ []) queued
+    ∷ call 100 (codes "RPUSH" ∷ q ∷ named_marked ∷ []) queued
+    ∷ call 100 (codes "EXEC" ∷ []) (integers (pos 1 ∷ pos 1 ∷ pos 1 ∷ pos 1 ∷ []))
+    ∷ []
+
+-- a try that failed, since the table was altered, and what follows it
+abbrev pub failed_try : List Call → List Call
+failed_try rest =
     call 100 (codes "WATCH" ∷ codes "unacked" ∷ []) done
     ∷ call 100 (codes "HGET" ∷ codes "unacked" ∷ message_tag ∷ []) (Bulk plain_envelope)
     ∷ call 100 (codes "MULTI" ∷ []) done
@@ -125,7 +154,14 @@ returned_late =
     ∷ call 100 (codes "HDEL" ∷ codes "unacked" ∷ message_tag ∷ []) queued
     ∷ call 100 (codes "RPUSH" ∷ q ∷ marked_envelope ∷ []) queued
     ∷ call 100 (codes "EXEC" ∷ []) NullArray
-    ∷ returned_gone
+    ∷ rest
+
+-- a return that fails once and then finds its message gone, and one that fails eight times
+abbrev pub returned_late : List Call
+returned_late = failed_try returned_gone
+
+abbrev pub returned_contended : List Call
+returned_contended = failed_try (failed_try (failed_try (failed_try (failed_try (failed_try (failed_try (failed_try [])))))))
 
 -- a pass that finds the mutex held, and one that returns what is due
 abbrev pub passed_held : List Call
@@ -146,6 +182,50 @@ passed_calls =
     ∷ call 100 (codes "ZREVRANGEBYSCORE" ∷ codes "unacked_index" ∷ decimal 90 ∷ codes "0" ∷ codes "LIMIT" ∷ codes "0" ∷ codes "10" ∷ []) (bulks (message_tag ∷ codes "junk" ∷ []))
     ∷ returned ++ released
 
+-- a pass whose second return is contended, and which then finds the mutex in other hands
+abbrev pub released_foreign : List Call
+released_foreign =
+    call 100 (codes "WATCH" ∷ codes "unacked_mutex" ∷ []) done
+    ∷ call 100 (codes "GET" ∷ codes "unacked_mutex" ∷ []) (Bulk (token 8 1))
+    ∷ call 100 (codes "UNWATCH" ∷ []) done
+    ∷ []
+
+abbrev pub second_gone : List Call
+second_gone =
+    call 100 (codes "WATCH" ∷ codes "unacked" ∷ []) done
+    ∷ call 100 (codes "HGET" ∷ codes "unacked" ∷ second_tag ∷ []) NullBulk
+    ∷ call 100 (codes "UNWATCH" ∷ []) done
+    ∷ []
+
+abbrev pub passed_stuck : List Call
+passed_stuck =
+    call 100 (codes "SET" ∷ codes "unacked_mutex" ∷ token 7 3 ∷ codes "NX" ∷ codes "EX" ∷ codes "300" ∷ []) done
+    ∷ call 100 (codes "ZREVRANGEBYSCORE" ∷ codes "unacked_index" ∷ decimal 90 ∷ codes "0" ∷ codes "LIMIT" ∷ codes "0" ∷ codes "10" ∷ []) (bulks (second_tag ∷ message_tag ∷ []))
+    ∷ (second_gone ++ returned_contended) ++ released_foreign
+
+-- a pass that finds nothing due and then no mutex, and one whose mutex is altered at the last moment
+abbrev pub released_nobody : List Call
+released_nobody =
+    call 100 (codes "WATCH" ∷ codes "unacked_mutex" ∷ []) done
+    ∷ call 100 (codes "GET" ∷ codes "unacked_mutex" ∷ []) NullBulk
+    ∷ call 100 (codes "UNWATCH" ∷ []) done
+    ∷ []
+
+abbrev pub released_altered : List Call
+released_altered =
+    call 100 (codes "WATCH" ∷ codes "unacked_mutex" ∷ []) done
+    ∷ call 100 (codes "GET" ∷ codes "unacked_mutex" ∷ []) (Bulk (token 7 5))
+    ∷ call 100 (codes "MULTI" ∷ []) done
+    ∷ call 100 (codes "DEL" ∷ codes "unacked_mutex" ∷ []) queued
+    ∷ call 100 (codes "EXEC" ∷ []) NullArray
+    ∷ []
+
+abbrev pub passed_nothing : Bytes → List Call → List Call
+passed_nothing own release =
+    call 100 (codes "SET" ∷ codes "unacked_mutex" ∷ own ∷ codes "NX" ∷ codes "EX" ∷ codes "300" ∷ []) done
+    ∷ call 100 (codes "ZREVRANGEBYSCORE" ∷ codes "unacked_index" ∷ decimal 90 ∷ codes "0" ∷ codes "LIMIT" ∷ codes "0" ∷ codes "10" ∷ []) (bulks [])
+    ∷ release
+
 -- a command that concerns no message
 abbrev pub pinged : List Call
 pinged = call 100 (codes "PING" ∷ []) pong ∷ []
@@ -156,4 +236,5 @@ all_blocks =
     declared (codes "SADD") ∷ declared (codes "SREM") ∷ published ∷ published_to_two ∷ published_to_none
     ∷ popped_nothing ∷ popped_junk ∷ popped ∷ ended
     ∷ returned ∷ returned_gone ∷ returned_junk ∷ returned_nowhere ∷ returned_late
-    ∷ passed_held ∷ passed_calls ∷ pinged ∷ []
+    ∷ requeued ∷ returned_by_bindings ∷ returned_contended
+    ∷ passed_held ∷ passed_calls ∷ passed_stuck ∷ passed_nothing (token 7 4) released_nobody ∷ passed_nothing (token 7 5) released_altered ∷ pinged ∷ []
