@@ -1,0 +1,5 @@
+pub mod Readers
+pub mod Parts
+pub mod Readings
+pub mod Limited
+pub mod Writings
