@@ -3,3 +3,4 @@ pub mod Parts
 pub mod Readings
 pub mod Limited
 pub mod Writings
+pub mod StreamLaws

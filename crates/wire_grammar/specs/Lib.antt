@@ -3,3 +3,4 @@ pub mod Spells
 pub mod Reads
 pub mod Texts
 pub mod Faults
+pub mod Streams
