@@ -26,7 +26,7 @@ pub struct Fault {
 ///
 /// Each byte is looked at once. What is kept is the unread part of the pieces, and of the value at hand what its
 /// bytes so far have told.
-#[derive(Debug, Drop)]
+#[derive(Drop)]
 pub struct Decoder {
     pub(crate) core: Core,
     pub(crate) unread: Vec<u8>,

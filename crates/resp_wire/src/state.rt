@@ -7,7 +7,7 @@ use wire_grammar::{NumberKind, TextKind, WireKind};
 use wire_values::{Bytes, Values};
 
 /// Where in a value the next byte stands, outside the content of a bulk string.
-#[derive(Clone, Copy, Debug)]
+#[derive(Clone, Copy)]
 pub enum Spot {
     /// Where a value begins.
     Begin,
@@ -32,7 +32,7 @@ pub enum Spot {
 }
 
 /// What the next bytes are.
-#[derive(Clone, Copy, Debug)]
+#[derive(Clone, Copy)]
 pub enum Phase {
     /// The content of a bulk string, of which `number` bytes come after the next one.
     Content,
@@ -41,14 +41,14 @@ pub enum Phase {
 }
 
 /// An array of which some items came; `more` come after the one at hand.
-#[derive(Debug, Drop)]
+#[derive(Drop)]
 pub struct Open {
     pub more: u64,
     pub items: Values,
 }
 
 /// The open arrays, innermost first, and the piece at hand.
-#[derive(Debug, Drop)]
+#[derive(Drop)]
 pub struct Core {
     pub phase: Phase,
     pub number: u64,
