@@ -16,5 +16,5 @@ fn main(rt: HostRuntime) -> ExitCode {
         },
         Err(_) => out_of_memory(&mut out),
     };
-    ExitCode::from(ended.status)
+    ended.exit_code()
 }

@@ -1,9 +1,11 @@
 //! How a run ends: each way with its text and its status.
 ghost use Rattle.std.specs.Prelude.{IfOk, ◌≡◌};
+ghost use Rattle.std.specs.Process.{exit_status};
 ghost use Rattle.top_call.specs.Endings.{ended_of, text_of};
 
 use line_text::BadLine;
 use std::alloc::{AllocError, Global};
+use std::process::ExitCode;
 use wire_values::Bytes;
 
 /// What a top call answers.
@@ -15,6 +17,15 @@ pub struct Ended {
     pub place: u64,
     /// Always 0: no program that is built leaves messages.
     pub left: u64,
+}
+
+impl Ended {
+    /// The status as the process' own.
+    pub fn exit_code(&self) -> ExitCode
+        ensures { exit_status result ≡ self.now.status }
+    {
+        ExitCode::from(self.status)
+    }
 }
 
 /// The ways in which a run ends, but for a failure of the sink, which is status 5.
