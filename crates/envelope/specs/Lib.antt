@@ -10,4 +10,5 @@ pub mod Sealed
 pub mod Shown
 pub mod ShownEntry
 pub mod Sorted
+pub mod Steps
 pub mod Tags

@@ -6,12 +6,13 @@ ghost use Rattle.serde_json.specs.Written.{compact_text};
 ghost use Rattle.envelope.specs.Entries.{entry_at, entry_data, entry_for, entry_in, of_items, of_three};
 ghost use Rattle.envelope.specs.Reading.{Gives, needed};
 ghost use Rattle.envelope.specs.ShownEntry.{entry_view, parts_of_items};
+ghost use Rattle.envelope.specs.Steps.{named_entry, value_entry};
 ghost use Rattle.envelope.specs.declared.fault.EnvelopeFault.TheVariants.{NotJson};
 
 use crate::envelope::Envelope;
 use crate::fault::EnvelopeFault;
 use crate::find::want;
-use crate::reading::{fit_names, json, of_tree};
+use crate::reading::{json, of_tree, short_names};
 use serde_json::Value;
 use std::alloc::{AllocError, Global};
 use wire_values::Bytes;
@@ -42,16 +43,33 @@ pub fn read_entry(alloc: Global, bytes: &[u8]) -> Result<UnackedEntry, EnvelopeF
 {
     want(bytes.len() <= MAX_ENTRY, EnvelopeFault::TooLong)?;
     let value = json(alloc, bytes)?;
-    let items = needed_items(&value)?;
+    entry_of(alloc, &value)
+}
+
+/// The entry that a JSON value is.
+fn entry_of(alloc: Global, value: &Value) -> Result<UnackedEntry, EnvelopeFault>
+    ensures { Gives entry_view result (value_entry (data_of value.now)) }
+{
+    let items = needed_items(value)?;
     let envelope = of_tree(alloc, items.tree.clone()?)?;
-    want(
-        fit_names(items.exchange, items.routing_key),
-        EnvelopeFault::TooLong,
-    )?;
+    with_names(alloc, envelope, items.exchange, items.routing_key)
+}
+
+/// The entry of an envelope under two names.
+fn with_names(
+    alloc: Global,
+    envelope: Envelope,
+    exchange: &str,
+    routing_key: &str,
+) -> Result<UnackedEntry, EnvelopeFault>
+    ensures { Gives entry_view result
+        (named_entry (data_of envelope) exchange.now routing_key.now) }
+{
+    let (exchange, routing_key) = short_names(alloc, exchange, routing_key)?;
     Ok(UnackedEntry {
         envelope,
-        exchange: Bytes::from_slice(alloc, items.exchange.as_bytes())?,
-        routing_key: Bytes::from_slice(alloc, items.routing_key.as_bytes())?,
+        exchange: Bytes::from_vec(exchange.into_bytes()),
+        routing_key: Bytes::from_vec(routing_key.into_bytes()),
     })
 }
 

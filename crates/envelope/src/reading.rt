@@ -1,16 +1,17 @@
 //! Reading envelopes: from bytes to a tree, from a tree to what it says.
-ghost use Rattle.std.specs.Prelude.{◌≡◌, ◌≤◌, IfOk, IsUtf8, Some, codes, false, length, nat_le, option_and_then, option_map};
+ghost use Rattle.std.specs.Prelude.{◌≡◌, ◌≤◌, IfOk, IsUtf8, Some, codes, false, length, nat_le, option_and_then, option_map, string_bytes};
 ghost use Rattle.serde_json.specs.Data.{depth};
 ghost use Rattle.serde_json.specs.Read.{max_depth, read as json_in};
 ghost use Rattle.serde_json.specs.View.{view as data_of};
 ghost use Rattle.serde_json.specs.Written.{compact_text, has_float};
-ghost use Rattle.envelope.specs.Envelopes.{are_short, content_of, envelope_at, envelope_of, json_at, max_text, parts_of, properties_said, tree_at};
+ghost use Rattle.envelope.specs.Envelopes.{Parts, are_short, content_of, envelope_at, envelope_of, json_at, max_text, parts_of, properties_said, said_by, tree_at};
 ghost use Rattle.envelope.specs.Marks.{marked};
 ghost use Rattle.envelope.specs.Members.{text_at};
-ghost use Rattle.envelope.specs.Reading.{Gives, needed};
+ghost use Rattle.envelope.specs.Reading.{Gives, needed, wanted};
 ghost use Rattle.envelope.specs.Shown.{parts_view, properties_view};
+ghost use Rattle.envelope.specs.Steps.{checked_parts, held_parts, short_parts};
 ghost use Rattle.envelope.specs.Tags.{tag_of_text};
-ghost use Rattle.envelope.specs.declared.fault.EnvelopeFault.TheVariants.{BadBody, Missing, NotJson};
+ghost use Rattle.envelope.specs.declared.fault.EnvelopeFault.TheVariants.{BadBody, Missing, NotJson, TooLong};
 ghost use Rattle.envelope.specs.declared.fault.Field.TheVariants as field;
 
 use crate::envelope::{Envelope, Found, Tree};
@@ -81,32 +82,54 @@ pub(crate) fn json(alloc: Global, bytes: &[u8]) -> Result<Value, EnvelopeFault>
 ///
 /// # Errors
 /// As `read`, from `TooDeep` on.
-#[tactic(auto, unfolding(crate::specs::Envelopes::envelope_of, crate::specs::Envelopes::said_by))]
+#[tactic(auto, unfolding(crate::specs::Envelopes::envelope_of))]
 pub fn of_tree(alloc: Global, tree: Tree) -> Result<Envelope, EnvelopeFault>
     ensures { Gives data_of result (envelope_of (data_of tree)) }
 {
-    want(nests_within(&tree, MAX_LEVELS), EnvelopeFault::TooDeep)?;
-    want(!holds_float(&tree), EnvelopeFault::Float)?;
-    let found = parts(alloc, &tree)?;
-    let (text, size) = sized_text(alloc, &tree)?;
-    want(size <= MAX_BYTES, EnvelopeFault::TooLong)?;
-    want(fits_marked(alloc, &tree, size)?, EnvelopeFault::TooLong)?;
-    Ok(Envelope::whole(tree, found, Bytes::from_vec(text)))
+    let told = told_by(alloc, &tree)?;
+    Ok(Envelope::whole(tree, told.found, told.text))
 }
 
-/// A tree's compact text, and its length.
-fn sized_text(alloc: Global, tree: &Value) -> Result<(Vec<u8>, usize), AllocError>
-    ensures size { IfOk result (λ p. has_float (data_of tree.now) ≡ false
-        → p.1 ≡ length (compact_text (data_of tree.now))) }
-    ensures text { IfOk result (λ p. has_float (data_of tree.now) ≡ false
-        → p.0.items ≡ compact_text (data_of tree.now)) }
-    ensures utf8 { IfOk result (λ p. IsUtf8 p.0.items) }
-    ensures back { IfOk result (λ p. depth (data_of tree.now) ≤ max_depth
-        → json_in p.0.items ≡ Some (data_of tree.now)) }
+/// What a tree says as an envelope, beside its compact text.
+#[derive(Drop)]
+pub(crate) struct Told {
+    pub(crate) found: Found,
+    pub(crate) text: Bytes,
+}
+
+/// What a tree says as an envelope, and its compact text.
+#[tactic(auto, unfolding(crate::specs::Envelopes::said_by))]
+fn told_by(alloc: Global, tree: &Value) -> Result<Told, EnvelopeFault>
+    ensures said { Gives (λ t. parts_view t.found) result (said_by (data_of tree.now)) }
+    ensures text { IfOk result (λ t. has_float (data_of tree.now) ≡ false
+        → t.text ≡ compact_text (data_of tree.now)) }
+    ensures utf8 { IfOk result (λ t. IsUtf8 t.text) }
+    ensures back { IfOk result (λ t. depth (data_of tree.now) ≤ max_depth
+        → json_in t.text ≡ Some (data_of tree.now)) }
 {
-    let text = tree.to_vec(alloc)?;
-    let size = text.len();
-    Ok((text, size))
+    want(nests_within(tree, MAX_LEVELS), EnvelopeFault::TooDeep)?;
+    want(!holds_float(tree), EnvelopeFault::Float)?;
+    let found = parts(alloc, tree)?;
+    let text = short_text(alloc, tree)?;
+    Ok(Told { found, text })
+}
+
+/// The compact text of a tree without a float, where it is short enough without the marks and with them.
+fn short_text(alloc: Global, tree: &Value) -> Result<Bytes, EnvelopeFault>
+    requires { has_float (data_of tree.now) ≡ false }
+    ensures said { (p : Parts) → Gives (λ _. p) result (short_parts (data_of tree.now) p) }
+    ensures text { IfOk result (λ b. b ≡ compact_text (data_of tree.now)) }
+    ensures utf8 { IfOk result (λ b. IsUtf8 b) }
+    ensures back { IfOk result (λ b. depth (data_of tree.now) ≤ max_depth
+        → json_in b ≡ Some (data_of tree.now)) }
+{
+    let text = text_of(alloc, tree)?;
+    want(text.len() <= MAX_BYTES, EnvelopeFault::TooLong)?;
+    want(
+        fits_marked(alloc, tree, text.len())?,
+        EnvelopeFault::TooLong,
+    )?;
+    Ok(text)
 }
 
 /// A tree's compact text.
@@ -149,28 +172,62 @@ fn parts(alloc: Global, tree: &Value) -> Result<Found, EnvelopeFault>
         is_word_at(tree, "content-type", "application/json"),
         EnvelopeFault::Missing(Field::ContentType),
     )?;
+    held_in(alloc, body, tree)
+}
+
+/// What the headers and the properties of a tree say beside its body.
+fn held_in(alloc: Global, body: &str, tree: &Value) -> Result<Found, EnvelopeFault>
+    ensures { Gives parts_view result (held_parts body.now (data_of tree.now)) }
+{
     let headers = needed_object(tree, "headers", Field::Headers)?;
     let properties = needed_object(tree, "properties", Field::Properties)?;
     let said = properties_of(body, properties)?;
+    found_of(alloc, body, headers, &said)
+}
+
+/// What is found, once the headers, the content of the body and the names are looked at.
+fn found_of(
+    alloc: Global,
+    body: &str,
+    headers: &Value,
+    said: &Properties<'_>,
+) -> Result<Found, EnvelopeFault>
+    ensures { Gives parts_view result
+        (checked_parts body.now (data_of headers.now) (properties_view said.now)) }
+{
     want(
         is_nothing_at(headers, "compression"),
         EnvelopeFault::Compressed,
     )?;
     let content = content(alloc, body)?;
-    want(
-        fit_names(said.exchange, said.routing_key),
-        EnvelopeFault::TooLong,
-    )?;
+    let (exchange, routing_key) = short_names(alloc, said.exchange, said.routing_key)?;
     Ok(Found {
         content,
         tag: said.tag,
-        exchange: String::from_str(alloc, said.exchange)?,
-        routing_key: String::from_str(alloc, said.routing_key)?,
+        exchange,
+        routing_key,
     })
 }
 
+/// The two names, where they are short enough.
+pub(crate) fn short_names(
+    alloc: Global,
+    exchange: &str,
+    routing_key: &str,
+) -> Result<(String, String), EnvelopeFault>
+    ensures fault { Gives (λ _. tt) result
+        (wanted TooLong (are_short exchange.now routing_key.now)) }
+    ensures value { IfOk result (λ p. (string_bytes p.0 ≡ exchange.now)
+        × (string_bytes p.1 ≡ routing_key.now)) }
+{
+    want(fit_names(exchange, routing_key), EnvelopeFault::TooLong)?;
+    let exchange = String::from_str(alloc, exchange)?;
+    let routing_key = String::from_str(alloc, routing_key)?;
+    Ok((exchange, routing_key))
+}
+
 /// Whether an exchange and a routing key are short enough.
-pub(crate) fn fit_names(exchange: &str, routing_key: &str) -> bool
+fn fit_names(exchange: &str, routing_key: &str) -> bool
     ensures { result ≡ are_short exchange.now routing_key.now }
 {
     exchange.len() <= MAX_NAME && routing_key.len() <= MAX_NAME

@@ -1,8 +1,10 @@
 //! Sealing drafts: from what a producer sends to its envelope.
-ghost use Rattle.std.specs.Prelude.{◌≡◌, IfOk, IsUtf8, string_bytes};
+ghost use Rattle.std.specs.Prelude.{◌≡◌, [], IfOk, IsUtf8, OnOk, codes, string_bytes};
 ghost use Rattle.base64.specs.Engines.{standard};
 ghost use Rattle.base64.specs.GeneralPurpose.{encode_of};
-ghost use Rattle.serde_json.specs.View.{view as data_of};
+ghost use Rattle.serde_json.specs.Data.{number, put as with_member, string, unsigned};
+ghost use Rattle.serde_json.specs.Find.{of_integer};
+ghost use Rattle.serde_json.specs.View.{members_view, view as data_of};
 ghost use Rattle.envelope.specs.Envelopes.{content_of, if_text};
 ghost use Rattle.envelope.specs.Reading.{Gives};
 ghost use Rattle.envelope.specs.Sealed.{seal_of, sealed_info, sealed_properties, sealed_tree, sealed};
@@ -12,7 +14,7 @@ use crate::fault::EnvelopeFault;
 use crate::reading::of_tree;
 use crate::tag::Tag;
 use base64::engine::general_purpose::STANDARD;
-use serde_json::{Value, json};
+use serde_json::{Map, Value, json, put};
 use std::alloc::{AllocError, Global};
 use wire_values::Bytes;
 
@@ -111,15 +113,43 @@ fn properties_of(
     ensures { IfOk result (λ v. data_of v
         ≡ sealed_properties (data_of info) id.now priority tag.now) }
 {
-    json!(in alloc; {
-        "body_encoding": "base64",
-        "correlation_id": id,
-        "delivery_info": info,
-        "delivery_mode": 2,
-        "delivery_tag": tag,
-        "priority": priority,
-        "reply_to": ""
-    })
+    let mut map = Map::new(alloc);
+    put(&mut map, alloc, "delivery_info", info)?;
+    put_fixed(&mut map, alloc)?;
+    put_own(&mut map, alloc, id, priority, tag)?;
+    Ok(Value::Object(map))
+}
+
+/// Puts what the properties of each envelope hold.
+fn put_fixed(map: &mut Map<String, Value>, alloc: Global) -> Result<(), AllocError>
+    ensures { OnOk result (members_view map.new.entries
+        ≡ with_member (codes "reply_to") (string [])
+        (with_member (codes "delivery_mode") (number (unsigned 2))
+        (with_member (codes "body_encoding") (string (codes "base64"))
+        (members_view map.old.entries)))) }
+{
+    put_text(map, alloc, "body_encoding", "base64")?;
+    put(map, alloc, "delivery_mode", Value::from(2u64))?;
+    put_text(map, alloc, "reply_to", "")
+}
+
+/// Puts the id, the priority and the tag into the properties.
+fn put_own(
+    map: &mut Map<String, Value>,
+    alloc: Global,
+    id: &str,
+    priority: i64,
+    tag: &str,
+) -> Result<(), AllocError>
+    ensures { OnOk result (members_view map.new.entries
+        ≡ with_member (codes "priority") (number (of_integer priority))
+        (with_member (codes "delivery_tag") (string tag.now)
+        (with_member (codes "correlation_id") (string id.now)
+        (members_view map.old.entries)))) }
+{
+    put_text(map, alloc, "correlation_id", id)?;
+    put_text(map, alloc, "delivery_tag", tag)?;
+    put(map, alloc, "priority", Value::from(priority))
 }
 
 /// The tree around a body, headers and properties.
@@ -132,11 +162,49 @@ fn tree_of(
     ensures { IfOk result (λ v. data_of v
         ≡ sealed_tree body.now (data_of headers.now) (data_of properties)) }
 {
-    json!(in alloc; {
-        "body": body,
-        "content-encoding": "utf-8",
-        "content-type": "application/json",
-        "headers": headers,
-        "properties": properties
-    })
+    let mut map = Map::new(alloc);
+    put(&mut map, alloc, "properties", properties)?;
+    put_kinds(&mut map, alloc)?;
+    put_drafted(&mut map, alloc, body, headers)?;
+    Ok(Value::Object(map))
+}
+
+/// Puts the kinds of content that each envelope has.
+fn put_kinds(map: &mut Map<String, Value>, alloc: Global) -> Result<(), AllocError>
+    ensures { OnOk result (members_view map.new.entries
+        ≡ with_member (codes "content-type") (string (codes "application/json"))
+        (with_member (codes "content-encoding") (string (codes "utf-8"))
+        (members_view map.old.entries))) }
+{
+    put_text(map, alloc, "content-encoding", "utf-8")?;
+    put_text(map, alloc, "content-type", "application/json")
+}
+
+/// Puts the body and the headers into a tree.
+fn put_drafted(
+    map: &mut Map<String, Value>,
+    alloc: Global,
+    body: &str,
+    headers: &Value,
+) -> Result<(), AllocError>
+    ensures { OnOk result (members_view map.new.entries
+        ≡ with_member (codes "headers") (data_of headers.now)
+        (with_member (codes "body") (string body.now) (members_view map.old.entries))) }
+{
+    put_text(map, alloc, "body", body)?;
+    put(map, alloc, "headers", headers.clone()?)
+}
+
+/// Puts a text at a name.
+fn put_text(
+    map: &mut Map<String, Value>,
+    alloc: Global,
+    name: &str,
+    text: &str,
+) -> Result<(), AllocError>
+    ensures { OnOk result (members_view map.new.entries
+        ≡ with_member name.now (string text.now) (members_view map.old.entries)) }
+{
+    let value = Value::String(String::from_str(alloc, text)?);
+    put(map, alloc, name, value)
 }

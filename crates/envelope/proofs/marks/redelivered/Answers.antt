@@ -1,13 +1,10 @@
-use Rattle.std.proofs.Common.{◌≡◌, false, Ok, ap, sym, ◌∙◌}
+use Rattle.std.proofs.Common.{Ok, ap, sym, ◌∙◌}
 use Rattle.serde_json.specs.Data.{Data}
 use Rattle.serde_json.specs.View.{view}
-use Rattle.serde_json.specs.Written.{has_float}
 use Rattle.envelope.specs.Envelopes.{said_by, parts_or_none, priority_of}
 use Rattle.envelope.specs.Marks.{is_marked}
 use Rattle.envelope.specs.Shown.{parts_view}
-use Rattle.envelope.proofs.Kept.{float-marked}
 use Rattle.envelope.proofs.MarkedSaid.{said_marked, is_marked-marked, priority-marked}
-use Rattle.envelope.proofs.Said.{said_is}
 use Rattle.envelope.proofs.marks.redelivered.Goals as goal
 
 pub whole-requires-clause-said : goal.whole-requires-clause-said
