@@ -1,4 +1,4 @@
--- A core of a block: what is left of it, its end, and the calls that it had so far.
+-- A core of a block: what is left of it, its end, and the calls that it had so far. Serves the proofs of code.
 use Rattle.std.specs.Prelude.{◌≡◌, ℕ, ⊤, Bool, true, false, List, [], ◌∷◌, ◌++◌, Option, None, Some, IsSome, Result, Ok, Err}
 use Rattle.store_model.specs.declared.reply.Reply.{Reply}
 use Rattle.command_blocks.specs.Calls.{Call}

@@ -1,4 +1,4 @@
--- The fault of a core, as one of any block.
+-- The fault of a core, as one of any block. Serves the proofs of code.
 use Rattle.command_blocks.specs.declared.block.CoreFault.{CoreFault}
 use Rattle.command_blocks.specs.declared.block.CoreFault.TheVariants as any
 use Rattle.block_core.specs.declared.fault.ReplyFault.{ReplyFault}

@@ -1,4 +1,4 @@
--- What an answer brings to a stage of a block.
+-- What an answer brings to a stage of a block. Serves the proofs of code.
 use Rattle.std.specs.Prelude.{List}
 use Rattle.command_blocks.specs.Calls.{Call}
 use Rattle.command_blocks.specs.Scripts.{Script, Over, Off}

@@ -1,4 +1,4 @@
--- Rows: a block's script can always be said to its end, and what was said to its end is the block.
+-- Rows: a block's script can always be said to its end, and what was said to its end is the block. Serves the proofs of code.
 use Rattle.std.specs.Prelude.{◌≡◌, ◌⊎◌, ℕ, ◌^◌, suc, true, ◌<◌, List, [], ◌∷◌, ◌++◌, codes, None, Some}
 use Rattle.wire_values.specs.declared.value.Value.{Value}
 use Rattle.store_model.specs.Words.{Words}

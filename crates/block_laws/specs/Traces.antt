@@ -1,4 +1,4 @@
--- What was said so far of a block: calls by its script.
+-- What was said so far of a block: calls by its script. Serves the proofs of code.
 use Rattle.std.specs.Prelude.{◌≡◌, ℕ, List, [], ◌∷◌, ◌++◌}
 use Rattle.wire_values.specs.declared.value.Value.{Value}
 use Rattle.store_model.specs.Words.{Words}

@@ -1,4 +1,4 @@
--- Cores, which say a block command by command: what each leaves of the block's script.
+-- Cores, which say a block command by command: what each leaves of the block's script. Serves the proofs of code.
 use Rattle.std.specs.Prelude.{◌≡◌, ℕ, Bool, true, false, ⊤, Result, Ok, Err}
 use Rattle.wire_values.specs.declared.value.Value.{Value}
 use Rattle.store_model.specs.Words.{Words}

@@ -1,4 +1,4 @@
--- What a found part is, without where it lies in memory.
+-- What a found part is, without where it lies in memory. Serves the proofs of code.
 use Rattle.std.specs.Prelude.{◌≡◌, ℕ, List, Ok, string_bytes}
 use Rattle.serde_json.specs.View.{view as data_of}
 use Rattle.serde_json.specs.Written.{compact_text}

@@ -1,4 +1,4 @@
--- What an entry is, without where it lies in memory.
+-- What an entry is, without where it lies in memory. Serves the proofs of code.
 use Rattle.serde_json.specs.View.{view as data_of}
 use Rattle.envelope.specs.Entries.{EntryParts}
 use Rattle.envelope.specs.declared.entry.Items.{Items}

@@ -1,4 +1,4 @@
--- Trees as reading gives them: each key once and in order, each number within 64 bits.
+-- Trees as reading gives them: each key once and in order, each number within 64 bits. Serves the proofs of code.
 use Rattle.std.specs.Prelude.{◌≡◌, ℕ, ◌^◌, ◌<◌, ℤ, pos, negsuc, List}
 use Rattle.std.specs.Ordering.{nat_cmp}
 use Rattle.std.specs.Cmp.Lexicographic.{slice_cmp}

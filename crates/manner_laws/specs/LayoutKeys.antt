@@ -1,4 +1,4 @@
--- What the keys of a layout tell to a cursor.
+-- What the keys of a layout tell to a cursor. Serves the proofs of code.
 use Rattle.std.specs.Prelude.{◌≡◌, true, ◌&&◌, nat_le, length, Option, Some, option_and_then}
 use Rattle.std.specs.Str.{is_utf8}
 use Rattle.queue_keys.specs.Names.{Bytes, binding_front}

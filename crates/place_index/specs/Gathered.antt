@@ -1,4 +1,4 @@
--- What a walk over a history's entries gathers, by the numbers of tags: of each client what is in its hand and what its commands since MULTI do to messages, and which messages were pushed, ended and copied.
+-- What a walk over a history's entries gathers, by the numbers of tags: of each client what is in its hand and what its commands since MULTI do to messages, and which messages were pushed, ended and copied. Serves the proofs of code.
 use Rattle.std.specs.Prelude.{ℕ, ℤ, ◌+◌, Bool, true, false, not, ◌||◌, ◌==◌, nat_le, if◌then◌else◌, List, [], ◌∷◌, ◌++◌, filter, map, Option, None, Some, option_and_then}
 use Rattle.std.specs.Ordering.{nat_cmp}
 use Rattle.std.specs.FinMap.{FinMap, empty, entries, get, insert}

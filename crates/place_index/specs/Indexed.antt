@@ -1,4 +1,4 @@
--- What is looked up of a history's messages, by the numbers of their tags.
+-- What is looked up of a history's messages, by the numbers of their tags. Serves the proofs of code.
 use Rattle.std.specs.Prelude.{◌≡◌, ℕ, Bool, true, false, if◌then◌else◌, Option, None, Some, is_some}
 use Rattle.std.specs.FinMap.{entries, get}
 use Rattle.command_blocks.specs.EnvelopeTexts.{plain_setting}

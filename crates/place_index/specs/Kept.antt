@@ -1,4 +1,4 @@
--- Whether a message is in the table of those that aren't acknowledged.
+-- Whether a message is in the table of those that aren't acknowledged. Serves the proofs of code.
 use Rattle.std.specs.Prelude.{ℕ, Bool, ◌&&◌}
 use Rattle.store_model.specs.Keys.{Keys}
 use Rattle.envelope.specs.Tags.{tag_text}

@@ -1,4 +1,4 @@
--- The store after a history, by the clients of its table.
+-- The store after a history, by the clients of its table. Serves the proofs of code.
 use Rattle.std.specs.Prelude.{Bool, true, false, List, [], ◌∷◌, is_some}
 use Rattle.std.specs.FinMap.{FinMap, get}
 use Rattle.std.specs.Ordering.{nat_cmp}

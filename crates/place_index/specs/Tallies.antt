@@ -1,4 +1,4 @@
--- Numbers that are told: how often, and where first.
+-- Numbers that are told: how often, and where first. Serves the proofs of code.
 use Rattle.std.specs.Prelude.{ℕ, zero, suc, Bool, true, false, not, ◌==◌, List, [], ◌∷◌, filter, Option, None, Some}
 
 -- none for 0, else whether it is 2 or more

@@ -1,4 +1,4 @@
--- Tags with their places, as the code gives them.
+-- Tags with their places, as the code gives them. Serves the proofs of code.
 use Rattle.std.specs.Prelude.{List, map}
 use Rattle.envelope.specs.Tags.{tag_text}
 use Rattle.envelope.specs.declared.tag.Tag.{Tag}

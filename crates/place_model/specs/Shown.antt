@@ -1,4 +1,4 @@
--- Histories of the code as histories of the definitions.
+-- Histories of the code as histories of the definitions. Serves the proofs of code.
 use Rattle.std.specs.Prelude.{◌≡◌, ℕ, Bool, false, ◌==◌, ◌||◌, if◌then◌else◌, List, [], ◌∷◌, ◌++◌, Option, None, Some}
 use Rattle.std.specs.FinMap.{empty}
 use Rattle.queue_keys.specs.QueueKeys.{Among}

@@ -1,4 +1,4 @@
--- What a store takes of a history's entries.
+-- What a store takes of a history's entries. Serves the proofs of code.
 use Rattle.std.specs.Prelude.{◌^◌, ◌<◌, List, All}
 use Rattle.store_model.specs.Words.{IsWithinLimits}
 use Rattle.place_model.specs.declared.history.Entry.{Entry}

@@ -1,4 +1,4 @@
--- The kinds of place that a report counts.
+-- The kinds of place that a report counts. Serves the proofs of code.
 use Rattle.std.specs.Prelude.{ℕ, Bool, List, ◌++◌, codes, decimal}
 use Rattle.place_model.specs.declared.place.Place.{Place}
 use Rattle.replay.specs.declared.place_text.PlaceKind.{PlaceKind}

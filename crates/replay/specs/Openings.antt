@@ -1,4 +1,4 @@
--- What a JSON text that begins with a byte may be.
+-- What a JSON text that begins with a byte may be. Serves the proofs of code.
 use Rattle.std.specs.Prelude.{ℕ, Bool, false, ◌||◌, ◌==◌, if◌then◌else◌, List, [], ◌∷◌}
 
 -- a blank of JSON: a space, a tab, a line feed or a carriage return

@@ -1,4 +1,4 @@
--- What is left of a publication, and what its end tells.
+-- What is left of a publication, and what its end tells. Serves the proofs of code.
 use Rattle.std.specs.Prelude.{◌≡◌, ℕ, ℤ, true, List, [], ◌∷◌, length, Option, None, Some, Ok}
 use Rattle.serde_json.specs.Data.{Data}
 use Rattle.serde_json.specs.View.{view as data_of}

@@ -1,4 +1,4 @@
--- What is made of a binding.
+-- What is made of a binding. Serves the proofs of code.
 use Rattle.std.specs.Prelude.{List, ℕ}
 use Rattle.schedule_world.specs.declared.asked.Binding.{Binding}
 use Rattle.schedule_model.specs.declared.line.Asked.{Asked}

@@ -1,4 +1,4 @@
--- What is left of a client's block.
+-- What is left of a client's block. Serves the proofs of code.
 use Rattle.command_blocks.specs.Scripts.{Script, Over}
 use Rattle.routes.specs.Publishes.{publish_left}
 use Rattle.unacked.specs.Ends.{end_left}

@@ -1,4 +1,4 @@
--- The books of clients, as a reader of schedules has them.
+-- The books of clients, as a reader of schedules has them. Serves the proofs of code.
 use Rattle.std.specs.Prelude.{false, map}
 use Rattle.std.specs.FinMap.{FinMap, entries, from_entries}
 use Rattle.std.specs.Ordering.{nat_cmp}

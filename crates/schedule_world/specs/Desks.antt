@@ -1,4 +1,4 @@
--- What a world shows: the desk of a reader of schedules.
+-- What a world shows: the desk of a reader of schedules. Serves the proofs of code.
 use Rattle.std.specs.FinMap.{FinMap}
 use Rattle.std.specs.Ordering.{nat_cmp}
 use Rattle.place_model.specs.Shown.{history_of}

@@ -1,4 +1,4 @@
--- How what is left of a block goes on.
+-- How what is left of a block goes on. Serves the proofs of code.
 use Rattle.std.specs.Prelude.{[], Result, Ok, Err, ⊤, alloc_error}
 use Rattle.std.specs.declared.alloc.AllocError.{AllocError}
 use Rattle.wire_values.specs.declared.value.Value.{Value}

@@ -1,4 +1,4 @@
--- What preparing a plan answers, and which lines are built.
+-- What preparing a plan answers, and which lines are built. Serves the proofs of code.
 use Rattle.std.specs.Prelude.{◌≡◌, ◌≤◌, ℕ, suc, length, [], Result, Ok, Err, None, Some}
 use Rattle.command_blocks.specs.Blocks.{drawn}
 use Rattle.command_blocks.specs.EnvelopeTexts.{plain_setting}

@@ -1,4 +1,4 @@
--- Whether a client may begin a block, or go on with one.
+-- Whether a client may begin a block, or go on with one. Serves the proofs of code.
 use Rattle.std.specs.Prelude.{◌≡◌, ℕ, false, not, List, [], ◌∷◌, ◌++◌, Option, None, Some, option_map, Result, Ok, Err}
 use Rattle.line_text.specs.declared.reason.Reason.{Reason}
 use Rattle.line_text.specs.declared.reason.Reason.TheVariants.{Busy, Idle}

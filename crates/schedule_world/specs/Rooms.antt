@@ -1,4 +1,4 @@
--- How much room is left in a history.
+-- How much room is left in a history. Serves the proofs of code.
 use Rattle.std.specs.Prelude.{ℕ, ◌-◌, length}
 use Rattle.place_model.specs.Shown.{history_of}
 use Rattle.schedule_world.specs.declared.past.Past.{Past}

@@ -1,4 +1,4 @@
--- Facts that a reader of schedules keeps.
+-- Facts that a reader of schedules keeps. Serves the proofs of code.
 use Rattle.std.specs.Prelude.{◌≡◌, ℕ, false, true, is_some, List}
 use Rattle.std.specs.FinMap.{get}
 use Rattle.place_model.specs.Shown.{has_stopped}

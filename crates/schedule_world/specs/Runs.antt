@@ -1,4 +1,4 @@
--- What running a schedule answers.
+-- What running a schedule answers. Serves the proofs of code.
 use Rattle.std.specs.Prelude.{◌≡◌, ℕ, Bool, List, [], ◌∷◌, Option, Some, None, Result, Ok, Err}
 use Rattle.std.specs.Borrow.{Bor}
 use Rattle.queue_keys.specs.Names.{Bytes}

@@ -1,4 +1,4 @@
--- The books of a schedule's clients as a finite map.
+-- The books of a schedule's clients as a finite map. Serves the proofs of code.
 use Rattle.std.specs.Coded.{Coded, coded_ℕ}
 use Rattle.std.specs.FinMap.{FinMap, code}
 use Rattle.std.specs.Ordering.{nat_cmp}

@@ -1,4 +1,4 @@
--- Drafts of tasks, and the texts of envelopes.
+-- Drafts of tasks, and the texts of envelopes. Serves the proofs of code.
 use Rattle.std.specs.Prelude.{◌≡◌, ◌≤◌, ℕ, pos, ◌++◌, codes, false, IsUtf8}
 use Rattle.serde_json.specs.Data.{Data}
 use Rattle.serde_json.specs.View.{view as data_of}

@@ -1,4 +1,4 @@
--- What taking a line answers.
+-- What taking a line answers. Serves the proofs of code.
 use Rattle.std.specs.Prelude.{◌≡◌, Bool, false, true, Result, Ok, Err, length}
 use Rattle.schedule_model.specs.Costs.{total_cost}
 use Rattle.schedule_model.specs.Desk.{ScheduleReader}

@@ -12,3 +12,4 @@ pub mod Elements
 pub mod Fields
 pub mod Others
 pub mod Ranks
+pub mod Ranges

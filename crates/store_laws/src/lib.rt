@@ -4,7 +4,9 @@
 //! key that it doesn't tell of holds what it held.
 #![tactic(auto)]
 
-ghost use Rattle.std.specs.Prelude.{List, ℕ};
+ghost use Rattle.std.specs.FinMap.{FinMap};
+ghost use Rattle.std.specs.Prelude.{List, ℕ, ℤ};
+ghost use Rattle.wire_values.specs.Order.{bytes_cmp};
 ghost use Rattle.store_model.specs.Commands.{Around};
 ghost use Rattle.store_model.specs.Connections.{Conns};
 ghost use Rattle.store_model.specs.Keys.{Keys};
@@ -12,6 +14,7 @@ ghost use Rattle.store_model.specs.Store.{State, apply_of, gone_of};
 ghost use Rattle.store_model.specs.Words.{Bytes, Words};
 ghost use Rattle.store_model.specs.declared.command.Command.{Command};
 ghost use Rattle.store_laws.specs.Laws.{DropsDue, IsElsewhere, IsGone, KeepsOthers, MarksDue, QueueKeepsOthers};
+ghost use Rattle.store_laws.specs.Ranges.{GivesRange};
 
 /// One law for every command: a key that isn't among those that it altered holds what it held.
 pub fn one_law()
@@ -42,4 +45,10 @@ pub fn step_law()
 /// A connection that goes is as one that was never known, and all else is as before.
 pub fn gone_law()
     ensures { (s : State) (c : ℕ) → IsGone s (gone_of s c) c }
+{}
+
+/// A range by score is what the sorted set holds between the bounds, the higher scores first and of equal scores the later
+/// in byte order; there is one, and its members are what ZREVRANGEBYSCORE gives, less those that are passed over.
+pub fn range_law()
+    ensures { (high low : ℤ) (h : FinMap bytes_cmp ℤ) (skip most : ℕ) → GivesRange high low skip most h }
 {}

@@ -1,4 +1,4 @@
--- How a run ends: its text, its status, and why it may end so.
+-- How a run ends: its text, its status, and why it may end so. Serves the proofs of code.
 use Rattle.std.specs.Io.KnownBytes.{Appends, Consumes}
 use Rattle.std.specs.Prelude.{List, None, Some, codes, decimal, length, ℕ, ◌++◌, ◌+◌, ◌≡◌, ◌≤◌, ◌⊎◌}
 use Rattle.line_text.specs.Reason.{reason_text}

@@ -1,4 +1,4 @@
--- What is left of an acknowledgement, and what its end tells.
+-- What is left of an acknowledgement, and what its end tells. Serves the proofs of code.
 use Rattle.std.specs.Prelude.{◌≡◌, ℕ, ℤ, true, refl, List, [], ◌∷◌, ◌++◌, codes, Some}
 use Rattle.store_model.specs.Words.{Words}
 use Rattle.envelope.specs.Tags.{tag_text}

@@ -1,4 +1,4 @@
--- The transaction that changes the table of messages together with its index: what is left of it at each of its steps.
+-- The transaction that changes the table of messages together with its index: what is left of it at each of its steps. Serves the proofs of code.
 use Rattle.std.specs.Prelude.{◌≡◌, ℕ, ℤ, [], ◌∷◌, codes, Option, None, Some}
 use Rattle.wire_values.specs.declared.value.Value.{Value}
 use Rattle.store_model.specs.Words.{Words}

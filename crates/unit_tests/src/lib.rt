@@ -10,8 +10,8 @@ mod faults;
 #[cfg(test)]
 mod lines;
 #[cfg(test)]
-mod links;
-#[cfg(test)]
 mod samples;
+#[cfg(test)]
+mod streams;
 #[cfg(test)]
 mod values;

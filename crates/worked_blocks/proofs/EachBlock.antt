@@ -14,6 +14,7 @@ use Rattle.command_blocks.specs.Calls.{concat}
 use Rattle.queue_keys.specs.Names.{Bytes, same}
 use Rattle.command_blocks.specs.PassBlocks.{All_returned, Done, Ended_early, Foreign, Held, IsReturns, Is_held, Own, Ran, Returned, Returned_until, Stuck}
 use Rattle.queue_keys.specs.Patterns.{matches}
+use Rattle.queue_keys.specs.Texts.{token}
 use Rattle.command_blocks.specs.ReturnBlocks.{Again, Contended, Eighth, Gone, IsTries, IsTry, Missing, Moved, Nowhere, Stayed, Try, Useless, Whole}
 use Rattle.command_blocks.specs.RouteBlocks.{Asked, Named, Plain, Told}
 use Rattle.command_blocks.specs.TakeBlocks.{Acknowledged, Empty, IsPop, Popped, Unreadable}
@@ -171,13 +172,17 @@ passes : (n : ℕ) → IsBlock toy_setting 7 n 1 Passing passed_calls
 passes n = block.Pass 10 (Done (Moved ∷ [])) _ (lit< tt) (Ran 100 100 (message_tag ∷ codes "junk" ∷ []) (Done (Moved ∷ [])) returned released returns_of_pass
     (Own 100 100 100 100 100 _ (inl (Integer (pos 1) ∷ [], refl))))
 
-other_token : token 8 1 ≡ token 7 3 → ⊥
-other_token e = cc e
+not_empty : (xs : Bytes) (y : ℕ) (ys : Bytes) → [] ≡ xs ++ y ∷ ys → ⊥
+not_empty [] y ys e = cc e
+not_empty (x ∷ xs) y ys e = cc e
+
+other_token : [] ≡ token 7 3 → ⊥
+other_token e = not_empty _ _ _ e
 
 passes_stuck : (n : ℕ) → IsBlock toy_setting 7 n 2 Passing passed_stuck
 passes_stuck n = block.Pass 10 (Stuck message_tag) _ (lit< tt) (Ran 100 100 (second_tag ∷ message_tag ∷ []) (Stuck message_tag) (second_gone ++ returned_contended) released_foreign
     (Returned_until second_tag (message_tag ∷ []) Gone message_tag second_gone returned_contended (Missing 0 100 100 100) refl (Ended_early message_tag [] returned_contended contends))
-    (Foreign 100 100 100 _ (inl (token 8 1, refl, other_token))))
+    (Foreign 100 100 100 _ (inl ([], refl, other_token))))
 
 passes_nobody : (n : ℕ) → IsBlock toy_setting 7 n 3 Passing (passed_nothing (token 7 4) released_nobody)
 passes_nobody n = block.Pass 10 (Done []) _ (lit< tt) (Ran 100 100 [] (Done []) [] released_nobody All_returned (Foreign 100 100 100 _ (inr refl)))

@@ -182,11 +182,11 @@ passed_calls =
     ∷ call 100 (codes "ZREVRANGEBYSCORE" ∷ codes "unacked_index" ∷ decimal 90 ∷ codes "0" ∷ codes "LIMIT" ∷ codes "0" ∷ codes "10" ∷ []) (bulks (message_tag ∷ codes "junk" ∷ []))
     ∷ returned ++ released
 
--- a pass whose second return is contended, and which then finds the mutex in other hands
+-- a pass whose second return is contended, and which then finds a text under the mutex that isn't its own
 abbrev pub released_foreign : List Call
 released_foreign =
     call 100 (codes "WATCH" ∷ codes "unacked_mutex" ∷ []) done
-    ∷ call 100 (codes "GET" ∷ codes "unacked_mutex" ∷ []) (Bulk (token 8 1))
+    ∷ call 100 (codes "GET" ∷ codes "unacked_mutex" ∷ []) (Bulk [])
     ∷ call 100 (codes "UNWATCH" ∷ []) done
     ∷ []
 

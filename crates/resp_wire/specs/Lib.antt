@@ -1,0 +1,4 @@
+pub mod Steps
+pub mod Meanings
+pub mod Stands
+pub mod Moves

@@ -1,0 +1,6 @@
+pub mod Readers
+pub mod Parts
+pub mod Readings
+pub mod Limited
+pub mod Writings
+pub mod StreamLaws

@@ -1,0 +1,6 @@
+pub mod Limits
+pub mod Spells
+pub mod Reads
+pub mod Texts
+pub mod Faults
+pub mod Streams
