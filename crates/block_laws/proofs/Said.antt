@@ -271,7 +271,7 @@ module _ (σ : Setting) (token : Bytes) where
     returns_said : (ts : List Bytes) (end : PassEnd) (l : List Call) → IsReturns σ ts end l → Goes (returns_script σ token ts) l (release_script σ token)
     returns_said ts end l All_returned = stays (release_script σ token)
     returns_said ts end l (Returned t ts' e ends l₁ l₂ tries on more) = joined _ _ _ l₁ l₂ (turn_said t ts' e l₁ tries on) (returns_said ts' _ l₂ more)
-    returns_said ts end l (Returned_until t ts' e l₁ l₂ tries on more) = joined _ _ _ l₁ l₂ (turn_said t ts' e l₁ tries on) (returns_said ts' _ l₂ more)
+    returns_said ts end l (Returned_until t ts' e stuck l₁ l₂ tries on more) = joined _ _ _ l₁ l₂ (turn_said t ts' e l₁ tries on) (returns_said ts' _ l₂ more)
     returns_said ts end l (Ended_early t ts' l₁ tries) = tries_said σ lawful Right t (returns_script σ token ts') (release_script σ token) 0 7 Contended l₁ refl tries
 
     pass_said : (v : ℕ) (end : PassEnd) (l : List Call) → IsPassBlock σ token v end l → Goes (pass_script σ token v) l Over

@@ -10,7 +10,7 @@ use Rattle.command_blocks.specs.Calls.{Call, call}
 use Rattle.command_blocks.specs.Blocks.{IsFrontOfBlocks, IsUnlisted, IsMannered}
 use Rattle.manner_laws.specs.Spots.{Spot, Free, Ask, Count, Consent, Queueing, Counts, Anything, Bindings, Message, Entry, Routes, Move, Lock, Due, Holder, Release}
 use Rattle.manner_laws.specs.Machine.{Asks, Tells, Counted, Consented, Was_queued, Counted_both, Answered, Bound, Nothing_there, Missing, Looked_up, Moved, Taken, Members, Nobody, Altered, Goes, Runs}
-use Rattle.manner_laws.specs.Cursor.{ask_at, spot_after, Cursor, At, Unlisted, Unmannered, cursor_at, cursor_after, judge, cursor_after, cursor_of, IsReadable, HaveMomentsOf64Bits}
+use Rattle.manner_laws.specs.Cursor.{ask_at, spot_after, Cursor, At, Unlisted, Unmannered, cursor_at, cursor_heard, judge, cursor_after, cursor_of, IsReadable, HaveMomentsOf64Bits}
 use Rattle.manner_laws.proofs.Made.{runs_join, runs_split}
 use Rattle.manner_laws.proofs.Ways.{done_right, front_runs, runs_front}
 use Rattle.manner_laws.proofs.Asked.{ask_is}
@@ -66,14 +66,14 @@ module _ (σ : Setting) (exchange_at : Bytes → Option Bytes) (s : ℕ) where
       told q None e f h = not_at c' h
       told q (Some d) e f h = record { ask = q; asks = ask_is σ exchange_at s c x.at x.words q e; tells = subst (Tells σ s q x.answer) (at_parts d c' h) (told_is σ s q x.answer d f) }
 
-      go : (o : Option Ask) → ask_at σ exchange_at s c x.at x.words ≡ o → cursor_after σ s o x.answer ≡ At c' → Goes σ s c x c'
+      go : (o : Option Ask) → ask_at σ exchange_at s c x.at x.words ≡ o → cursor_heard σ s o x.answer ≡ At c' → Goes σ s c x c'
       go None e h = unmannered_at c' h
       go (Some q) e h = told q (spot_after σ s q x.answer) e refl h
 
   judged_asks : (c : Spot) (x : Call) → judge σ exchange_at s (At c) x ≡ Unlisted → (q : Ask) × Asks σ s c x.at x.words q
   judged_asks c x h = go (ask_at σ exchange_at s c x.at x.words) refl h
     where
-      go : (o : Option Ask) → ask_at σ exchange_at s c x.at x.words ≡ o → cursor_after σ s o x.answer ≡ Unlisted → (q : Ask) × Asks σ s c x.at x.words q
+      go : (o : Option Ask) → ask_at σ exchange_at s c x.at x.words ≡ o → cursor_heard σ s o x.answer ≡ Unlisted → (q : Ask) × Asks σ s c x.at x.words q
       go None e h = not_unlisted h
       go (Some q) e h = (q, ask_is σ exchange_at s c x.at x.words q e)
 
@@ -125,7 +125,7 @@ module _ (σ : Setting) (exchange_at : Bytes → Option Bytes) (s : ℕ) where
 module _ (σ : Setting) (exchange_at : Bytes → Option Bytes) (laws : IsLawful σ) (readable : IsReadable σ exchange_at) (s : ℕ) where
   goes_judged : (c c' : Spot) (x : Call) → x.at < 2 ^ 64 → Goes σ s c x c' → judge σ exchange_at s (At c) x ≡ At c'
   goes_judged c c' x time g =
-      ap (λ o. cursor_after σ s o x.answer) (ask-allowed σ exchange_at s laws readable c x.at x.words g.ask time g.asks) ∙ ap cursor_at (told-allowed σ s g.ask x.answer c' g.tells)
+      ap (λ o. cursor_heard σ s o x.answer) (ask-allowed σ exchange_at s laws readable c x.at x.words g.ask time g.asks) ∙ ap cursor_at (told-allowed σ s g.ask x.answer c' g.tells)
 
   runs_judged : (l : List Call) (c c' : Spot) → HaveMomentsOf64Bits l → Runs σ s c l c' → cursor_after σ exchange_at s (At c) l ≡ At c'
   runs_judged [] c c' time r = ap At r
@@ -172,7 +172,7 @@ module _ (σ : Setting) (exchange_at : Bytes → Option Bytes) (laws : IsLawful 
           ap (cursor_of σ exchange_at s) h.5
           ∙ after_join σ exchange_at s (At (Free 0 0)) h.0 (call h.1 h.2 h.4 ∷ [])
           ∙ ap (λ z. judge σ exchange_at s z (call h.1 h.2 h.4)) (runs_judged h.0 (Free 0 0) through.0 (timely_front h.0 (call h.1 h.2 h.4 ∷ []) times) through.1)
-          ∙ ap (λ o. cursor_after σ s o h.4) (ask-allowed σ exchange_at s laws readable through.0 h.1 h.2 x.ask (timely_last h.0 h.1 h.2 h.4 times) x.asks)
+          ∙ ap (λ o. cursor_heard σ s o h.4) (ask-allowed σ exchange_at s laws readable through.0 h.1 h.2 x.ask (timely_last h.0 h.1 h.2 h.4 times) x.asks)
 
       led : (o : Option Spot) → spot_after σ s (let g = through.2 in let x = g.1 in x.ask) h.4 ≡ o → cursor_of σ exchange_at s l ≡ Unlisted
       led None e = is ∙ ap cursor_at e

@@ -312,13 +312,13 @@ cursor_at None = Unlisted
 cursor_at (Some c) = At c
 
 -- once it is known what the words ask
-abbrev pub cursor_after : Setting → ℕ → Option Ask → Value → Cursor
-cursor_after σ s None r = Unmannered
-cursor_after σ s (Some q) r = cursor_at (spot_after σ s q r)
+abbrev pub cursor_heard : Setting → ℕ → Option Ask → Value → Cursor
+cursor_heard σ s None r = Unmannered
+cursor_heard σ s (Some q) r = cursor_at (spot_after σ s q r)
 
 -- after one more call
 abbrev pub judge : Setting → (Bytes → Option Bytes) → ℕ → Cursor → Call → Cursor
-judge σ exchange_at s (At c) x = cursor_after σ s (ask_at σ exchange_at s c x.at x.words) x.answer
+judge σ exchange_at s (At c) x = cursor_heard σ s (ask_at σ exchange_at s c x.at x.words) x.answer
 judge σ exchange_at s Unlisted x = Unmannered
 judge σ exchange_at s Unmannered x = Unmannered
 

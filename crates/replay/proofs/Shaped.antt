@@ -108,7 +108,7 @@ letter_envelope b n m h = go (envelope_at b) h
     by_entry (Ok x) i = cc
     by_entry (Err f) i = cc
 
-    go : (r : Result Data EnvelopeFault) → letters.envelope_or r (entry_or_none (entry_at b)) ≡ Some (letter.Envelope n m) → Envelope (n / 2 ^ 64) (n % 2 ^ 64) m ≡ envelope_or r (entry_or_tag (entry_at b) (tag_of_text b))
+    go : (r : Result Data EnvelopeFault) → letters.letter_or r (entry_or_none (entry_at b)) ≡ Some (letter.Envelope n m) → Envelope (n / 2 ^ 64) (n % 2 ^ 64) m ≡ envelope_or r (entry_or_tag (entry_at b) (tag_of_text b))
     go (Ok d) i = let s = same_letter d n m i in λ j. Envelope (sym s.0 j / 2 ^ 64) (sym s.0 j % 2 ^ 64) (sym s.1 j)
     go (Err f) i = absurd (by_entry (entry_at b) i)
 
@@ -121,6 +121,6 @@ letter_entry b n m h = go (envelope_at b) h
     by_entry (Ok x) i = let s = same_entry x.tree n m i in λ j. shapes.Entry (sym s.0 j / 2 ^ 64) (sym s.0 j % 2 ^ 64) (sym s.1 j)
     by_entry (Err f) i = cc
 
-    go : (r : Result Data EnvelopeFault) → letters.envelope_or r (entry_or_none (entry_at b)) ≡ Some (letter.Entry n m) → shapes.Entry (n / 2 ^ 64) (n % 2 ^ 64) m ≡ envelope_or r (entry_or_tag (entry_at b) (tag_of_text b))
+    go : (r : Result Data EnvelopeFault) → letters.letter_or r (entry_or_none (entry_at b)) ≡ Some (letter.Entry n m) → shapes.Entry (n / 2 ^ 64) (n % 2 ^ 64) m ≡ envelope_or r (entry_or_tag (entry_at b) (tag_of_text b))
     go (Ok d) i = cc
     go (Err f) i = by_entry (entry_at b) i

@@ -5,7 +5,7 @@ use Rattle.command_blocks.specs.Setting.{Setting, IsLawful}
 use Rattle.command_blocks.specs.Calls.{Call}
 use Rattle.command_blocks.specs.Blocks.{IsFrontOfBlocks}
 use Rattle.manner_laws.specs.Spots.{Spot}
-use Rattle.manner_laws.specs.Cursor.{Cursor, At, Unlisted, Unmannered, cursor_of, IsReadable, AreTimely as HaveMoments}
+use Rattle.manner_laws.specs.Cursor.{Cursor, At, Unlisted, Unmannered, cursor_of, IsReadable, HaveMomentsOf64Bits as HaveMoments}
 use Rattle.manner_laws.proofs.Judged.{front_at, at_front}
 use Rattle.block_laws.specs.Rows.{AreTimely}
 use Rattle.schedule_laws.proofs.Kept.{DecidesFronts}

@@ -1,8 +1,7 @@
 -- What a word spells, as a report shows it: an envelope, an entry of the table, a tag's text, or none of these.
 use Rattle.std.specs.Prelude.{ℕ, ◌/◌, ◌%◌, ◌^◌, Option, None, Some, Result, Ok, Err}
 use Rattle.serde_json.specs.Data.{Data}
-use Rattle.envelope.specs.Entries.{entry_at}
-use Rattle.envelope.specs.Entries as entries
+use Rattle.envelope.specs.Entries.{EntryParts, entry_at}
 use Rattle.envelope.specs.Envelopes.{envelope_at, parts_in}
 use Rattle.envelope.specs.Marks.{is_marked}
 use Rattle.envelope.specs.Tags.{tag_of_text}
@@ -25,7 +24,7 @@ tag_shape None = Other
 tag_shape (Some n) = Tag (n / 2 ^ 64) (n % 2 ^ 64)
 
 -- what is no envelope: an entry, or else perhaps a tag's text
-abbrev pub entry_or_tag : Result entries.Entry EnvelopeFault → Option ℕ → Shape
+abbrev pub entry_or_tag : Result EntryParts EnvelopeFault → Option ℕ → Shape
 entry_or_tag (Ok e) t = entry_shape e.tree
 entry_or_tag (Err fault) t = tag_shape t
 

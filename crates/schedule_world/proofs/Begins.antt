@@ -36,11 +36,11 @@ no_error : false ≡ true → ⊥
 no_error e = cc
 
 -- the first reason why a client can't begin, by its book
-abbrev pub begin_reason : Asked → Option desk.Book → Option Reason
+abbrev pub begin_reason : Asked → Option desk.ClientBook → Option Reason
 begin_reason a b = first_reason (present_tests b ++ (is_busy b, Busy) ∷ asked_tests program_craft (client_seed b) (counter_of b) a)
 
 -- what such a line leads to, by that reason
-abbrev pub begin_led : ScheduleReader → ℕ → Asked → Option desk.Book → Led
+abbrev pub begin_led : ScheduleReader → ℕ → Asked → Option desk.ClientBook → Led
 begin_led d c a b = led_unless program_craft d (Begin c a) (begin_reason a b)
 
 -- a client that can't begin
@@ -79,7 +79,7 @@ module _ (past : Past) (m t : Shelf) (c s n : ℕ) (l : Left) (a : Asked) (found
   abbrev before : ScheduleReader
   before = desk_with past (books_of m)
 
-  abbrev there : desk.Book
+  abbrev there : desk.ClientBook
   there = record { seed = s; drawn = n; passes = 0; left = script_left l; stopped = false }
 
   book_found : get (books_of m) c ≡ Some there
@@ -105,7 +105,7 @@ module _ (past : Past) (m t : Shelf) (c s n : ℕ) (l : Left) (a : Asked) (found
   -- the book of a client that begins a plan
   book_begun : (b : Begun) (p : Plan) → passes_after (counter_use p) 0 ≡ 0 → IsBegun s n p b → begun plain_setting there p ≡ book_of (record { seed = s; drawn = b.drawn; left = b.left })
   book_begun b p e h =
-      let x : desk.Book = record { seed = s; drawn = b.drawn; passes = 0; left = script_left b.left; stopped = false } in
+      let x : desk.ClientBook = record { seed = s; drawn = b.drawn; passes = 0; left = script_left b.left; stopped = false } in
       ap (λ (q : ℕ). record x { drawn = drawn (counter_use p) n; passes = q; left = script_of plain_setting s 0 p }) e
       ∙ ap (λ (q : ℕ). record x { drawn = q; left = script_of plain_setting s 0 p }) (sym h.1)
       ∙ ap (λ (q : Script). record x { left = q }) (sym h.0)

@@ -39,7 +39,7 @@ client_led d c s g b e f = ap (λ t. led_unless program_craft d (Client c s) (cl
 
 -- a client more at a desk
 pub added : (p p' : Past) (m t : Shelf) (c s : ℕ) (l : Left) → script_left l ≡ Over → t ≡ insert m c (record { seed = s; drawn = 0; left = l })
-    → ((bs : FinMap nat_cmp desk.Book) → desk_with p' bs ≡ record (desk_with p bs) { clients = (history_of p.history).clients ++ (c, s) ∷ [] })
+    → ((bs : FinMap nat_cmp desk.ClientBook) → desk_with p' bs ≡ record (desk_with p bs) { clients = (history_of p.history).clients ++ (c, s) ∷ [] })
     → reader_with_client (desk_with p (books_of m)) c s ≡ desk_with p' (books_of t)
 added p p' m t c s l over e grown =
     let k : ClientBook = record { seed = s; drawn = 0; left = l } in

@@ -6,9 +6,10 @@ use Rattle.place_model.specs.Histories.{after}
 use Rattle.place_model.specs.Shown.{history_of}
 use Rattle.place_model.specs.Starts.{IsSound}
 use Rattle.message_schedules.proofs.Program.{whole_placed, whole_sound, whole_store}
+use Rattle.schedule_model.specs.Desk.{ScheduleReader}
 use Rattle.schedule_model.specs.Programs.{program_craft}
 use Rattle.schedule_model.specs.Schedules.{Determined, schedule_run}
-use Rattle.schedule_world.specs.Runs.{HasRun, IsEachPlaced, IsRun, history_alone}
+use Rattle.schedule_world.specs.Runs.{HasEnded, HasRun, IsEachPlaced, IsRun, history_alone}
 use Rattle.schedule_world.specs.declared.run.ScheduleRun.{ScheduleRun}
 use Rattle.schedule_world.specs.declared.run.RunFault.{RunFault}
 use Rattle.schedule_world.specs.declared.run.RunFault.TheVariants.{Bad, Full, Memory}
@@ -31,3 +32,9 @@ run_history r (Ok ran) h = (h.0, h.1, h.2)
 run_history r (Err (Bad b)) h = h
 run_history r (Err (Full n cost)) h = h
 run_history r (Err Memory) h = tt
+
+-- a fault that lines ended with is one that a run ends with
+pub fault_same : (r : Determined) (d : ScheduleReader) (fault : RunFault) → HasEnded r d (Err fault) → HasRun r (Err fault)
+fault_same r d (Bad b) h = h
+fault_same r d (Full n cost) h = h
+fault_same r d Memory h = tt

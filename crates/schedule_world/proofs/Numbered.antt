@@ -7,9 +7,7 @@ use Rattle.schedule_model.specs.Desk.{ScheduleReader, first_desk}
 use Rattle.schedule_model.specs.Faults.{Craft}
 use Rattle.schedule_model.specs.Schedules.{Led, Went, Filled, header_led, header_on, last_led, led_on, line_led, lines_led}
 use Rattle.schedule_model.specs.Schedules as schedules
-use Rattle.schedule_world.specs.Runs.{HasRun, from_present, numbered_led}
-use Rattle.schedule_world.specs.declared.run.ScheduleRun.{ScheduleRun}
-use Rattle.schedule_world.specs.declared.run.RunFault.{RunFault}
+use Rattle.schedule_world.specs.Runs.{from_present, numbered_led}
 
 -- how it goes on depends on what the desks determine
 gone_on : (n : ℕ) (f g : ScheduleReader → schedules.Determined) (x : Led) → ((e : ScheduleReader) → f e ≡ g e) → led_on f n x ≡ led_on g n x
@@ -72,14 +70,14 @@ past_else true flag more p r = absurd (cc)
 past_else false flag more p r = r
 
 -- the answer of the lines behind the header is that of the text
-pub behind_header : (κ : Craft) (cut flag : Bool) (d : ScheduleReader) (first : Option (ℕ × Bor Bytes)) (mid rest : List (ℕ × Bytes)) (ls : List Bytes) (n : ℕ) (h : Bytes) (result : Result ScheduleRun RunFault)
+pub behind_header : (κ : Craft) (cut flag : Bool) (d : ScheduleReader) (first : Option (ℕ × Bor Bytes)) (mid rest : List (ℕ × Bytes)) (ls : List Bytes) (n : ℕ) (h : Bytes) (P : schedules.Determined → Type 0)
     → numbered 1 ls ≡ (n, h) ∷ mid → MatchOption first ((mid ≡ []) × (rest ≡ [])) (λ x. mid ≡ (x.0, x.1.now) ∷ rest) → flag ≡ is_past cut (from_present first rest)
-    → last_led flag (header_led h (text_fault 65536 h)) ≡ Went first_desk → d ≡ first_desk → HasRun (numbered_led κ cut d (from_present first rest)) result → HasRun (header_on κ cut ls) result
-behind_header κ cut flag d first mid rest ls n h result is given past went fresh run =
+    → last_led flag (header_led h (text_fault 65536 h)) ≡ Went first_desk → d ≡ first_desk → P (numbered_led κ cut d (from_present first rest)) → P (header_on κ cut ls)
+behind_header κ cut flag d first mid rest ls n h P is given past went fresh run =
     let left = past_present first mid rest given in
     let ahead : numbered 1 ls ≡ (n, h) ∷ from_present first rest = is ∙ ap (λ m. (n, h) ∷ m) left in
     let same = header_went κ cut ls n h (from_present first rest) ahead (subst (λ b. last_led b (header_led h (text_fault 65536 h)) ≡ Went first_desk) past went) in
-    subst (λ r. HasRun r result) (ap (λ e. numbered_led κ cut e (from_present first rest)) fresh ∙ sym same) run
+    subst P (ap (λ e. numbered_led κ cut e (from_present first rest)) fresh ∙ sym same) run
 
 -- ---- what is read of an input
 

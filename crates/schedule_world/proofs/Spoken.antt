@@ -33,7 +33,7 @@ false_true : false ≡ true → ⊥
 false_true e = cc
 
 -- the first reason why a client can't go on, by its book
-abbrev pub idle_reason : Option desk.Book → Option Reason
+abbrev pub idle_reason : Option desk.ClientBook → Option Reason
 idle_reason b = first_reason (present_tests b ++ (not (is_busy b), Idle) ∷ [])
 
 -- a line that is bad

@@ -8,9 +8,9 @@ use Rattle.schedule_world.specs.Shelves.{Shelf}
 use Rattle.schedule_world.specs.declared.book.ClientBook.{ClientBook}
 
 -- a client's book: it made no passes, and isn't stopped
-abbrev pub book_of : ClientBook → desk.Book
+abbrev pub book_of : ClientBook → desk.ClientBook
 book_of b = record { seed = b.seed; drawn = b.drawn; passes = 0; left = script_left b.left; stopped = false }
 
 -- the books of all clients
-unfoldable pub books_of : Shelf → FinMap nat_cmp desk.Book
+unfoldable pub books_of : Shelf → FinMap nat_cmp desk.ClientBook
 books_of m = from_entries (map (λ e. (e.0, book_of e.1)) (entries m))

@@ -9,5 +9,6 @@ pub mod Rests
 pub mod Running
 pub mod Runs
 pub mod Shelves
+pub mod Simple
 pub mod Tasks
 pub mod Told

@@ -1,5 +1,5 @@
 -- What running a schedule answers. Serves the proofs of code.
-use Rattle.std.specs.Prelude.{◌≡◌, ℕ, Bool, List, [], ◌∷◌, Option, Some, None, Result, Ok, Err}
+use Rattle.std.specs.Prelude.{◌≡◌, ℕ, Bool, List, [], ◌∷◌, Option, Some, None, Result, Ok, Err, ⊤}
 use Rattle.std.specs.Borrow.{Bor}
 use Rattle.queue_keys.specs.Names.{Bytes}
 use Rattle.place_model.specs.Shown.{history_of}
@@ -19,17 +19,24 @@ use Rattle.schedule_model.specs.Schedules as schedules
 
 -- an answer to what a schedule determines: its history, its first bad line, or the numbers of a full history; want of memory may be answered at any time
 abbrev pub IsRun : Determined → Result code.History RunFault → Type 0
-IsRun r (Ok h) = (d : ScheduleReader) × (r ≡ Whole d) × (schedules.history_of d ≡ history_of h)
+IsRun r (Ok h) = (d : ScheduleReader) × (r ≡ Whole d) × (schedules.reader_history d ≡ history_of h)
 IsRun r (Err (Bad b)) = r ≡ Bad_line b.line b.reason
 IsRun r (Err (Full n cost)) = r ≡ schedules.Full n cost
 IsRun r (Err Memory) = Unit {0}
 
 -- the same of a run's end, whose store is that of the desk
 abbrev pub HasRun : Determined → Result ScheduleRun RunFault → Type 0
-HasRun r (Ok ran) = (d : ScheduleReader) × (r ≡ Whole d) × (schedules.history_of d ≡ history_of ran.history) × (d.store ≡ ran.store.state)
+HasRun r (Ok ran) = (d : ScheduleReader) × (r ≡ Whole d) × (schedules.reader_history d ≡ history_of ran.history) × (d.store ≡ ran.store.state)
 HasRun r (Err (Bad b)) = r ≡ Bad_line b.line b.reason
 HasRun r (Err (Full n cost)) = r ≡ schedules.Full n cost
 HasRun r (Err Memory) = Unit {0}
+
+-- the same of lines that were taken up to this desk
+abbrev pub HasEnded : Determined → ScheduleReader → Result ⊤ RunFault → Type 0
+HasEnded r d (Ok u) = r ≡ Whole d
+HasEnded r d (Err (Bad b)) = r ≡ Bad_line b.line b.reason
+HasEnded r d (Err (Full n cost)) = r ≡ schedules.Full n cost
+HasEnded r d (Err Memory) = Unit {0}
 
 -- the history of a run's end
 abbrev pub history_alone : Result ScheduleRun RunFault → Result code.History RunFault

@@ -1,6 +1,6 @@
 -- Drafts of tasks, and the texts of envelopes. Serves the proofs of code.
 use Rattle.std.specs.Prelude.{◌≡◌, ◌≤◌, ℕ, pos, ◌++◌, codes, false, IsUtf8}
-use Rattle.serde_json.specs.Data.{Data}
+use Rattle.serde_json.specs.Data.{Data, Members, array, item, no_items, null, number, put, string, unsigned}
 use Rattle.serde_json.specs.View.{view as data_of}
 use Rattle.serde_json.specs.Written.{compact_text, has_float}
 use Rattle.envelope.specs.Envelopes.{parts_in}
@@ -8,6 +8,7 @@ use Rattle.envelope.specs.declared.envelope.Envelope.{Envelope}
 use Rattle.envelope.specs.declared.sealing.Draft.{Draft}
 use Rattle.queue_keys.specs.Names.{Bytes}
 use Rattle.schedule_model.specs.Drafts.{content_tree, headers_tree}
+use Rattle.schedule_world.specs.declared.task.TaskTexts.{TaskTexts}
 
 -- the compact text of an envelope's tree
 abbrev pub envelope_text : Envelope → Bytes
@@ -16,6 +17,30 @@ envelope_text e = compact_text (data_of e)
 -- the content of a task around the text of its arguments
 abbrev pub content_around : Bytes → Bytes
 content_around args = codes "[" ++ (args ++ codes ",{},{\"callbacks\":null,\"chain\":null,\"chord\":null,\"errbacks\":null}]")
+
+-- the members with the headers that say nothing
+abbrev pub with_nothing : Members → Members
+with_nothing ms =
+    put (codes "timelimit") (array (item null (item null no_items)))
+    (put (codes "parent_id") null (put (codes "group") null (put (codes "expires") null (put (codes "eta") null ms))))
+
+-- the members with the headers that each task has alike
+abbrev pub with_kinds : Members → Members
+with_kinds ms =
+    put (codes "retries") (number (unsigned 0))
+    (put (codes "origin") (string (codes "node")) (put (codes "lang") (string (codes "py")) (put (codes "kwargsrepr") (string (codes "{}")) ms)))
+
+-- the members with the headers of a task, by its id, its name, and the text of its arguments
+abbrev pub with_headers : Bytes → Bytes → Bytes → Members → Members
+with_headers id task args ms =
+    put (codes "argsrepr") (string args)
+    (put (codes "task") (string task) (put (codes "root_id") (string id) (put (codes "id") (string id) (with_kinds (with_nothing ms)))))
+
+-- the content and the headers are those of a task of this id and name, of arguments without a float
+pub record AreTextsOf (id task : Bytes) (args : Data) (made : TaskTexts) : Type 0 where
+  pub content : has_float args ≡ false → made.content ≡ compact_text (content_tree args)
+  pub is_text : IsUtf8 made.content
+  pub headers : has_float args ≡ false → data_of made.headers ≡ headers_tree id task args
 
 -- the draft is that of a task under this tag's text: its exchange, routing key, priority, name, and arguments without a float
 pub record IsDraftOf (t exchange routing_key : Bytes) (priority : ℕ) (task : Bytes) (args : Data) (draft : Draft) : Type 0 where

@@ -1,8 +1,9 @@
 //! What a line of a schedule begins, as its words spell it.
-ghost use Rattle.std.specs.Prelude.{◌≡◌, ◌∷◌, IfOk, List, map, option_map, ℕ};
+ghost use Rattle.std.specs.Prelude.{◌≡◌, ◌∷◌, IfOk, List, MatchOption, None, Option, Some, map, option_map, ℕ};
 ghost use Rattle.line_text.specs.Numbers.{number_in};
 ghost use Rattle.schedule_model.specs.Lines.{asked_in, dashed_in, declare_in, name_in, pass_in, publish_in, queues_in, tagged_in, made_of_four, made_of_one};
 ghost use Rattle.schedule_world.specs.Bindings.{bound};
+ghost use Rattle.schedule_world.specs.Simple.{simple_block};
 ghost use Rattle.schedule_model.specs.declared.line.Asked.{Asked as Begun};
 ghost use Rattle.schedule_model.specs.declared.line.Asked.TheVariants.{Ack, Declare, Pop, Publish, Requeue, Restore, Undeclare};
 
@@ -29,16 +30,25 @@ pub(crate) fn asked_in(
         undeclare_in(alloc, words)
     } else if block == "pop" {
         pop_in(alloc, words)
-    } else if block == "ack" {
-        Ok(ack_in(words))
-    } else if block == "restore" {
-        Ok(restore_in(words))
-    } else if block == "requeue" {
-        Ok(requeue_in(words))
-    } else if block == "pass" {
-        Ok(pass_in(words))
     } else {
-        Ok(None)
+        Ok(simple_block(block, words))
+    }
+}
+
+/// The block of a tag or of a visibility timeout that these words begin.
+fn simple_block(block: &str, words: &[&str]) -> Option<Asked>
+    ensures { result ≡ simple_block block.now (map (λ word. word.now) words.now) }
+{
+    if block == "ack" {
+        ack_in(words)
+    } else if block == "restore" {
+        restore_in(words)
+    } else if block == "requeue" {
+        requeue_in(words)
+    } else if block == "pass" {
+        pass_in(words)
+    } else {
+        None
     }
 }
 
@@ -104,10 +114,7 @@ fn publication(
         (dashed_in exchange.now) (dashed_in routing_key.now)
         (number_in 0 255 priority.now) (name_in task.now)) }
 {
-    let Some(exchange) = dashed_in(alloc, exchange)? else {
-        return Ok(None);
-    };
-    let Some(routing_key) = dashed_in(alloc, routing_key)? else {
+    let Some(target) = target_in(alloc, exchange, routing_key)? else {
         return Ok(None);
     };
     let Some(priority) = priority_in(priority) else {
@@ -117,11 +124,38 @@ fn publication(
         return Ok(None);
     };
     Ok(Some(Asked::Publish {
-        exchange,
-        routing_key,
+        exchange: target.exchange,
+        routing_key: target.routing_key,
         priority,
         task,
         arguments,
+    }))
+}
+
+/// An exchange and a routing key.
+#[derive(Drop)]
+struct Target {
+    exchange: Bytes,
+    routing_key: Bytes,
+}
+
+/// The exchange and the routing key of a publication, where a dash stands for an empty one.
+fn target_in(alloc: Global, exchange: &str, routing_key: &str) -> Result<Option<Target>, AllocError>
+    ensures { IfOk result (λ found. MatchOption found
+        ((f : List ℕ → List ℕ → ℕ → List ℕ → Begun) (p : Option ℕ) (t : Option (List ℕ))
+        → made_of_four f (dashed_in exchange.now) (dashed_in routing_key.now) p t ≡ None)
+        (λ target. (dashed_in exchange.now ≡ Some target.exchange)
+        × (dashed_in routing_key.now ≡ Some target.routing_key))) }
+{
+    let Some(exchange) = dashed_in(alloc, exchange)? else {
+        return Ok(None);
+    };
+    let Some(routing_key) = dashed_in(alloc, routing_key)? else {
+        return Ok(None);
+    };
+    Ok(Some(Target {
+        exchange,
+        routing_key,
     }))
 }
 
@@ -195,10 +229,7 @@ fn made_binding(
         → made_of_four f (name_in exchange.now) (dashed_in routing_key.now)
         (dashed_in pattern.now) (name_in queue.now) ≡ option_map (bound f) found) }
 {
-    let Some(exchange) = name_in(alloc, exchange)? else {
-        return Ok(None);
-    };
-    let Some(routing_key) = dashed_in(alloc, routing_key)? else {
+    let Some(source) = source_in(alloc, exchange, routing_key)? else {
         return Ok(None);
     };
     let Some(pattern) = dashed_in(alloc, pattern)? else {
@@ -208,10 +239,30 @@ fn made_binding(
         return Ok(None);
     };
     Ok(Some(Binding {
-        exchange,
-        routing_key,
+        exchange: source.exchange,
+        routing_key: source.routing_key,
         pattern,
         queue,
+    }))
+}
+
+/// The exchange of a binding, which has a name, and its routing key.
+fn source_in(alloc: Global, exchange: &str, routing_key: &str) -> Result<Option<Target>, AllocError>
+    ensures { IfOk result (λ found. MatchOption found
+        ((f : List ℕ → List ℕ → List ℕ → List ℕ → Begun) (p q : Option (List ℕ))
+        → made_of_four f (name_in exchange.now) (dashed_in routing_key.now) p q ≡ None)
+        (λ source. (name_in exchange.now ≡ Some source.exchange)
+        × (dashed_in routing_key.now ≡ Some source.routing_key))) }
+{
+    let Some(exchange) = name_in(alloc, exchange)? else {
+        return Ok(None);
+    };
+    let Some(routing_key) = dashed_in(alloc, routing_key)? else {
+        return Ok(None);
+    };
+    Ok(Some(Target {
+        exchange,
+        routing_key,
     }))
 }
 

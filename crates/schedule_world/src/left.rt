@@ -1,5 +1,5 @@
 //! What is left of a client's block.
-ghost use Rattle.std.specs.Prelude.{◌≡◌, ◌<◌, ◌≤◌, ◌^◌, IfOk, IfSome, OnOk, length, true};
+ghost use Rattle.std.specs.Prelude.{◌≡◌, ◌<◌, ◌≤◌, ◌^◌, Err, IfOk, IfSome, Ok, OnOk, alloc_error, if◌then◌else◌, length, true};
 ghost use Rattle.command_blocks.specs.EnvelopeTexts.{plain_setting};
 ghost use Rattle.command_blocks.specs.Scripts.{Over, end_script, next_words, pop_script, publish_script};
 ghost use Rattle.envelope.specs.Tags.{tag_text};
@@ -118,8 +118,19 @@ impl Left {
 fn heard(taken: Result<(), ReplyFault>) -> Result<(), AllocError>
     ensures { result ≡ heard_by taken }
 {
+    if had_memory(&taken) {
+        Ok(())
+    } else {
+        Err(AllocError)
+    }
+}
+
+/// Whether a core had the memory to take a reply.
+fn had_memory(taken: &Result<(), ReplyFault>) -> bool
+    ensures { heard_by taken.now ≡ (if result then Ok tt else Err alloc_error) }
+{
     match taken {
-        Ok(()) | Err(ReplyFault::Refused(_)) => Ok(()),
-        Err(ReplyFault::Memory) => Err(AllocError),
+        Ok(()) | Err(ReplyFault::Refused(_)) => true,
+        Err(ReplyFault::Memory) => false,
     }
 }

@@ -2,6 +2,7 @@
 ghost use Rattle.std.specs.Prelude.{◌≡◌, [], ◌∷◌, IfOk, map};
 ghost use Rattle.schedule_model.specs.Lines.{at_line, begin_line, client_line, line_in, of_client};
 ghost use Rattle.schedule_model.specs.declared.line.Line.TheVariants.{Run, Step, Stop};
+ghost use Rattle.schedule_world.specs.Simple.{simple_line};
 
 use crate::asked::asked_in;
 use crate::word::{client_in, seed_in};
@@ -30,14 +31,23 @@ fn line_after(alloc: Global, first: &str, rest: &[&str]) -> Result<Option<Line>,
         Ok(at_line(rest))
     } else if first == "begin" {
         begin_line(alloc, rest)
-    } else if first == "step" {
-        Ok(step_line(rest))
-    } else if first == "run" {
-        Ok(run_line(rest))
-    } else if first == "stop" {
-        Ok(stop_line(rest))
     } else {
-        Ok(None)
+        Ok(simple_line(first, rest))
+    }
+}
+
+/// The line of a client alone that these words spell.
+fn simple_line(first: &str, rest: &[&str]) -> Option<Line>
+    ensures { result ≡ simple_line first.now (map (λ word. word.now) rest.now) }
+{
+    if first == "step" {
+        step_line(rest)
+    } else if first == "run" {
+        run_line(rest)
+    } else if first == "stop" {
+        stop_line(rest)
+    } else {
+        None
     }
 }
 

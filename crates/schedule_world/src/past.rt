@@ -1,8 +1,10 @@
 //! What happened so far: the present moment, the history with its running cost, and the store.
-ghost use Rattle.std.specs.Prelude.{◌≡◌, ◌<◌, ◌^◌, Some};
+ghost use Rattle.std.specs.Prelude.{◌≡◌, ◌<◌, ◌+◌, ◌^◌, IfOk, OnOk, Some, true};
 ghost use Rattle.place_model.specs.Shown.{history_of};
-ghost use Rattle.schedule_model.specs.Costs.{total_cost};
-ghost use Rattle.schedule_model.specs.Faults.{has_number, has_seed};
+ghost use Rattle.schedule_model.specs.Costs.{reply_size, total_cost, words_size};
+ghost use Rattle.schedule_model.specs.Faults.{has_more, has_number, has_seed};
+ghost use Rattle.schedule_world.specs.Blocks.{script_left};
+ghost use Rattle.schedule_world.specs.Lefts.{after_answer};
 ghost use Rattle.schedule_world.specs.Running.{AreRunning};
 
 use crate::cost::call_cost;
@@ -10,6 +12,7 @@ use crate::left::Left;
 use mini_store::Store;
 use place_model::{Entry, History};
 use std::alloc::{AllocError, Global};
+use store_model::Reply;
 use wire_values::Words;
 
 /// The greatest number of entries of a history.
@@ -33,16 +36,13 @@ pub(crate) struct Past {
 impl Past {
     ghost use Rattle.std.specs.FinMap.{FinMap, empty};
     ghost use Rattle.std.specs.Ordering.{nat_cmp};
-    ghost use Rattle.std.specs.Prelude.{IfOk, OnErr, OnOk, ◌||◌, ◌∷◌, [], ◌++◌, length, true, false};
+    ghost use Rattle.std.specs.Prelude.{OnErr, ◌||◌, ◌∷◌, [], ◌++◌, length, false};
     ghost use Rattle.store_model.specs.Store.{apply_of};
     ghost use Rattle.store_model.specs.Words.{IsWithinLimits};
     ghost use Rattle.command_blocks.specs.Scripts.{next_words};
     ghost use Rattle.schedule_model.specs.Costs.{is_full};
     ghost use Rattle.schedule_model.specs.Desk.{ClientBook, first_desk, said_all, said_one, with_call};
-    ghost use Rattle.schedule_model.specs.Faults.{has_more};
     ghost use Rattle.schedule_world.specs.Desks.{desk_with};
-    ghost use Rattle.schedule_world.specs.Blocks.{script_left};
-    ghost use Rattle.schedule_world.specs.Lefts.{after_answer};
     ghost use Rattle.schedule_world.specs.Rooms.{room_left};
 
     /// Nothing happened yet; takes no memory.
@@ -138,13 +138,7 @@ impl Past {
         ensures table { (history_of self.new.history).clients ≡ (history_of self.old.history).clients }
     {
         let reply = self.store.apply(alloc, self.moment, client, &words)?;
-        left.took(alloc, self.moment, &reply)?;
-        let Some(cost) = call_cost(words.as_slice(), &reply) else {
-            return Err(AllocError);
-        };
-        let Some(cost) = self.cost.checked_add(cost) else {
-            return Err(AllocError);
-        };
+        let cost = answered(alloc, self.moment, self.cost, &words, &reply, left)?;
         self.history.add(
             alloc,
             Entry::Call {
@@ -199,6 +193,30 @@ impl Past {
         }
         Ok(true)
     }
+}
+
+/// What a history's entries cost that cost so much before, with a call of these words, whose reply the block takes.
+fn answered(
+    alloc: Global,
+    moment: u64,
+    before: u64,
+    words: &Words,
+    reply: &Reply,
+    left: &mut Left,
+) -> Result<u64, AllocError>
+    requires moment { moment < 2 ^ 40 }
+    requires asked { has_more (script_left left.old) ≡ true }
+    ensures left { OnOk result (script_left left.new ≡ after_answer (script_left left.old) reply.now.answer) }
+    ensures cost { IfOk result (λ cost. cost ≡ before + (64 + words_size words.now + reply_size reply.now)) }
+{
+    left.took(alloc, moment, reply)?;
+    let Some(cost) = call_cost(words.as_slice(), reply) else {
+        return Err(AllocError);
+    };
+    let Some(cost) = before.checked_add(cost) else {
+        return Err(AllocError);
+    };
+    Ok(cost)
 }
 
 /// Whether a client has this number.

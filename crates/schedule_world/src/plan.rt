@@ -39,10 +39,10 @@ pub(crate) fn prepared(
     letters: &mut Letters,
     seed: u64,
     drawn: u64,
-    asked: Asked,
+    asked: &Asked,
 ) -> Result<Begun, LineFault>
-    requires { IsBuiltBlock asked }
-    ensures { IsPrepared seed drawn asked result }
+    requires { IsBuiltBlock asked.now }
+    ensures { IsPrepared seed drawn asked.now result }
 {
     match asked {
         Asked::Publish {
@@ -57,15 +57,15 @@ pub(crate) fn prepared(
                 letters,
                 seed,
                 drawn,
-                &exchange,
-                &routing_key,
-                priority,
-                &task,
-                &arguments,
+                exchange,
+                routing_key,
+                *priority,
+                task,
+                arguments,
             )
         }
-        Asked::Pop { queues } => popping(alloc, seed, drawn, &queues),
-        Asked::Ack { seed: of, counter } => acknowledging(alloc, seed, drawn, of, counter),
+        Asked::Pop { queues } => popping(alloc, seed, drawn, queues),
+        Asked::Ack { seed: of, counter } => acknowledging(alloc, seed, drawn, *of, *counter),
         Asked::Declare { .. }
         | Asked::Undeclare { .. }
         | Asked::Restore { .. }

@@ -10,7 +10,7 @@ ghost use Rattle.schedule_model.specs.Desk.{first_desk};
 ghost use Rattle.schedule_model.specs.Programs.{program_craft};
 ghost use Rattle.schedule_model.specs.Schedules.{header_led, header_on, last_led};
 ghost use Rattle.schedule_world.specs.Desks.{desk_of};
-ghost use Rattle.schedule_world.specs.Runs.{HasRun, IsAnswer, IsEachPlaced, IsHeaderTold, fault_at, from_present, history_alone, numbered_led};
+ghost use Rattle.schedule_world.specs.Runs.{HasEnded, HasRun, IsAnswer, IsEachPlaced, IsHeaderTold, fault_at, from_present, history_alone, numbered_led};
 ghost use Rattle.schedule_world.specs.declared.run.RunFault.TheVariants.{Bad};
 
 use crate::{LineFault, World};
@@ -75,13 +75,24 @@ pub fn run_whole(alloc: Global, bytes: &[u8]) -> Result<ScheduleRun, RunFault>
     } else {
         bytes
     };
-    text_run(alloc, World::new(alloc), is_cut, text)
+    text_run(alloc, is_cut, text)
+}
+
+/// The lines of a text, the header first.
+fn text_run(alloc: Global, is_cut: bool, text: &[u8]) -> Result<ScheduleRun, RunFault>
+    ensures { HasRun (header_on program_craft is_cut (lines_of text.now)) result }
+{
+    let mut world = World::new(alloc);
+    match text_taken(alloc, &mut world, is_cut, text) {
+        Ok(()) => Ok(world.into_ran()),
+        Err(fault) => Err(fault),
+    }
 }
 
 /// The lines of a text, the header first, taken by a world before its first line.
-fn text_run(alloc: Global, world: World, is_cut: bool, text: &[u8]) -> Result<ScheduleRun, RunFault>
-    requires { desk_of world ≡ first_desk }
-    ensures { HasRun (header_on program_craft is_cut (lines_of text.now)) result }
+fn text_taken(alloc: Global, world: &mut World, is_cut: bool, text: &[u8]) -> Result<(), RunFault>
+    requires { desk_of world.old ≡ first_desk }
+    ensures { HasEnded (header_on program_craft is_cut (lines_of text.now)) (desk_of world.new) result }
 {
     let mut lines = Lines::new(text);
     let Some((_, header)) = lines.next() else {
@@ -118,12 +129,12 @@ fn header_fault(is_cut: bool, line: &[u8]) -> Option<Reason>
 /// The lines from the first one on, which stands before the others, taken by a world.
 fn lines_run<'a>(
     alloc: Global,
-    mut world: World,
+    world: &mut World,
     is_cut: bool,
     first: Option<(u64, &'a [u8])>,
     mut lines: Lines<'a>,
-) -> Result<ScheduleRun, RunFault>
-    ensures { HasRun (numbered_led program_craft is_cut (desk_of world) (from_present first.entry (lines_left lines.entry))) result }
+) -> Result<(), RunFault>
+    ensures { HasEnded (numbered_led program_craft is_cut (desk_of world.old) (from_present first.entry (lines_left lines.entry))) (desk_of world.new) result }
 {
     let mut present = first;
     while let Some((number, line)) = present {
@@ -135,7 +146,7 @@ fn lines_run<'a>(
             return Err(run_fault(number, fault));
         }
     }
-    Ok(world.into_ran())
+    Ok(())
 }
 
 /// The fault of a line, as one of the schedule.

@@ -1,19 +1,19 @@
 //! The task that a publish line drafts, and its sealed envelope (Celery's message protocol, version 2).
-ghost use Rattle.std.specs.Prelude.{◌≡◌, IfOk, IfSome, IsUtf8, Some, option_map, string_bytes};
+ghost use Rattle.std.specs.Prelude.{◌≡◌, IfOk, IfSome, IsUtf8, OnOk, Some, codes, option_map, string_bytes};
 ghost use Rattle.std.specs.Result.{result_ok};
 ghost use Rattle.std.specs.Str.{is_utf8};
-ghost use Rattle.serde_json.specs.Data.{Data};
-ghost use Rattle.serde_json.specs.View.{view as data_of};
+ghost use Rattle.serde_json.specs.Data.{Data, null, put as with_member, string};
+ghost use Rattle.serde_json.specs.View.{members_view, view as data_of};
 ghost use Rattle.serde_json.specs.Written.{compact_text};
 ghost use Rattle.envelope.specs.Sealed.{seal_of};
 ghost use Rattle.envelope.specs.Tags.{tag_text};
 ghost use Rattle.queue_keys.specs.Names.{Bytes};
 ghost use Rattle.schedule_model.specs.Drafts.{are_texts, arguments_of, headers_tree, if_arguments, sealed_task};
-ghost use Rattle.schedule_world.specs.Tasks.{IsDraftOf, Names, content_around, envelope_text};
+ghost use Rattle.schedule_world.specs.Tasks.{AreTextsOf, IsDraftOf, Names, content_around, envelope_text, with_headers, with_kinds, with_nothing};
 
 use envelope::walk::{holds_float, nests_within};
 use envelope::{Draft, Envelope, EnvelopeFault, Tag, Tree, seal};
-use serde_json::{Value, json};
+use serde_json::{Map, Value, json, put};
 use std::alloc::{AllocError, Global};
 use wire_values::Bytes;
 
@@ -113,16 +113,59 @@ fn draft_of(
         (data_of arguments.now) draft) }
 {
     let id = tag.text();
+    let address = address_of(alloc, &id, asked)?;
+    let texts = texts_of(alloc, text_of(&id), text_of(asked.task), arguments)?;
+    Ok(Draft {
+        content: texts.content,
+        headers: texts.headers,
+        id: address.id,
+        exchange: address.exchange,
+        routing_key: address.routing_key,
+        priority: asked.priority as i64,
+    })
+}
+
+/// The id of a draft, and where it goes.
+#[derive(Drop)]
+struct Address {
+    id: Bytes,
+    exchange: Bytes,
+    routing_key: Bytes,
+}
+
+/// The address of a publication under this id.
+fn address_of(alloc: Global, id: &[u8], asked: &Publication) -> Result<Address, AllocError>
+    ensures id { IfOk result (λ made. made.id ≡ id.now) }
+    ensures exchange { IfOk result (λ made. made.exchange ≡ asked.now.exchange.now) }
+    ensures routing_key { IfOk result (λ made. made.routing_key ≡ asked.now.routing_key.now) }
+{
+    let id = Bytes::from_slice(alloc, id)?;
+    let exchange = Bytes::from_slice(alloc, asked.exchange)?;
+    let routing_key = Bytes::from_slice(alloc, asked.routing_key)?;
+    Ok(Address {
+        id,
+        exchange,
+        routing_key,
+    })
+}
+
+/// The content and the headers of a task.
+#[derive(Drop)]
+struct TaskTexts {
+    content: Bytes,
+    headers: Tree,
+}
+
+/// The content and the headers of a task of this id with these arguments.
+fn texts_of(alloc: Global, id: &str, task: &str, arguments: &Tree) -> Result<TaskTexts, AllocError>
+    ensures { IfOk result (λ made. AreTextsOf id.now task.now (data_of arguments.now) made) }
+{
     let args = arguments.to_string(alloc)?;
     let content = content_of(alloc, args.as_str())?;
-    let headers = headers_of(alloc, text_of(&id), text_of(asked.task), args.as_str())?;
-    Ok(Draft {
+    let headers = headers_of(alloc, id, task, args.as_str())?;
+    Ok(TaskTexts {
         content: bytes_of(content),
         headers,
-        id: Bytes::from_slice(alloc, &id)?,
-        exchange: Bytes::from_slice(alloc, asked.exchange)?,
-        routing_key: Bytes::from_slice(alloc, asked.routing_key)?,
-        priority: asked.priority as i64,
     })
 }
 
@@ -158,21 +201,67 @@ fn headers_of(alloc: Global, id: &str, task: &str, args: &str) -> Result<Value, 
     ensures { IfOk result (λ v. (d : Data) → args.now ≡ compact_text d
         → data_of v ≡ headers_tree id.now task.now d) }
 {
-    json!(in alloc; {
-        "argsrepr": args,
-        "eta": null,
-        "expires": null,
-        "group": null,
-        "id": id,
-        "kwargsrepr": "{}",
-        "lang": "py",
-        "origin": "node",
-        "parent_id": null,
-        "retries": 0,
-        "root_id": id,
-        "task": task,
-        "timelimit": [null, null]
-    })
+    let mut members = Map::new(alloc);
+    put_headers(alloc, &mut members, id, task, args)?;
+    Ok(Value::Object(members))
+}
+
+/// Puts the headers of a task among members.
+fn put_headers(
+    alloc: Global,
+    members: &mut Map<String, Value>,
+    id: &str,
+    task: &str,
+    args: &str,
+) -> Result<(), AllocError>
+    ensures { OnOk result (members_view members.new.entries
+        ≡ with_headers id.now task.now args.now (members_view members.old.entries)) }
+{
+    put_nothing(alloc, members)?;
+    put_kinds(alloc, members)?;
+    put_text(alloc, members, "id", id)?;
+    put_text(alloc, members, "root_id", id)?;
+    put_text(alloc, members, "task", task)?;
+    put_text(alloc, members, "argsrepr", args)
+}
+
+/// Puts the headers that say nothing among members.
+fn put_nothing(alloc: Global, members: &mut Map<String, Value>) -> Result<(), AllocError>
+    ensures { OnOk result (members_view members.new.entries
+        ≡ with_nothing (members_view members.old.entries)) }
+{
+    put(members, alloc, "eta", Value::Null)?;
+    put(members, alloc, "expires", Value::Null)?;
+    put(members, alloc, "group", Value::Null)?;
+    put(members, alloc, "parent_id", Value::Null)?;
+    let limits = json!(in alloc; [null, null])?;
+    put(members, alloc, "timelimit", limits)
+}
+
+/// Puts the headers that each task has alike among members.
+fn put_kinds(alloc: Global, members: &mut Map<String, Value>) -> Result<(), AllocError>
+    ensures { OnOk result (members_view members.new.entries
+        ≡ with_kinds (members_view members.old.entries)) }
+{
+    put_text(alloc, members, "kwargsrepr", "{}")?;
+    put_text(alloc, members, "lang", "py")?;
+    put_text(alloc, members, "origin", "node")?;
+    let retries = json!(in alloc; 0)?;
+    put(members, alloc, "retries", retries)
+}
+
+/// Puts a text under a name among members.
+fn put_text(
+    alloc: Global,
+    members: &mut Map<String, Value>,
+    name: &str,
+    text: &str,
+) -> Result<(), AllocError>
+    ensures { OnOk result (members_view members.new.entries
+        ≡ with_member name.now (string text.now) (members_view members.old.entries)) }
+{
+    let text = json!(in alloc; text)?;
+    put(members, alloc, name, text)
 }
 
 /// The envelope of a draft under a tag. None where it is refused.

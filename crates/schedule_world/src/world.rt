@@ -70,14 +70,14 @@ impl World {
 
     /// The history so far.
     pub fn into_history(self) -> History
-        ensures { history_of result ≡ schedules.history_of (desk_of self) }
+        ensures { history_of result ≡ schedules.reader_history (desk_of self) }
     {
         self.past.history
     }
 
     /// The history so far, the store that answered, and what is known of texts.
     pub(crate) fn into_ran(self) -> ScheduleRun
-        ensures history { history_of result.history ≡ schedules.history_of (desk_of self) }
+        ensures history { history_of result.history ≡ schedules.reader_history (desk_of self) }
         ensures store { result.store.state ≡ (desk_of self).store }
     {
         let Past { history, store, .. } = self.past;
@@ -97,22 +97,22 @@ impl World {
             return Err(LineFault::Bad(Reason::Later));
         }
         match line_of(alloc, words.as_slice())? {
-            Some(line) => self.built_line(alloc, line),
+            Some(line) => self.built_line(alloc, &line),
             None => Err(LineFault::Bad(Reason::Syntax)),
         }
     }
 
     /// Takes a line that is built.
-    fn built_line(&mut self, alloc: Global, line: Line) -> Result<(), LineFault>
-        requires { IsBuiltLine line }
-        ensures { IsTold (led_by program_craft (desk_of self.old) (Some line)) (desk_of self.old) (desk_of self.new) result }
+    fn built_line(&mut self, alloc: Global, line: &Line) -> Result<(), LineFault>
+        requires { IsBuiltLine line.now }
+        ensures { IsTold (led_by program_craft (desk_of self.old) (Some line.now)) (desk_of self.old) (desk_of self.new) result }
     {
         match line {
-            Line::Client { client, seed } => self.client_line(alloc, client, seed),
-            Line::At { moment } => self.at_line(moment),
-            Line::Begin { client, asked } => self.begin_line(alloc, client, asked),
-            Line::Step { client } => self.step_line(alloc, client),
-            Line::Run { client } => self.run_line(alloc, client),
+            Line::Client { client, seed } => self.client_line(alloc, *client, *seed),
+            Line::At { moment } => self.at_line(*moment),
+            Line::Begin { client, asked } => self.begin_line(alloc, *client, asked),
+            Line::Step { client } => self.step_line(alloc, *client),
+            Line::Run { client } => self.run_line(alloc, *client),
             Line::Stop { .. } => unreachable!(),
         }
     }
@@ -161,9 +161,9 @@ impl World {
     }
 
     /// A client begins a block.
-    fn begin_line(&mut self, alloc: Global, client: u32, asked: Asked) -> Result<(), LineFault>
-        requires { IsBuiltBlock asked }
-        ensures { IsTold (led_by program_craft (desk_of self.old) (Some (Begin client asked))) (desk_of self.old) (desk_of self.new) result }
+    fn begin_line(&mut self, alloc: Global, client: u32, asked: &Asked) -> Result<(), LineFault>
+        requires { IsBuiltBlock asked.now }
+        ensures { IsTold (led_by program_craft (desk_of self.old) (Some (Begin client asked.now))) (desk_of self.old) (desk_of self.new) result }
     {
         let (seed, drawn) = self.books.resting(client)?;
         let begun = prepared(alloc, &mut self.letters, seed, drawn, asked)?;

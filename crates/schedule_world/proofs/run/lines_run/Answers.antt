@@ -1,4 +1,4 @@
-use Rattle.std.proofs.Common.{ap, sym, ◌∙◌}
+use Rattle.std.proofs.Common.{ap, ◌∙◌}
 use Rattle.line_text.specs.LinesLeft.{lines_left}
 use Rattle.schedule_model.specs.Programs.{program_craft}
 use Rattle.schedule_world.specs.Desks.{desk_of}
@@ -8,4 +8,4 @@ use Rattle.schedule_world.proofs.run.lines_run.Goals as goal
 pub returns : goal.returns
 returns c =
     let at = c.loop-present in
-    (desk_of at.world, at.invariant ∙ ap (λ p. numbered_led program_craft c.args.is_cut (desk_of at.world) (from_present p (lines_left at.lines))) c.in_default.is, sym c.into_ran.ensures.history, sym c.into_ran.ensures.store)
+    at.invariant ∙ ap (λ p. numbered_led program_craft c.args.is_cut (desk_of at.world) (from_present p (lines_left at.lines))) c.in_default.is

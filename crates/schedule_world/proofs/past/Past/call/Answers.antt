@@ -1,5 +1,4 @@
-use Rattle.std.proofs.Common.{◌≡◌, ◌+◌, rules, arith, ap, ◌∙◌, ◌∷◌, [], ◌++◌}
-use Rattle.std.proofs.lemmas.Grind.{common_steps}
+use Rattle.std.proofs.Common.{◌≡◌, ◌+◌, refl, ap, ◌∙◌, ◌∷◌, [], ◌++◌}
 use Rattle.place_model.specs.declared.history.Entry.TheVariants.{Call}
 use Rattle.schedule_model.specs.Costs.{reply_size, words_size}
 use Rattle.schedule_world.proofs.Going.{still_running}
@@ -12,16 +11,14 @@ use Rattle.schedule_world.proofs.past.Past.call.Goals as goal
 pub add-requires : goal.add-requires
 add-requires c = record { running = (among c.args.client c.args.self.now.history.clients c.requires.known, c.args.self.now.running c.args.client); takable = (c.args.self.now.early, c.requires.limits) }
 
-pub took-requires-clause-asked : goal.took-requires-clause-asked
-took-requires-clause-asked c = more_next (script_left c.args.left.now) c.args.self.now.moment c.args.words c.requires.next
+pub answered-requires-clause-asked : goal.answered-requires-clause-asked
+answered-requires-clause-asked c = more_next (script_left c.args.left.now) c.args.self.now.moment c.args.words c.requires.next
 
 pub invariant_of-self-2 : goal.invariant_of-self-2
 invariant_of-self-2 c =
     let grown : c.add.new.self.entries ≡ c.args.self.now.history.entries ++ Call c.args.client c.args.self.now.moment c.args.words c.in_ok-reply.reply ∷ [] = ap (λ h. h.entries) c.in_ok-add.ensures.ok in
-    let spoken : c.in-Some.cost ≡ 64 + words_size c.args.words + reply_size c.in_ok-reply.reply = c.in-Some.ensures ∙ ap (λ ws. 64 + words_size ws + reply_size c.in_ok-reply.reply) c.as_slice.ensures in
-    let whole : c.in-Some-checked_add.cost ≡ c.args.self.now.cost + c.in-Some.cost = first_of (search rules, grind (arith, common_steps), omega arith) in
     record {
       early = c.args.self.now.early;
       running = still_running c.args.self.now.history.entries c.add.new.self.entries c.args.client c.args.self.now.moment c.args.words c.in_ok-reply.reply grown c.args.self.now.running;
-      costs = whole ∙ cost_more c.args.self.now.history.entries c.add.new.self.entries _ c.args.self.now.cost c.in-Some.cost grown c.args.self.now.costs spoken;
+      costs = c.in_ok-cost.ensures.cost ∙ cost_more c.args.self.now.history.entries c.add.new.self.entries _ c.args.self.now.cost (64 + words_size c.args.words + reply_size c.in_ok-reply.reply) grown c.args.self.now.costs refl;
     }

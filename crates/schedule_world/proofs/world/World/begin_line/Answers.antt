@@ -10,14 +10,14 @@ use Rattle.schedule_world.proofs.world.World.begin_line.Goals as goal
 pub returns-in_err-seed : goal.returns-in_err-seed
 returns-in_err-seed c =
     told_bad _ (desk_of c.args.self.now) (desk_of c.args.self.now) c.from_residual.result c.in_err-seed.field-0.0 c.from_residual.ensures.0 c.from_residual.ensures.1
-    (resting_bad (desk_of c.args.self.now) c.args.self.now.books c.args.client c.args.asked c.in_err-seed.field-0.0 c.in_err-seed.ensures) refl
+    (resting_bad (desk_of c.args.self.now) c.args.self.now.books c.args.client c.args.asked.now c.in_err-seed.field-0.0 c.in_err-seed.ensures) refl
 
 pub returns-in_err-begun : goal.returns-in_err-begun
 returns-in_err-begun c =
     let k : ClientBook = c.in_ok-seed.ensures.0 in
     let s = c.in_ok-seed.seed in
     let n = c.in_ok-seed.drawn in
-    unprepared c.args.self.now.past c.args.self.now.books c.args.self.now.books c.args.client s n k.left c.args.asked
+    unprepared c.args.self.now.past c.args.self.now.books c.args.self.now.books c.args.client s n k.left c.args.asked.now
     (found_so (get c.args.self.now.books c.args.client) k s n c.in_ok-seed.ensures.1 c.in_ok-seed.ensures.2) c.in_ok-seed.ensures.3 c.in_ok-seed.ensures.4
     c.in_err-begun.field-0.0 c.from_residual-in_err-begun.result c.from_residual-in_err-begun.ensures.0 c.from_residual-in_err-begun.ensures.1 c.in_err-begun.ensures
 
@@ -34,6 +34,6 @@ returns c =
     let k : ClientBook = c.in_ok-seed.ensures.0 in
     let s = c.in_ok-seed.seed in
     let n = c.in_ok-seed.drawn in
-    asked_went c.args.self.now.past c.args.self.now.books c.set.new.self c.args.client s n k.left c.args.asked
+    asked_went c.args.self.now.past c.args.self.now.books c.set.new.self c.args.client s n k.left c.args.asked.now
     (found_so (get c.args.self.now.books c.args.client) k s n c.in_ok-seed.ensures.1 c.in_ok-seed.ensures.2) c.in_ok-seed.ensures.3 c.in_ok-seed.ensures.4
     c.in_ok-begun.begun c.in_ok-begun.ensures.1.0 c.requires c.in_ok-begun.ensures.0 c.in_ok-begun.ensures.1.1 c.in_ok-begun.ensures.1.2 c.in_ok-set.ensures.ok
