@@ -21,8 +21,8 @@ returns-in_err-begun c =
     (found_so (get c.args.self.now.books c.args.client) k s n c.in_ok-seed.ensures.1 c.in_ok-seed.ensures.2) c.in_ok-seed.ensures.3 c.in_ok-seed.ensures.4
     c.in_err-begun.field-0.0 c.from_residual-in_err-begun.result c.from_residual-in_err-begun.ensures.0 c.from_residual-in_err-begun.ensures.1 c.in_err-begun.ensures
 
-pub invariant_of-self : goal.invariant_of-self
-invariant_of-self c =
+pub invariant_of-self-2 : goal.invariant_of-self-2
+invariant_of-self-2 c =
     record {
       known =
           set_known c.args.self.now.books c.set.new.self c.args.self.now.past.history.clients c.args.client _ c.set.result c.args.self.now.known
