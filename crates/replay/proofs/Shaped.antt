@@ -15,6 +15,8 @@ use Rattle.letters.specs.Letters as letters
 use Rattle.letters.specs.declared.letter.Letter.{Letter}
 use Rattle.letters.specs.declared.letter.Letter.TheVariants as letter
 use Rattle.line_text.specs.declared.short.Shape.{Shape}
+use Rattle.line_text.specs.declared.short.Shape.TheVariants.{Envelope}
+use Rattle.line_text.specs.declared.short.Shape.TheVariants as shapes
 use Rattle.queue_keys.specs.Names.{Bytes}
 use Rattle.schedule_model.specs.Shapes.{entry_or_tag, entry_shape, envelope_or, envelope_shape, shape_of, tag_shape}
 use Rattle.envelope.specs.Tags.{tag_of_text}
