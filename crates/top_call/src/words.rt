@@ -1,5 +1,5 @@
 //! The words of the command line: which are lawful, and which is the first bad one.
-ghost use Rattle.std.specs.Prelude.{map, ◌≡◌};
+ghost use Rattle.std.specs.Prelude.{map, ◌≡◌, IfOk, string_bytes};
 ghost use Rattle.top_call.specs.Words.{bad_place};
 
 use std::alloc::{AllocError, Global};
