@@ -1,4 +1,3 @@
-pub mod Faults
 pub mod Stages
 pub mod Cores
 pub mod Goings

@@ -2,7 +2,6 @@
 ghost use Rattle.std.specs.Prelude.{◌≡◌, IfOk};
 ghost use Rattle.block_core.specs.declared.fault.ReplyFault.TheVariants.{Refused};
 
-use command_blocks::CoreFault;
 use std::alloc::{AllocError, Global};
 use store_model::Reply;
 use wire_values::copy_values;
@@ -25,18 +24,5 @@ impl ReplyFault {
             pushed: copy_values(alloc, &reply.pushed)?,
             answer: reply.answer.copy(alloc)?,
         }))
-    }
-}
-
-impl From<ReplyFault> for CoreFault {
-    ghost use Rattle.block_core.specs.Faults.{core_fault};
-
-    ghost from_gives = { λ fault core. core ≡ core_fault fault };
-
-    fn from(fault: ReplyFault) -> CoreFault {
-        match fault {
-            ReplyFault::Refused(reply) => CoreFault::Refused(reply),
-            ReplyFault::Memory => CoreFault::Memory,
-        }
     }
 }

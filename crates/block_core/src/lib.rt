@@ -4,9 +4,7 @@
 //! nothing more of it. What is proved here holds of each block.
 //!
 //! A stage tells of its end by a small type of its own, `Stage::End`, which has the ends of its block and no others. A
-//! client that holds a core of each kind matches over them. Its `took` answers `CoreFault::from(fault)`; its `end` makes
-//! a `BlockEnd` of each block's end, by a `From<PopEnd> for BlockEnd` that stands beside `PopEnd`, and its like: one arm
-//! for each end of the block, which moves what the end holds.
+//! client that holds a core of each kind matches over them.
 #![tactic(auto)]
 
 mod block;

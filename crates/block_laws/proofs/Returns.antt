@@ -11,8 +11,8 @@ use Rattle.command_blocks.specs.Calls.{Call, call}
 use Rattle.command_blocks.specs.ReturnBlocks.{ReturnEnd, Moved, Gone, Stayed, Contended, goes_on, reading, asking, leaving, Try, whole_try, IsTry, IsTries, Missing, Useless, Nowhere, Whole, Eighth, Again, IsReturnBlock}
 use Rattle.command_blocks.specs.PassBlocks.{PassEnd, Held, Stuck, Done, IsReturns, All_returned, Returned, Returned_until, Ended_early, IsRelease, Own, Foreign, tags_among, lock_words, due_words, IsPassBlock, Is_held, Ran}
 use Rattle.command_blocks.specs.Scripts.{Script, Over, Say, plainly, if_told, on_done, on_queued, on_texts, leave_script, try_script, tries_script, return_script, on_released, on_token, release_script, returns_script, on_locked, pass_script}
-use Rattle.command_blocks.specs.declared.block.Side.{Side}
-use Rattle.command_blocks.specs.declared.block.Side.TheVariants.{Right}
+use Rattle.command_blocks.specs.declared.side.Side.{Side}
+use Rattle.command_blocks.specs.declared.side.Side.TheVariants.{Right}
 use Rattle.block_laws.specs.Rows.{IsGood}
 use Rattle.block_laws.proofs.Values.{eq_true, eq_itself, bulk_is, items_are}
 use Rattle.block_laws.proofs.Talks.{Talks, over_talks, say_talks, texts_talks, null_array_talks, null_bulk_talks, told_talks, status_talks, done_talks, queued_talks}

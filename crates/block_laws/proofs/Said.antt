@@ -18,8 +18,8 @@ use Rattle.command_blocks.specs.TakeBlocks.{brpop_words, IsPopBlock, Empty, Unre
 use Rattle.command_blocks.specs.ReturnBlocks.{ReturnEnd, Contended, goes_on, queued_calls, queued_keys, reading, asking, leaving, taking, Carries, Try, whole_try, IsTry, IsTries, Missing, Useless, Nowhere, Whole, Eighth, Again}
 use Rattle.command_blocks.specs.PassBlocks.{PassEnd, IsReturns, All_returned, Returned, Returned_until, Ended_early, IsRelease, Own, Foreign, tags_among, lock_words, due_words, IsPassBlock, Is_held, Ran}
 use Rattle.command_blocks.specs.Scripts.{Script, Over, Off, Say, Plan, Declare, Undeclare, Publish, Pop, End, Return, Pass, script_of, plainly, if_told, on_done, on_queued, on_number, each_told, on_texts, on_two, on_two_numbers, null_array_in, null_bulk_in, on_null_array, declare_script, pushes, asking_script, publish_script, keep_script, kept_by, on_popped, popping, pop_script, end_script, queued_script, on_ran, leave_script, take_script, carried_for, route_script, on_entry, try_script, tries_script, return_script, on_released, on_token, release_script, returns_script, on_locked, pass_script, rest_of, IsSaid}
-use Rattle.command_blocks.specs.declared.block.Side.{Side}
-use Rattle.command_blocks.specs.declared.block.Side.TheVariants.{Right}
+use Rattle.command_blocks.specs.declared.side.Side.{Side}
+use Rattle.command_blocks.specs.declared.side.Side.TheVariants.{Right}
 use Rattle.block_laws.specs.Rows.{IsPlanBlock}
 use Rattle.block_laws.proofs.Values.{eq_itself, eq_true, layer-Status, layer-Bulk, items_of-Array, bulk_of-Bulk, texts_of-bulks, numbers_in-integers, pair_of-pair}
 use Rattle.block_laws.proofs.Good.{status_listed, number_listed, null_array_listed, null_bulk_listed}

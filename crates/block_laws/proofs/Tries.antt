@@ -11,7 +11,7 @@ use Rattle.command_blocks.specs.Setting.{Setting}
 use Rattle.command_blocks.specs.Calls.{Call, call, push_word}
 use Rattle.command_blocks.specs.ReturnBlocks.{ReturnEnd, Contended, goes_on, queued_calls, queued_keys, reading, asking, leaving, taking, Carries, Try, whole_try, IsTry, IsTries}
 use Rattle.command_blocks.specs.Scripts.{Script, plainly, on_queued, on_texts, asking_script, queued_script, on_ran, leave_script, take_script, if_of, carried_for, route_script, on_entry, try_script, tries_script}
-use Rattle.command_blocks.specs.declared.block.Side.{Side}
+use Rattle.command_blocks.specs.declared.side.Side.{Side}
 use Rattle.block_laws.specs.Rows.{IsGood}
 use Rattle.block_laws.proofs.Values.{some_is, eq_true, eq_itself, and_then_is}
 use Rattle.block_laws.proofs.Talks.{Talks, say_talks, texts_talks, ran_talks, entry_talks, done_talks, queued_talks}

@@ -11,7 +11,7 @@ use Rattle.command_blocks.specs.RouteBlocks.{IsDeclareBlock, IsPublishBlock, IsS
 use Rattle.command_blocks.specs.TakeBlocks.{IsPopBlock, IsEndBlock}
 use Rattle.command_blocks.specs.ReturnBlocks.{ReturnEnd, IsReturnBlock}
 use Rattle.command_blocks.specs.PassBlocks.{PassEnd, IsPassBlock}
-use Rattle.command_blocks.specs.declared.block.Side.{Side}
+use Rattle.command_blocks.specs.declared.side.Side.{Side}
 
 -- words that concern no message
 pub data IsNeutral (σ : Setting) : Words → Type 0 where

@@ -3,8 +3,8 @@ use Rattle.std.specs.Prelude.{◌≡◌, ℕ, List, [], ◌∷◌, ◌++◌, cod
 use Rattle.wire_values.specs.declared.value.Value.{Value}
 use Rattle.store_model.specs.Words.{Words}
 use Rattle.queue_keys.specs.Names.{Bytes}
-use Rattle.command_blocks.specs.declared.block.Side.{Side}
-use Rattle.command_blocks.specs.declared.block.Side.TheVariants.{Left, Right}
+use Rattle.command_blocks.specs.declared.side.Side.{Side}
+use Rattle.command_blocks.specs.declared.side.Side.TheVariants.{Left, Right}
 
 -- a call: its moment, its words, and the answer; messages that were pushed before the answer are passed over
 pub record Call : Type 0 where

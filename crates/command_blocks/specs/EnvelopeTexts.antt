@@ -6,7 +6,7 @@ use Rattle.serde_json.specs.Written.{compact_text}
 use Rattle.envelope.specs.Bodies.{body_in, body_of, carried, entry_of, tag_of_bytes}
 use Rattle.envelope.specs.Entries.{EntryParts, entry_at}
 use Rattle.envelope.specs.Envelopes.{envelope_at, parts_in, priority_of}
-use Rattle.envelope.specs.Tags.{is_tag, tag, tag_text}
+use Rattle.delivery_tags.specs.Tags.{is_tag, tag, tag_text}
 use Rattle.queue_keys.specs.Names.{Bytes, same}
 use Rattle.queue_keys.specs.Layouts.{plain}
 use Rattle.command_blocks.specs.Setting.{IsTexts, Setting, Texts, Way, setting_of}

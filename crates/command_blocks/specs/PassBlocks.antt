@@ -9,7 +9,7 @@ use Rattle.queue_keys.specs.Texts.{difference}
 use Rattle.command_blocks.specs.Setting.{Setting}
 use Rattle.command_blocks.specs.Calls.{Call, call}
 use Rattle.command_blocks.specs.ReturnBlocks.{ReturnEnd, Contended, goes_on, leaving, IsTries}
-use Rattle.command_blocks.specs.declared.block.Side.TheVariants.{Right}
+use Rattle.command_blocks.specs.declared.side.Side.TheVariants.{Right}
 
 -- how a pass ends
 pub data PassEnd : Type 0 where
@@ -49,7 +49,7 @@ tags_among σ (x ∷ xs) = if σ.is_tag x then x ∷ tags_among σ xs else tags_
 abbrev pub lock_words : Setting → Bytes → Words
 lock_words σ token = codes "SET" ∷ σ.mutex ∷ token ∷ codes "NX" ∷ codes "EX" ∷ codes "300" ∷ []
 
--- the ten oldest members of the index that were taken at least v seconds before this moment
+-- of the members of the index that were taken at least v seconds before this moment the ten youngest: the store gives the highest scores first
 abbrev pub due_words : Setting → ℕ → ℕ → Words
 due_words σ at v = codes "ZREVRANGEBYSCORE" ∷ σ.index ∷ difference at v ∷ codes "0" ∷ codes "LIMIT" ∷ codes "0" ∷ codes "10" ∷ []
 

@@ -7,7 +7,7 @@ use Rattle.queue_keys.specs.Names.{Bytes}
 use Rattle.command_blocks.specs.Answers.{integers}
 use Rattle.command_blocks.specs.Setting.{Setting}
 use Rattle.command_blocks.specs.Calls.{Call, call, push_word}
-use Rattle.command_blocks.specs.declared.block.Side.{Side}
+use Rattle.command_blocks.specs.declared.side.Side.{Side}
 
 -- how a return ends
 pub data ReturnEnd : Type 0 where

@@ -13,8 +13,8 @@ use Rattle.command_blocks.specs.Calls.{Call, push_word}
 use Rattle.command_blocks.specs.TakeBlocks.{brpop_words}
 use Rattle.command_blocks.specs.PassBlocks.{tags_among, lock_words, due_words}
 use Rattle.command_blocks.specs.Blocks.{CounterUse, Drawing, Passing, Other}
-use Rattle.command_blocks.specs.declared.block.Side.{Side}
-use Rattle.command_blocks.specs.declared.block.Side.TheVariants.{Right}
+use Rattle.command_blocks.specs.declared.side.Side.{Side}
+use Rattle.command_blocks.specs.declared.side.Side.TheVariants.{Right}
 
 -- a block from some point on: it is over, its last answer wasn't a listed one, or it says these words (by the moment) and goes on by the answer
 pub data Script : Type 0 where

@@ -3,6 +3,6 @@
 #![tactic(auto)]
 
 pub mod answer;
-mod block;
+mod side;
 
-pub use block::{BlockEnd, CoreFault, Side};
+pub use side::Side;

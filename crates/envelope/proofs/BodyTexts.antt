@@ -13,17 +13,17 @@ use Rattle.serde_json.proofs.OnLiterals.{serde_json_on_literals}
 use Rattle.envelope.specs.Bodies.{if_plain, marked_text, body_of, entry_text, entry_of, exchange_or, routing_key_or, parts_at, tree_in, body_in, carried}
 use Rattle.envelope.specs.Entries.{EntryParts, entry_at, entry_data, entry_in, of_items, max_entry}
 use Rattle.envelope.specs.Envelopes.{Parts, said_by, parts_or_none, parts_in, json_at, envelope_of, envelope_at, tree_at, are_short, max_levels, max_bytes}
-use Rattle.envelope.specs.Marks.{marked}
-use Rattle.envelope.specs.Reading.{needed, wanted}
-use Rattle.envelope.specs.Sorted.{Sorted, SortedItems}
-use Rattle.envelope.specs.declared.fault.EnvelopeFault.{EnvelopeFault}
-use Rattle.envelope.specs.declared.fault.EnvelopeFault.TheVariants.{TooLong, NotJson}
+use Rattle.envelope_trees.specs.Marks.{marked}
+use Rattle.envelope_trees.specs.Reading.{needed, wanted}
+use Rattle.envelope_trees.specs.Sorted.{Sorted, SortedItems}
+use Rattle.envelope_trees.specs.declared.fault.EnvelopeFault.{EnvelopeFault}
+use Rattle.envelope_trees.specs.declared.fault.EnvelopeFault.TheVariants.{TooLong, NotJson}
 use Rattle.envelope.proofs.EnvelopeTags.{ok_is, envelope_said, read_said}
-use Rattle.envelope.proofs.Kept.{depth-marked, float-marked}
-use Rattle.envelope.proofs.MarkedTrees.{sorted-marked, marked_twice}
+use Rattle.envelope_trees.proofs.Kept.{depth-marked, float-marked}
+use Rattle.envelope_trees.proofs.MarkedTrees.{sorted-marked, marked_twice}
 use Rattle.envelope.proofs.Said.{IsPlain, bind_ok, wanted_is, needed_is, said_is}
-use Rattle.envelope.proofs.SortedTrees.{read_sorted}
-use Rattle.envelope.proofs.TextsBack.{read-compact_text}
+use Rattle.envelope_trees.proofs.SortedTrees.{read_sorted}
+use Rattle.envelope_trees.proofs.TextsBack.{read-compact_text}
 
 plain_ok : (d : Data) → IsPlain d → if_plain d ≡ Some d
 plain_ok d h = let s : nat_le (depth d) max_levels ≡ true = let x = h.shallow in grind (arith, nat_tests) in rw (s, h.whole) refl

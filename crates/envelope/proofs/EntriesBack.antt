@@ -11,7 +11,7 @@ use Rattle.envelope.specs.Envelopes.{Parts, envelope_at, said_by}
 use Rattle.envelope.proofs.BodyTexts.{entry_read, envelope_from_read}
 use Rattle.envelope.proofs.EntryTexts.{entry_fits, entry_is}
 use Rattle.envelope.proofs.Said.{said_is}
-use Rattle.envelope.proofs.SortedTrees.{read_sorted}
+use Rattle.envelope_trees.proofs.SortedTrees.{read_sorted}
 
 -- the array of an envelope's tree and its two names
 abbrev pub array_of : Data → Parts → Data

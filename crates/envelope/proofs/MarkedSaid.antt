@@ -9,12 +9,12 @@ use Rattle.serde_json.specs.Data.{Data, null, boolean, number, string, array, ob
 use Rattle.serde_json.specs.Find.{get, get_member, as_str, as_number, as_bool}
 use Rattle.serde_json.specs.Written.{compact_text}
 use Rattle.serde_json.proofs.Views.{get_member-put, get_member-put_other}
-use Rattle.envelope.specs.Marks.{change, on_object, with_member, marked_object, marked, is_marked, is_marked_in_headers, is_marked_in_info}
-use Rattle.envelope.specs.Members.{text_at, object_at, if_object, says_word, is_word_any_case, is_nothing, is_true_at}
+use Rattle.envelope_trees.specs.Marks.{change, on_object, with_member, marked_object, marked, is_marked, is_marked_in_headers, is_marked_in_info}
+use Rattle.envelope_trees.specs.Members.{text_at, object_at, if_object, says_word, is_word_any_case, is_nothing, is_true_at}
 use Rattle.envelope.specs.Envelopes.{Parts, said_by, priority_of, held_number, max_bytes, max_text}
-use Rattle.envelope.specs.Tags.{tag_of_text}
-use Rattle.envelope.proofs.Kept.{depth-marked, float-marked}
-use Rattle.envelope.proofs.MarkedTrees.{marked_twice}
+use Rattle.delivery_tags.specs.Tags.{tag_of_text}
+use Rattle.envelope_trees.proofs.Kept.{depth-marked, float-marked}
+use Rattle.envelope_trees.proofs.MarkedTrees.{marked_twice}
 use Rattle.envelope.proofs.Said.{said_is, said_from}
 use Rattle.envelope.proofs.Told.{IsTold, IsPropertiesTold, told_by, told_from}
 

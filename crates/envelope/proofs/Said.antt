@@ -5,10 +5,10 @@ use Rattle.std.proofs.lemmas.Bool.Decides.{nat_tests}
 use Rattle.serde_json.specs.Data.{Data, depth}
 use Rattle.serde_json.specs.Read.{max_depth, read}
 use Rattle.serde_json.specs.Written.{has_float, compact_text}
-use Rattle.envelope.specs.Marks.{marked}
-use Rattle.envelope.specs.declared.fault.EnvelopeFault.{EnvelopeFault}
-use Rattle.envelope.specs.declared.fault.EnvelopeFault.TheVariants.{TooLong, TooDeep, Float}
-use Rattle.envelope.specs.Reading.{◌>>=◌, needed, wanted}
+use Rattle.envelope_trees.specs.Marks.{marked}
+use Rattle.envelope_trees.specs.declared.fault.EnvelopeFault.{EnvelopeFault}
+use Rattle.envelope_trees.specs.declared.fault.EnvelopeFault.TheVariants.{TooLong, TooDeep, Float}
+use Rattle.envelope_trees.specs.Reading.{◌>>=◌, needed, wanted}
 use Rattle.envelope.specs.Envelopes.{Parts, parts_of, said_by, tree_at, envelope_of, envelope_at, max_bytes, max_text, max_levels}
 use Rattle.envelope.proofs.Texts.{json_some}
 

@@ -7,13 +7,13 @@ use Rattle.base64.specs.Engines.{standard}
 use Rattle.base64.specs.GeneralPurpose.{decoded_of}
 use Rattle.serde_json.specs.Data.{Data}
 use Rattle.serde_json.specs.Find.{get}
-use Rattle.envelope.specs.declared.fault.Field.TheVariants as field
-use Rattle.envelope.specs.declared.fault.EnvelopeFault.{EnvelopeFault}
-use Rattle.envelope.specs.declared.fault.EnvelopeFault.TheVariants.{TooLong, Missing, Compressed, BadBody}
+use Rattle.envelope_trees.specs.declared.fault.Field.TheVariants as field
+use Rattle.envelope_trees.specs.declared.fault.EnvelopeFault.{EnvelopeFault}
+use Rattle.envelope_trees.specs.declared.fault.EnvelopeFault.TheVariants.{TooLong, Missing, Compressed, BadBody}
 use Rattle.envelope.specs.Envelopes.{Parts, said_by, parts_of, properties_said, info_said, content_of, if_text, are_short}
-use Rattle.envelope.specs.Members.{text_at, object_at, says_word, is_word_any_case, is_nothing}
-use Rattle.envelope.specs.Reading.{◌>>=◌, needed, wanted}
-use Rattle.envelope.specs.Tags.{tag_of_text}
+use Rattle.envelope_trees.specs.Members.{text_at, object_at, says_word, is_word_any_case, is_nothing}
+use Rattle.envelope_trees.specs.Reading.{◌>>=◌, needed, wanted}
+use Rattle.delivery_tags.specs.Tags.{tag_of_text}
 use Rattle.envelope.proofs.Said.{bind_ok, wanted_is, needed_is, said_is}
 
 same_parts : (a b : Parts) → ◌≡◌ {A = Result Parts EnvelopeFault} (Ok a) (Ok b) → a ≡ b

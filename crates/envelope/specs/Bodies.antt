@@ -1,13 +1,13 @@
 -- What bytes tell of the message in them: the words in which histories of messages are said.
-use Rattle.std.specs.Prelude.{ℕ, ◌&&◌, not, nat_le, if◌then◌else◌, List, [], ◌∷◌, Option, Some, None, option_map, option_and_then}
+use Rattle.std.specs.Prelude.{ℕ, ◌&&◌, not, nat_le, if◌then◌else◌, List, [], Option, Some, None, option_map, option_and_then}
 use Rattle.std.specs.Result.{result_ok}
 use Rattle.serde_json.specs.Data.{Data, depth}
 use Rattle.serde_json.specs.Read.{read}
 use Rattle.serde_json.specs.Written.{has_float, compact_text}
 use Rattle.envelope.specs.Entries.{entry_at, entry_data, entry_in}
 use Rattle.envelope.specs.Envelopes.{Parts, parts_in, envelope_at, max_levels}
-use Rattle.envelope.specs.Marks.{marked}
-use Rattle.envelope.specs.Tags.{tag_text}
+use Rattle.envelope_trees.specs.Marks.{marked}
+use Rattle.delivery_tags.specs.Tags.{tag_text}
 
 -- what the envelope says, where the bytes are one
 abbrev pub parts_at : List ℕ → Option Parts
@@ -16,15 +16,6 @@ parts_at v = option_map parts_in (result_ok (envelope_at v))
 -- the text of an envelope's tag, none where the bytes are no envelope
 abbrev pub tag_of_bytes : List ℕ → Option (List ℕ)
 tag_of_bytes v = option_map (λ p. tag_text p.tag) (parts_at v)
-
--- an exchange that has a name
-abbrev pub if_named : List ℕ → Option (List ℕ)
-if_named [] = None
-if_named (b ∷ e) = Some (b ∷ e)
-
--- the exchange of an envelope, none where it is empty
-abbrev pub exchange_of : List ℕ → Option (List ℕ)
-exchange_of v = option_and_then (λ p. if_named p.exchange) (parts_at v)
 
 -- ---- bodies
 
@@ -69,10 +60,6 @@ tree_in u = option_and_then if_plain (option_map (λ e. e.tree) (option_and_then
 -- the body of an entry's envelope
 abbrev pub body_in : List ℕ → List ℕ
 body_in u = marked_text (tree_in u)
-
--- the exchange that an entry tells, none where it is empty or the bytes are no entry
-abbrev pub exchange_in : List ℕ → Option (List ℕ)
-exchange_in u = option_and_then (λ e. if_named e.exchange) (result_ok (entry_at u))
 
 -- the envelope of an entry with its two marks set, none where the bytes are no entry
 abbrev pub carried : List ℕ → Option (List ℕ)

@@ -3,9 +3,9 @@ use Rattle.std.specs.Prelude.{ℕ, List, length, nat_le, Option, None, option_an
 use Rattle.serde_json.specs.Data.{Data, string, array, Items, no_items, item}
 use Rattle.serde_json.specs.Find.{as_str, as_array}
 use Rattle.envelope.specs.Envelopes.{parts_in, json_at, envelope_of, are_short}
-use Rattle.envelope.specs.Reading.{◌>>=◌, needed, wanted}
-use Rattle.envelope.specs.declared.fault.EnvelopeFault.{EnvelopeFault}
-use Rattle.envelope.specs.declared.fault.EnvelopeFault.TheVariants.{TooLong, NotJson}
+use Rattle.envelope_trees.specs.Reading.{◌>>=◌, needed, wanted}
+use Rattle.envelope_trees.specs.declared.fault.EnvelopeFault.{EnvelopeFault}
+use Rattle.envelope_trees.specs.declared.fault.EnvelopeFault.TheVariants.{TooLong, NotJson}
 
 -- an envelope's tree, and the exchange and the routing key by which it is returned
 pub record EntryParts : Type 0 where

@@ -7,13 +7,13 @@ use Rattle.serde_json.specs.Read.{read}
 use Rattle.serde_json.specs.Written.{has_float, compact_text}
 use Rattle.base64.specs.Engines.{standard}
 use Rattle.base64.specs.GeneralPurpose.{decoded_of}
-use Rattle.envelope.specs.Tags.{tag_of_text}
-use Rattle.envelope.specs.Members.{text_at, object_at, says_word, is_word_any_case, is_nothing}
-use Rattle.envelope.specs.Marks.{marked}
-use Rattle.envelope.specs.declared.fault.Field.TheVariants as field
-use Rattle.envelope.specs.declared.fault.EnvelopeFault.{EnvelopeFault}
-use Rattle.envelope.specs.declared.fault.EnvelopeFault.TheVariants.{TooLong, NotJson, TooDeep, Float, Missing, Compressed, BadBody}
-use Rattle.envelope.specs.Reading.{◌>>=◌, needed, wanted}
+use Rattle.delivery_tags.specs.Tags.{tag_of_text}
+use Rattle.envelope_trees.specs.Members.{text_at, object_at, says_word, is_word_any_case, is_nothing}
+use Rattle.envelope_trees.specs.Marks.{marked}
+use Rattle.envelope_trees.specs.declared.fault.Field.TheVariants as field
+use Rattle.envelope_trees.specs.declared.fault.EnvelopeFault.{EnvelopeFault}
+use Rattle.envelope_trees.specs.declared.fault.EnvelopeFault.TheVariants.{TooLong, NotJson, TooDeep, Float, Missing, Compressed, BadBody}
+use Rattle.envelope_trees.specs.Reading.{◌>>=◌, needed, wanted}
 
 -- what an envelope says: its content, the number of its tag, and where it was sent
 pub record Parts : Type 0 where

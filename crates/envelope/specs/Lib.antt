@@ -1,14 +1,8 @@
 pub mod Bodies
 pub mod Entries
 pub mod Envelopes
-pub mod Laws
-pub mod Marks
-pub mod Members
-pub mod Reading
 pub mod Relations
-pub mod Sealed
+pub mod SealedTrees
 pub mod Shown
 pub mod ShownEntry
-pub mod Sorted
 pub mod Steps
-pub mod Tags

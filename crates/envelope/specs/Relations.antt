@@ -8,9 +8,9 @@ use Rattle.serde_json.specs.Read.{read}
 use Rattle.serde_json.specs.Written.{has_float, compact_text}
 use Rattle.envelope.specs.Entries.{EntryParts, entry_data, max_entry}
 use Rattle.envelope.specs.Envelopes.{Parts, max_bytes, max_levels, max_name, max_text}
-use Rattle.envelope.specs.Marks.{marked}
-use Rattle.envelope.specs.Members.{is_nothing, is_word_any_case, object_at, text_at}
-use Rattle.envelope.specs.Tags.{tag_of_text}
+use Rattle.envelope_trees.specs.Marks.{marked}
+use Rattle.envelope_trees.specs.Members.{is_nothing, is_word_any_case, object_at, text_at}
+use Rattle.delivery_tags.specs.Tags.{tag_of_text}
 
 -- a delivery_info names the exchange and the routing key
 pub record IsInfo (info : Data) (p : Parts) : Type 0 where

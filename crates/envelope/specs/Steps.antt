@@ -1,16 +1,16 @@
--- The last steps of readings, each from what the steps before it found.
+-- The last steps of readings, each from what the steps before it found. Serves the proofs of code.
 use Rattle.std.specs.Prelude.{ℕ, List, length, codes, nat_le, Result, Ok}
 use Rattle.serde_json.specs.Data.{Data}
 use Rattle.serde_json.specs.Find.{get}
 use Rattle.serde_json.specs.Written.{compact_text}
 use Rattle.envelope.specs.Entries.{EntryParts, entry_in}
 use Rattle.envelope.specs.Envelopes.{Parts, are_short, content_of, envelope_of, max_bytes, max_text, properties_said}
-use Rattle.envelope.specs.Marks.{marked}
-use Rattle.envelope.specs.Members.{is_nothing, object_at}
-use Rattle.envelope.specs.Reading.{◌>>=◌, needed, wanted}
-use Rattle.envelope.specs.declared.fault.EnvelopeFault.{EnvelopeFault}
-use Rattle.envelope.specs.declared.fault.EnvelopeFault.TheVariants.{TooLong, NotJson, Missing, Compressed, BadBody}
-use Rattle.envelope.specs.declared.fault.Field.TheVariants as field
+use Rattle.envelope_trees.specs.Marks.{marked}
+use Rattle.envelope_trees.specs.Members.{is_nothing, object_at}
+use Rattle.envelope_trees.specs.Reading.{◌>>=◌, needed, wanted}
+use Rattle.envelope_trees.specs.declared.fault.EnvelopeFault.{EnvelopeFault}
+use Rattle.envelope_trees.specs.declared.fault.EnvelopeFault.TheVariants.{TooLong, NotJson, Missing, Compressed, BadBody}
+use Rattle.envelope_trees.specs.declared.fault.Field.TheVariants as field
 
 -- what is said, once the headers, the body's content and the names are looked at
 abbrev pub checked_parts : List ℕ → Data → Parts → Result Parts EnvelopeFault

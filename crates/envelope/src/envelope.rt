@@ -3,11 +3,11 @@ ghost use Rattle.std.specs.Prelude.{◌≡◌, Ok, IfOk, IsUtf8, length};
 ghost use Rattle.serde_json.specs.View.{view as data_of};
 ghost use Rattle.serde_json.specs.Written.{compact_text};
 ghost use Rattle.envelope.specs.Envelopes.{envelope_at, parts_in, priority_of, said_by};
-ghost use Rattle.envelope.specs.Marks.{is_marked};
+ghost use Rattle.envelope_trees.specs.Marks.{is_marked};
 ghost use Rattle.envelope.specs.Shown.{parts_view};
 
-use crate::marks::has_marks;
-use crate::tag::Tag;
+use delivery_tags::Tag;
+use envelope_trees::marks::has_marks;
 use serde_json::Value;
 use std::alloc::{AllocError, Global};
 use std::marker::Model;

@@ -5,25 +5,25 @@ ghost use Rattle.serde_json.specs.Read.{max_depth, read as json_in};
 ghost use Rattle.serde_json.specs.View.{view as data_of};
 ghost use Rattle.serde_json.specs.Written.{compact_text, has_float};
 ghost use Rattle.envelope.specs.Envelopes.{Parts, are_short, content_of, envelope_at, envelope_of, json_at, max_text, parts_of, properties_said, said_by, tree_at};
-ghost use Rattle.envelope.specs.Marks.{marked};
-ghost use Rattle.envelope.specs.Members.{text_at};
-ghost use Rattle.envelope.specs.Reading.{Gives, needed, wanted};
+ghost use Rattle.envelope_trees.specs.Marks.{marked};
+ghost use Rattle.envelope_trees.specs.Members.{text_at};
+ghost use Rattle.envelope_trees.specs.Reading.{Gives, needed, wanted};
 ghost use Rattle.envelope.specs.Shown.{parts_view, properties_view};
 ghost use Rattle.envelope.specs.Steps.{checked_parts, held_parts, short_parts};
-ghost use Rattle.envelope.specs.Tags.{tag_of_text};
-ghost use Rattle.envelope.specs.declared.fault.EnvelopeFault.TheVariants.{BadBody, Missing, NotJson, TooLong};
-ghost use Rattle.envelope.specs.declared.fault.Field.TheVariants as field;
+ghost use Rattle.delivery_tags.specs.Tags.{tag_of_text};
+ghost use Rattle.envelope_trees.specs.declared.fault.EnvelopeFault.TheVariants.{BadBody, Missing, NotJson, TooLong};
+ghost use Rattle.envelope_trees.specs.declared.fault.Field.TheVariants as field;
 
 use crate::envelope::{Envelope, Found, Tree};
-use crate::fault::{EnvelopeFault, Field};
-use crate::find::{
-    is_nothing_at, is_word_any_case_at, is_word_at, needed_object, needed_text, text, want,
-};
-use crate::marks::marked_copy;
-use crate::tag::Tag;
-use crate::walk::{holds_float, nests_within};
 use base64::DecodeAllocError;
 use base64::engine::general_purpose::STANDARD;
+use delivery_tags::Tag;
+use envelope_trees::find::{
+    is_nothing_at, is_word_any_case_at, is_word_at, needed_object, needed_text, text, want,
+};
+use envelope_trees::marks::marked_copy;
+use envelope_trees::walk::{holds_float, nests_within};
+use envelope_trees::{EnvelopeFault, Field};
 use serde_json::Value;
 use std::alloc::{AllocError, Global};
 use wire_values::Bytes;

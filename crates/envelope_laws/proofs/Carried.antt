@@ -11,19 +11,19 @@ use Rattle.serde_json.specs.Written.{compact_text}
 use Rattle.envelope.specs.Bodies.{carried}
 use Rattle.envelope.specs.Entries.{EntryParts, entry_at, entry_in, of_items, max_entry}
 use Rattle.envelope.specs.Envelopes.{Parts, are_short, envelope_of, json_at, max_bytes, parts_in, parts_or_none, said_by}
-use Rattle.envelope.specs.Marks.{marked}
-use Rattle.envelope.specs.Reading.{needed, wanted}
-use Rattle.envelope.specs.Sorted.{Sorted}
-use Rattle.envelope.specs.Tags.{tag_text}
-use Rattle.envelope.specs.declared.fault.EnvelopeFault.{EnvelopeFault}
-use Rattle.envelope.specs.declared.fault.EnvelopeFault.TheVariants.{TooLong, NotJson}
+use Rattle.envelope_trees.specs.Marks.{marked}
+use Rattle.envelope_trees.specs.Reading.{needed, wanted}
+use Rattle.envelope_trees.specs.Sorted.{Sorted}
+use Rattle.delivery_tags.specs.Tags.{tag_text}
+use Rattle.envelope_trees.specs.declared.fault.EnvelopeFault.{EnvelopeFault}
+use Rattle.envelope_trees.specs.declared.fault.EnvelopeFault.TheVariants.{TooLong, NotJson}
 use Rattle.envelope.proofs.EnvelopeTags.{envelope_said, ok_is}
-use Rattle.envelope.proofs.Kept.{depth-marked, float-marked}
+use Rattle.envelope_trees.proofs.Kept.{depth-marked, float-marked}
 use Rattle.envelope.proofs.MarkedSaid.{is_marked-marked, priority-marked, said_marked}
-use Rattle.envelope.proofs.MarkedTrees.{sorted-marked}
+use Rattle.envelope_trees.proofs.MarkedTrees.{sorted-marked}
 use Rattle.envelope.proofs.Said.{bind_ok, envelope_is, needed_is, said_is}
-use Rattle.envelope.proofs.SortedTrees.{read_sorted}
-use Rattle.envelope.proofs.TextsBack.{read-compact_text}
+use Rattle.envelope_trees.proofs.SortedTrees.{read_sorted}
+use Rattle.envelope_trees.proofs.TextsBack.{read-compact_text}
 use Rattle.json_texts.specs.Trees.{HasTexts}
 use Rattle.json_texts.proofs.Trees.{reads_texts}
 use Rattle.envelope_laws.specs.Carried.{IsCarried}

@@ -9,12 +9,12 @@ use Rattle.serde_json.specs.Written.{compact_text, items_have_float}
 use Rattle.envelope.specs.Bodies.{carried, entry_of, entry_text, exchange_or, if_plain, parts_at, routing_key_or}
 use Rattle.envelope.specs.Entries.{EntryParts, entry_at, entry_data, entry_for}
 use Rattle.envelope.specs.Envelopes.{envelope_at, max_levels, parts_in}
-use Rattle.envelope.specs.Marks.{marked}
+use Rattle.envelope_trees.specs.Marks.{marked}
 use Rattle.envelope.proofs.BodyTexts.{envelope_from_read}
 use Rattle.envelope.proofs.EntryTexts.{entry_fits, entry_is}
 use Rattle.envelope.proofs.Said.{IsPlain, said_is}
-use Rattle.envelope.proofs.SortedTrees.{read_sorted}
-use Rattle.envelope.proofs.TextsBack.{read-compact_text}
+use Rattle.envelope_trees.proofs.SortedTrees.{read_sorted}
+use Rattle.envelope_trees.proofs.TextsBack.{read-compact_text}
 use Rattle.json_texts.proofs.Trees.{reads_texts}
 use Rattle.envelope_laws.proofs.Names.{names_utf8}
 use Rattle.envelope_laws.proofs.Written.{compact_utf8}

@@ -10,10 +10,10 @@ use Rattle.serde_json.specs.Find.{as_str}
 use Rattle.serde_json.specs.Read.{read}
 use Rattle.envelope.specs.Entries.{EntryParts, entry_at, entry_data, entry_in, max_entry, of_items}
 use Rattle.envelope.specs.Envelopes.{Parts, are_short, envelope_of, json_at, said_by}
-use Rattle.envelope.specs.Reading.{needed, wanted}
+use Rattle.envelope_trees.specs.Reading.{needed, wanted}
 use Rattle.envelope.specs.Relations.{IsEntry}
-use Rattle.envelope.specs.declared.fault.EnvelopeFault.{EnvelopeFault}
-use Rattle.envelope.specs.declared.fault.EnvelopeFault.TheVariants.{NotJson, TooLong}
+use Rattle.envelope_trees.specs.declared.fault.EnvelopeFault.{EnvelopeFault}
+use Rattle.envelope_trees.specs.declared.fault.EnvelopeFault.TheVariants.{NotJson, TooLong}
 use Rattle.envelope.proofs.EnvelopeTags.{envelope_said}
 use Rattle.envelope.proofs.Said.{bind_ok, needed_is, wanted_is}
 use Rattle.envelope.proofs.Texts.{json_some}

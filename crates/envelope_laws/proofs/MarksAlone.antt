@@ -4,8 +4,8 @@ use Rattle.std.proofs.lemmas.Slice.Eq.{bytes_eq-Decides}
 use Rattle.serde_json.specs.Data.{Data, null, boolean, number, string, array, object, Members, put}
 use Rattle.serde_json.specs.Find.{get}
 use Rattle.serde_json.proofs.Views.{get_member-put}
-use Rattle.envelope.specs.Marks.{change, marked_object, on_object, with_member}
-use Rattle.envelope.specs.Members.{if_object, object_at}
+use Rattle.envelope_trees.specs.Marks.{change, marked_object, on_object, with_member}
+use Rattle.envelope_trees.specs.Members.{if_object, object_at}
 use Rattle.envelope.proofs.MarkedSaid.{get_marked, get_other, get_same}
 use Rattle.envelope_laws.specs.Marks.{IsMarkedAlone}
 

@@ -4,8 +4,8 @@ use Rattle.std.specs.Cmp.Lexicographic.{slice_cmp}
 use Rattle.json.proofs.Printed.Utf8.{IsUtf8-are_ascii}
 use Rattle.serde_json.specs.Data.{Data, null, boolean, number, string, array, object, Members, no_members, member, put}
 use Rattle.serde_json.specs.Find.{as_str, get, get_member}
-use Rattle.envelope.specs.Marks.{change, marked, marked_object, on_object, with_member}
-use Rattle.envelope.specs.Members.{if_object, object_at, text_at}
+use Rattle.envelope_trees.specs.Marks.{change, marked, marked_object, on_object, with_member}
+use Rattle.envelope_trees.specs.Members.{if_object, object_at, text_at}
 use Rattle.json_texts.specs.Trees.{HasTexts, MembersHaveTexts}
 use Rattle.json_texts.proofs.Trees.{Holds, Holds-and_then, picked, texts-put}
 

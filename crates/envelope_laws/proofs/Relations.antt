@@ -13,12 +13,12 @@ use Rattle.base64.specs.declared.decode.DecodeError.{DecodeError}
 use Rattle.base64.proofs.EngineFacts.{decode_of-encode_of, decode_of_strict}
 use Rattle.serde_json.specs.Data.{Data}
 use Rattle.envelope.specs.Envelopes.{Parts, content_of, envelope_at, if_text, max_name, parts_in, parts_or_none, said_by}
-use Rattle.envelope.specs.Members.{says_word}
+use Rattle.envelope_trees.specs.Members.{says_word}
 use Rattle.envelope.specs.Relations.{HasMembers, IsEnvelope, IsProperties, IsTree}
 use Rattle.envelope.proofs.BodyTexts.{envelope_from_read}
 use Rattle.envelope.proofs.EntryTexts.{short_names}
 use Rattle.envelope.proofs.Said.{envelope_is, said_from, said_is}
-use Rattle.envelope.proofs.SealedTrees.{content_back}
+use Rattle.envelope.proofs.Contents.{content_back}
 use Rattle.envelope.proofs.Told.{IsPropertiesTold, IsTold, told_by, told_from}
 use Rattle.json_texts.specs.Trees.{HasTexts}
 use Rattle.json_texts.proofs.Trees.{reads_texts}

@@ -11,17 +11,19 @@ use Rattle.serde_json.specs.Find.{get}
 use Rattle.serde_json.specs.View.{view as data_of}
 use Rattle.serde_json.specs.Written.{has_float}
 use Rattle.envelope.specs.Envelopes.{Parts, content_of, said_by}
-use Rattle.envelope.specs.Members.{if_object, is_nothing, object_at, text_at}
-use Rattle.envelope.specs.Reading.{needed, wanted}
-use Rattle.envelope.specs.Sealed.{seal_of, sealed, sealed_info, sealed_properties}
-use Rattle.envelope.specs.Tags.{tag_of_text, tag_text}
-use Rattle.envelope.specs.declared.fault.Field.TheVariants as field
-use Rattle.envelope.specs.declared.fault.EnvelopeFault.TheVariants.{BadBody, Compressed, Float, Missing, TooDeep}
-use Rattle.envelope.specs.declared.sealing.Draft.{Draft}
+use Rattle.envelope_trees.specs.Members.{if_object, is_nothing, object_at, text_at}
+use Rattle.envelope_trees.specs.Reading.{needed, wanted}
+use Rattle.envelope.specs.SealedTrees.{sealed_info, sealed_properties}
+use Rattle.sealed_drafts.specs.Sealed.{seal_of, sealed}
+use Rattle.delivery_tags.specs.Tags.{tag_of_text, tag_text}
+use Rattle.envelope_trees.specs.declared.fault.Field.TheVariants as field
+use Rattle.envelope_trees.specs.declared.fault.EnvelopeFault.TheVariants.{BadBody, Compressed, Float, Missing, TooDeep}
+use Rattle.sealed_drafts.specs.declared.sealing.Draft.{Draft}
 use Rattle.envelope.proofs.EnvelopeTags.{envelope_said}
 use Rattle.envelope.proofs.Said.{bind_ok, said_is, wanted_is}
-use Rattle.envelope.proofs.SealedTrees.{content_back, sealed_is}
-use Rattle.envelope.proofs.TagTexts.{tag_of_text-tag_text}
+use Rattle.envelope.proofs.Contents.{content_back}
+use Rattle.sealed_drafts.proofs.SealedTrees.{sealed_is}
+use Rattle.delivery_tags.proofs.TagTexts.{tag_of_text-tag_text}
 use Rattle.envelope.proofs.Told.{told_by}
 use Rattle.envelope_laws.proofs.Octets.{utf8_bytes}
 

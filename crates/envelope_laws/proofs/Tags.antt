@@ -4,7 +4,7 @@ use Rattle.std.specs.Int.{w128, from_be_bytes}
 use Rattle.std.proofs.lemmas.Slice.Eq.{bytes_eq-Decides}
 use Rattle.uuid.specs.Text.{parsed}
 use Rattle.uuid.proofs.TextLemmas.{by_index_length}
-use Rattle.envelope.specs.Tags.{if_spelled, is_tag, tag_text}
+use Rattle.delivery_tags.specs.Tags.{if_spelled, is_tag, tag_text}
 
 spelled_length : (s : List ℕ) (n : ℕ) → is_some (if_spelled s n) ≡ true → length s ≡ 36
 spelled_length s n e = go (bytes_eq s (tag_text n)) refl e

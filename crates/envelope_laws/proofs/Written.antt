@@ -6,7 +6,7 @@ use Rattle.json.specs.Print.{quoted}
 use Rattle.json.proofs.Printed.Utf8.{IsUtf8-are_ascii, IsUtf8-boolean, IsUtf8-quoted}
 use Rattle.serde_json.specs.Data.{Num, unsigned, negative, float, Data, null, boolean, number, string, array, object, Items, no_items, item, Members, no_members, member}
 use Rattle.serde_json.specs.Written.{comma_if, compact_text, items_text, members_text, number_text}
-use Rattle.envelope.specs.Sorted.{IsRead, Sorted, SortedItems, SortedMembers}
+use Rattle.envelope_trees.specs.Sorted.{IsRead, Sorted, SortedItems, SortedMembers}
 use Rattle.json_texts.specs.Trees.{HasTexts, ItemsHaveTexts, MembersHaveTexts}
 
 number_utf8 : (n : Num) → IsRead n → IsUtf8 (number_text n)

@@ -5,8 +5,8 @@ use Rattle.serde_json.specs.Written.{compact_text}
 use Rattle.envelope.specs.Bodies.{carried, entry_of, tag_of_bytes}
 use Rattle.envelope.specs.Entries.{EntryParts, entry_at, entry_data, entry_for}
 use Rattle.envelope.specs.Envelopes.{envelope_at, parts_in, priority_of}
-use Rattle.envelope.specs.Marks.{is_marked, marked}
-use Rattle.envelope.specs.Tags.{tag_text}
+use Rattle.envelope_trees.specs.Marks.{is_marked, marked}
+use Rattle.delivery_tags.specs.Tags.{tag_text}
 
 -- the bytes are an envelope again: the entry's tree with both marks set, which says what that tree says
 pub record IsCarried (e : EntryParts) (v : List ℕ) : Type 0 where

@@ -3,3 +3,4 @@ pub mod Carried
 pub mod Marks
 pub mod Relations
 pub mod Sealed
+pub mod Laws

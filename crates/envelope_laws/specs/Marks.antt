@@ -2,8 +2,8 @@
 use Rattle.std.specs.Prelude.{◌≡◌, ℕ, List, codes, true, Some}
 use Rattle.serde_json.specs.Data.{Data, boolean}
 use Rattle.serde_json.specs.Find.{get}
-use Rattle.envelope.specs.Marks.{marked}
-use Rattle.envelope.specs.Members.{object_at}
+use Rattle.envelope_trees.specs.Marks.{marked}
+use Rattle.envelope_trees.specs.Members.{object_at}
 
 -- two trees have the same at each name but this one
 abbrev pub AgreeBut : List ℕ → Data → Data → Type 0

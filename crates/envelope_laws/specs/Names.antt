@@ -3,7 +3,7 @@ use Rattle.std.specs.Prelude.{◌≡◌, ℕ, Bool, true, ◌&&◌, nat_le, List
 use Rattle.std.specs.Str.{is_utf8}
 use Rattle.serde_json.specs.Data.{Data}
 use Rattle.envelope.specs.Envelopes.{envelope_at, max_name, parts_in}
-use Rattle.envelope.specs.Tags.{is_tag}
+use Rattle.delivery_tags.specs.Tags.{is_tag}
 
 -- whether it is UTF-8 of at most 255 bytes (a short string of AMQP 0-9-1)
 abbrev pub is_short_text : List ℕ → Bool

@@ -2,8 +2,8 @@
 use Rattle.std.specs.Prelude.{◌≡◌, ℕ, ◌<◌, ◌^◌, Ok}
 use Rattle.serde_json.specs.Data.{Data}
 use Rattle.envelope.specs.Envelopes.{said_by}
-use Rattle.envelope.specs.Sealed.{seal_of, sealed}
-use Rattle.envelope.specs.declared.sealing.Draft.{Draft}
+use Rattle.sealed_drafts.specs.Sealed.{seal_of, sealed}
+use Rattle.sealed_drafts.specs.declared.sealing.Draft.{Draft}
 
 -- what was sealed is the draft's tree under the tag, and says the draft's content, that tag, and the draft's exchange and routing key
 abbrev pub SealsSay : Type 0

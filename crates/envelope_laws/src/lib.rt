@@ -1,6 +1,10 @@
 //! Laws of envelopes, entries and tags that rest on how JSON is read and written as UTF-8.
 #![tactic(auto)]
 
+mod laws;
+
+pub use laws::{bodies_stay, marks_stay, tags_tell, texts_read_back};
+
 ghost use Rattle.envelope_laws.specs.Carried.{EntriesCarryEnvelopes, EnvelopesGoIn};
 ghost use Rattle.envelope_laws.specs.Marks.{MarksAlone};
 ghost use Rattle.envelope_laws.specs.Names.{NamesAreTexts, TagsAreShort};

@@ -8,8 +8,9 @@ use Rattle.serde_json.specs.Data.{Data}
 use Rattle.serde_json.specs.Written.{compact_text}
 use Rattle.envelope.specs.Bodies.{tag_of_bytes}
 use Rattle.envelope.specs.Envelopes.{Parts, envelope_at, parts_in}
-use Rattle.envelope.specs.Tags.{tag_text, if_spelled, is_tag}
-use Rattle.envelope.proofs.EnvelopeTags.{tag_is, tag_parts, tag_text_is}
+use Rattle.delivery_tags.specs.Tags.{tag_text, if_spelled, is_tag}
+use Rattle.delivery_tags.proofs.SeedTags.{tag_is, tag_parts}
+use Rattle.envelope.proofs.EnvelopeTags.{tag_text_is}
 use Rattle.envelope.proofs.BodyTexts.{entry_body, carried_body}
 use Rattle.queue_keys.specs.Names.{Bytes, same}
 use Rattle.command_blocks.specs.EnvelopeTexts.{EnvelopesServe, tag_as_written, written_tag}

@@ -3,8 +3,8 @@ use Rattle.std.proofs.Common.{◌≡◌, ℕ, List, false, codes, Option, Some, 
 use Rattle.serde_json.specs.Data.{Data, null, boolean, number, string, array, object}
 use Rattle.envelope.specs.Entries.{EntryParts, entry_at, entry_in}
 use Rattle.envelope.specs.Envelopes.{envelope_at, parts_in}
-use Rattle.envelope.specs.Members.{text_at}
-use Rattle.envelope.specs.declared.fault.EnvelopeFault.{EnvelopeFault}
+use Rattle.envelope_trees.specs.Members.{text_at}
+use Rattle.envelope_trees.specs.declared.fault.EnvelopeFault.{EnvelopeFault}
 use Rattle.envelope.proofs.BodyTexts.{entry_is_read, envelope_from_read}
 use Rattle.envelope.proofs.Said.{said_is}
 use Rattle.envelope.proofs.Told.{told_by}

@@ -1,10 +1,10 @@
--- What a text spells: an envelope, or else an entry of the table.
+-- What a text spells: an envelope, or else an entry of the table. Serves the proofs of code.
 use Rattle.std.specs.Prelude.{ℕ, List, Option, None, Some, Result, Ok, Err}
 use Rattle.serde_json.specs.Data.{Data}
 use Rattle.envelope.specs.Entries.{EntryParts, entry_at}
 use Rattle.envelope.specs.Envelopes.{envelope_at, parts_in}
-use Rattle.envelope.specs.Marks.{is_marked}
-use Rattle.envelope.specs.declared.fault.EnvelopeFault.{EnvelopeFault}
+use Rattle.envelope_trees.specs.Marks.{is_marked}
+use Rattle.envelope_trees.specs.declared.fault.EnvelopeFault.{EnvelopeFault}
 use Rattle.letters.specs.declared.letter.Letter.{Letter}
 use Rattle.letters.specs.declared.letter.Letter.TheVariants as letter
 

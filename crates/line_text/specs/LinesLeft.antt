@@ -1,4 +1,4 @@
--- The lines that a cursor hasn't given yet.
+-- The lines that a cursor hasn't given yet. Serves the proofs of code.
 use Rattle.std.specs.Prelude.{ℕ, List}
 use Rattle.line_text.specs.declared.line.Lines.{Lines}
 use Rattle.line_text.specs.Lines.{lines_of, numbered}

@@ -12,8 +12,8 @@ use Rattle.command_blocks.specs.RouteBlocks.{is_exchange}
 use Rattle.command_blocks.specs.TakeBlocks.{IsPop, brpop_words}
 use Rattle.command_blocks.specs.PassBlocks.{lock_words, due_words}
 use Rattle.command_blocks.specs.Blocks.{IsNeutral, Pings, Selects, Measures, Subscribes, Unsubscribes, Announces, Replies, Receives, Limits}
-use Rattle.command_blocks.specs.declared.block.Side.{Side}
-use Rattle.command_blocks.specs.declared.block.Side.TheVariants.{Left, Right}
+use Rattle.command_blocks.specs.declared.side.Side.{Side}
+use Rattle.command_blocks.specs.declared.side.Side.TheVariants.{Left, Right}
 use Rattle.key_laws.proofs.Routes.{binding_of-member}
 use Rattle.manner_laws.specs.Spots.{Job, Open, Alone, Of_pass, MayPush, sided, Spot, Free, End_begun, Looking, Putting, pushing, Ask, Count, Consent, Queueing, Anything, Bindings, Message, Lock, Due}
 use Rattle.manner_laws.specs.Machine.{Begins, Declares, Undeclares, Publishes, Lists, Pops, Ends, Returns, Passes, Concerns_none, Asks, Starts, Starts_next, Pushes_first, Pushes, Pop_begins, Pop_indexes, Pop_sets, End_removes, End_deletes, Executes, Names, Tries, Reads, Leaves, Looks_up, Takes, Removes, Deletes, Puts, Moves, Looks, Turns, Lets_go, Inspects, Release_begins, Release_deletes, Release_ends, Leaves_foreign}

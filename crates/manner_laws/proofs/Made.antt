@@ -14,8 +14,8 @@ use Rattle.command_blocks.specs.TakeBlocks.{IsPop, brpop_words, Empty, Unreadabl
 use Rattle.command_blocks.specs.ReturnBlocks.{ReturnEnd, Moved as Was_moved, Gone, Stayed, Contended as Was_contended, goes_on, queued_calls, queued_keys, reading, asking, leaving, Carries, Try, whole_try, IsTry, IsTries, Missing as Missing_tries, Useless as Useless_tries, Nowhere, Whole, Eighth, Again}
 use Rattle.command_blocks.specs.PassBlocks.{PassEnd, Held, Stuck, Done, IsReturns, All_returned, Returned, Returned_until, Ended_early, IsRelease, Own as Own_release, Foreign as Foreign_release, lock_words, due_words, Is_held, Ran}
 use Rattle.command_blocks.specs.Blocks.{Answered as Answered_block, CounterUse, Drawing, Passing, Other, drawn, passes_after, IsBlock, Declare, Undeclare, Publish, Publish_short, Pop, End, Return, Pass, Neutral, AreBlocks}
-use Rattle.command_blocks.specs.declared.block.Side.{Side}
-use Rattle.command_blocks.specs.declared.block.Side.TheVariants.{Left, Right}
+use Rattle.command_blocks.specs.declared.side.Side.{Side}
+use Rattle.command_blocks.specs.declared.side.Side.TheVariants.{Left, Right}
 use Rattle.manner_laws.specs.Spots.{Job, Open, Alone, Of_pass, job_tag, MayPush, sided, Spot, Free, Listed, Pushing, Popped, Pop_begun, Pop_indexed, End_begun, End_removed, Filled, Looking, Waiting, Watched, Leaving, Asking, Ready, Begun, Removed, Putting, Locked, Turning, Release_watched, Release_own, Release_begun, Release_deleted, Release_foreign, pushing, finished, gave_up, routed, Ask, Entry}
 use Rattle.manner_laws.specs.Machine.{Begins, Declares, Undeclares, Publishes, Lists, Pops, Ends, Returns, Passes, Concerns_none, Asks, Starts, Starts_next, Pushes_first, Pushes, Pop_begins, Pop_indexes, Pop_sets, End_removes, End_deletes, Executes, Names, Tries, Reads, Leaves, Looks_up, Takes, Removes, Deletes, Puts, Moves, Looks, Turns, Lets_go, Inspects, Release_begins, Release_deletes, Release_ends, Leaves_foreign, Tells, Runs}
 use Rattle.manner_laws.proofs.Steps.{on_count, on_consent, on_queueing, on_counts, on_anything, on_bindings, on_message, on_entry, on_routes, on_move, on_lock, on_due, on_holder, on_release}

@@ -15,8 +15,8 @@ use Rattle.command_blocks.specs.TakeBlocks.{IsPopBlock, Empty, Unreadable as Unr
 use Rattle.command_blocks.specs.ReturnBlocks.{ReturnEnd, Contended as Was_contended, goes_on, queued_calls, queued_keys, reading, asking, leaving, taking, Carries, Try, whole_try, IsTry, IsTries, Missing as Missing_tries, Useless as Useless_tries, Nowhere, Whole, Eighth, Again}
 use Rattle.command_blocks.specs.PassBlocks.{PassEnd, IsReturns, All_returned, Returned, Returned_until, Ended_early, IsRelease, Own as Own_release, Foreign as Foreign_release, IsPassBlock, tags_among, Is_held, Ran}
 use Rattle.command_blocks.specs.Blocks.{Pings, IsNeutralBlock, Answered as Answered_block, CounterUse, drawn, passes_after, IsBlock, Declare, Undeclare, Publish, Publish_short, Pop, End, Return, Pass, Neutral, AreBlocks, IsFrontOfBlocks, IsMannered}
-use Rattle.command_blocks.specs.declared.block.Side.{Side}
-use Rattle.command_blocks.specs.declared.block.Side.TheVariants.{Left, Right}
+use Rattle.command_blocks.specs.declared.side.Side.{Side}
+use Rattle.command_blocks.specs.declared.side.Side.TheVariants.{Left, Right}
 use Rattle.manner_laws.specs.Spots.{Job, Open, Alone, Of_pass, job_tag, MayPush, sided, Spot, Free, Listed, Pushing, Popped, Pop_begun, Pop_indexed, End_begun, End_removed, Filled, Looking, Waiting, Watched, Leaving, Asking, Ready, Begun, Removed, Putting, Locked, Turning, Release_watched, Release_own, Release_begun, Release_deleted, Release_foreign, pushing, finished, gave_up, routed, Ask, Consent, Entry}
 use Rattle.manner_laws.specs.Machine.{Begins, Declares, Undeclares, Publishes, Lists, Pops, Ends, Returns, Passes, Concerns_none, Asks, Starts, Starts_next, Pushes_first, Pushes, Pop_begins, Pop_indexes, Pop_sets, End_removes, End_deletes, Executes, Names, Tries, Reads, Leaves, Looks_up, Takes, Removes, Deletes, Puts, Moves, Looks, Turns, Lets_go, Inspects, Release_begins, Release_deletes, Release_ends, Leaves_foreign, Tells, Counted, Consented, Was_queued, Counted_both, Answered, Bound, Nothing_there, Unreadable, Readable, Missing, Useless, Unnamed, Named, Looked_up, Moved, Failed, Contended, Taken, Given, Members, Own, Foreign, Nobody, Released, Altered, Goes, Runs, RunsThrough, RunsOff, TellsExchanges}
 use Rattle.std.specs.Prelude.{pos}

@@ -15,7 +15,7 @@ use Rattle.command_blocks.specs.TakeBlocks.{IsPop, brpop_words}
 use Rattle.command_blocks.specs.ReturnBlocks.{Carries}
 use Rattle.command_blocks.specs.PassBlocks.{tags_among, lock_words, due_words}
 use Rattle.command_blocks.specs.Blocks.{IsNeutral}
-use Rattle.command_blocks.specs.declared.block.Side.{Side}
+use Rattle.command_blocks.specs.declared.side.Side.{Side}
 use Rattle.manner_laws.specs.Spots.{Job, Open, Of_pass, job_tag, MayPush, sided, Spot, Free, Listed, Pushing, Popped, Pop_begun, Pop_indexed, End_begun, End_removed, Filled, Looking, Waiting, Watched, Leaving, Asking, Ready, Begun, Removed, Putting, Locked, Turning, Release_watched, Release_own, Release_begun, Release_deleted, Release_foreign, pushing, finished, gave_up, routed, Ask, Count, Consent, Queueing, Counts, Anything, Bindings, Message, Entry, Routes, Move, Lock, Due, Holder, Release}
 
 -- words that begin a block of a client of seed s that drew n tags and made p passes, and what they ask

@@ -1,8 +1,8 @@
 -- Where a client is in its blocks, and what a command that it may say there asks for.
 use Rattle.std.specs.Prelude.{◌≡◌, ℕ, suc, List, [], ◌∷◌}
 use Rattle.queue_keys.specs.Names.{Bytes}
-use Rattle.command_blocks.specs.declared.block.Side.{Side}
-use Rattle.command_blocks.specs.declared.block.Side.TheVariants.{Right}
+use Rattle.command_blocks.specs.declared.side.Side.{Side}
+use Rattle.command_blocks.specs.declared.side.Side.TheVariants.{Right}
 
 -- what tries are of, with the tag that is returned
 pub data Job : Type 0 where

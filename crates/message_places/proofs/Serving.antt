@@ -6,7 +6,8 @@ use Rattle.std.specs.Str.{is_utf8}
 use Rattle.serde_json.specs.Data.{Data}
 use Rattle.envelope.specs.Envelopes.{envelope_at}
 use Rattle.envelope.proofs.BodyTexts.{carried_body, entry_body}
-use Rattle.envelope.proofs.EnvelopeTags.{ok_is, tag_is, tag_parts, tag_text_is}
+use Rattle.delivery_tags.proofs.SeedTags.{tag_is, tag_parts}
+use Rattle.envelope.proofs.EnvelopeTags.{ok_is, tag_text_is}
 use Rattle.envelope_laws.proofs.Names.{names_are}
 use Rattle.envelope_laws.proofs.Tags.{tag_length}
 use Rattle.command_blocks.specs.EnvelopeTexts.{texts, way_said}

@@ -9,10 +9,10 @@ use Rattle.std.proofs.lemmas.Str.{IsUtf8-from_is_utf8}
 use Rattle.serde_json.specs.Data.{Data}
 use Rattle.serde_json.specs.Written.{compact_text}
 use Rattle.envelope.specs.Envelopes.{Parts, are_short, envelope_at, max_bytes, max_text, parts_in, parts_or_none, priority_of, said_by}
-use Rattle.envelope.specs.Marks.{marked}
-use Rattle.envelope.specs.Tags.{is_tag, tag, tag_number, tag_of_text, tag_text}
-use Rattle.envelope.proofs.SortedTrees.{read_sorted}
-use Rattle.envelope.proofs.TagTexts.{tag_ascii, tag_of_text-tag_text}
+use Rattle.envelope_trees.specs.Marks.{marked}
+use Rattle.delivery_tags.specs.Tags.{is_tag, tag, tag_number, tag_of_text, tag_text}
+use Rattle.envelope_trees.proofs.SortedTrees.{read_sorted}
+use Rattle.delivery_tags.proofs.TagTexts.{tag_ascii, tag_of_text-tag_text}
 use Rattle.json_texts.proofs.Trees.{reads_texts}
 use Rattle.command_blocks.specs.EnvelopeTexts.{tag_as_written, texts, way_of, way_said, written_tag}
 use Rattle.queue_keys.specs.Names.{Bytes}

@@ -12,13 +12,13 @@ use Rattle.serde_json.specs.Data.{Data, object, Members, no_members, member, dep
 use Rattle.serde_json.specs.Read.{read, max_depth}
 use Rattle.serde_json.specs.Written.{compact_text, has_float}
 use Rattle.envelope.specs.Envelopes.{Parts, are_short, content_of, envelope_at, info_said, max_bytes, max_text, parts_of, properties_said, said_by}
-use Rattle.envelope.specs.Marks.{marked}
-use Rattle.envelope.specs.Sealed.{sealed_info, sealed_properties, sealed_tree}
-use Rattle.envelope.specs.Sorted.{After, Sorted, SortedMembers}
-use Rattle.envelope.specs.Tags.{tag_of_text}
+use Rattle.envelope_trees.specs.Marks.{marked}
+use Rattle.envelope.specs.SealedTrees.{sealed_info, sealed_properties, sealed_tree}
+use Rattle.envelope_trees.specs.Sorted.{After, Sorted, SortedMembers}
+use Rattle.delivery_tags.specs.Tags.{tag_of_text}
 use Rattle.envelope.proofs.Said.{envelope_is, said_from}
-use Rattle.envelope.proofs.SealedTrees.{content_back}
-use Rattle.envelope.proofs.TextsBack.{read-compact_text}
+use Rattle.envelope.proofs.Contents.{content_back}
+use Rattle.envelope_trees.proofs.TextsBack.{read-compact_text}
 use Rattle.envelope_laws.proofs.Written.{compact_utf8}
 use Rattle.json_texts.specs.Trees.{HasTexts, MembersHaveTexts}
 use Rattle.queue_keys.specs.Names.{Bytes}

@@ -2,8 +2,8 @@
 use Rattle.std.proofs.Common.{◌≡◌, ℕ, zero, suc, ◌+◌, ◌^◌, ◌<◌, List, [], ◌∷◌, ◌++◌, append_assoc, arith, drop, drop-cons, get_or, length, map, Bool, true, false, if◌then◌else◌, refl, sym, ap, ◌∙◌, Option, is_some}
 use Rattle.std.proofs.lemmas.List.{map-append}
 use Rattle.std.specs.FinMap.{empty, entries, get}
-use Rattle.envelope.specs.Tags.{tag_text}
-use Rattle.envelope.specs.declared.tag.Tag.{Tag}
+use Rattle.delivery_tags.specs.Tags.{tag_text}
+use Rattle.delivery_tags.specs.declared.tag.Tag.{Tag}
 use Rattle.command_blocks.specs.EnvelopeTexts.{plain_setting}
 use Rattle.place_index.specs.Gathered.{first_of, gathered, has, hands, listed_place, place_by, single_place, times, standing_in}
 use Rattle.place_model.specs.Histories.{History, after}

@@ -5,10 +5,10 @@ use Rattle.serde_json.specs.Data.{Data}
 use Rattle.envelope.specs.Bodies.{tag_of_bytes}
 use Rattle.envelope.specs.Entries.{EntryParts, entry_at}
 use Rattle.envelope.specs.Envelopes.{envelope_at, parts_in}
-use Rattle.envelope.specs.Marks.{is_marked}
-use Rattle.envelope.specs.Tags.{tag_text}
-use Rattle.envelope.specs.declared.fault.EnvelopeFault.{EnvelopeFault}
-use Rattle.envelope.proofs.TagTexts.{tag_of_text-tag_text}
+use Rattle.envelope_trees.specs.Marks.{is_marked}
+use Rattle.delivery_tags.specs.Tags.{tag_text}
+use Rattle.envelope_trees.specs.declared.fault.EnvelopeFault.{EnvelopeFault}
+use Rattle.delivery_tags.proofs.TagTexts.{tag_of_text-tag_text}
 use Rattle.letters.specs.Letters.{entry_or_none, letter_or, letter_of}
 use Rattle.letters.specs.declared.letter.Letter.{Letter}
 use Rattle.letters.specs.declared.letter.Letter.TheVariants as letter

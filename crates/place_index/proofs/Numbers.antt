@@ -6,8 +6,8 @@ use Rattle.std.proofs.lemmas.Slice.Eq.{bytes_eq-Decides}
 use Rattle.std.specs.Prelude.{◌&&◌}
 use Rattle.std.specs.FinMap.{empty, entries}
 use Rattle.uuid.specs.Text.{parsed}
-use Rattle.envelope.specs.Tags.{if_spelled, tag_of_text, tag_text}
-use Rattle.envelope.proofs.TagTexts.{tag_of_text-tag_text}
+use Rattle.delivery_tags.specs.Tags.{if_spelled, tag_of_text, tag_text}
+use Rattle.delivery_tags.proofs.TagTexts.{tag_of_text-tag_text}
 use Rattle.command_blocks.specs.EnvelopeTexts.{plain_setting}
 use Rattle.place_model.specs.Counts.{is_field, is_member}
 use Rattle.place_model.specs.Histories.{History, after}

@@ -9,7 +9,7 @@ use Rattle.std.specs.FinMap.Entries.{below_all, by_order, find, is_sorted, put}
 use Rattle.store_tables.proofs.Lookups.{decided, get-insert_other, get-insert_same}
 use Rattle.store_model.specs.Store.{State, apply_of, gone_of}
 use Rattle.store_model.specs.Words.{command_of}
-use Rattle.envelope.specs.Tags.{tag_of_text}
+use Rattle.delivery_tags.specs.Tags.{tag_of_text}
 use Rattle.command_blocks.specs.Calls.{Call, call}
 use Rattle.place_model.specs.Counts.{copy_one, copy_weight, count, end_one, end_weight, over_clients, push_weight, sum_of, total}
 use Rattle.place_index.specs.Gathered.{act_of, copied_by, ended_by, hand_after, has, kind_of, listed, number_told, push_of, seat_after, seat_of, times, walk_called, walk_stopped, walked, walked_all}

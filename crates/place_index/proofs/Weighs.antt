@@ -4,7 +4,7 @@ use Rattle.std.proofs.lemmas.Grind.{common_steps}
 use Rattle.wire_values.specs.declared.value.Value.{Value}
 use Rattle.store_model.specs.declared.command.Command.{Command}
 use Rattle.store_model.specs.declared.command.Command.TheVariants.{Lpush, Rpush, Exec, Hdel}
-use Rattle.envelope.specs.Tags.{tag_of_text}
+use Rattle.delivery_tags.specs.Tags.{tag_of_text}
 use Rattle.command_blocks.specs.Answers.{is_one, items_of, number_of}
 use Rattle.place_model.specs.Counts.{copy_one, count, end_one, one_if_more, one_if_none, sum_of}
 use Rattle.place_index.specs.Gathered.{act_of, copied_by, copied_in, copied_with, ended_by, ended_in, ended_with, has, kind_of, listed, number_told, push_act, push_at, push_of, push_told, pushed, take_act, take_at, taken, taken_by, times}

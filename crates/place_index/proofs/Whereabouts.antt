@@ -10,7 +10,7 @@ use Rattle.store_model.specs.Keys.{Keys, value_of}
 use Rattle.store_model.specs.declared.held.Held.{Held}
 use Rattle.store_model.specs.declared.held.Stored.{Stored}
 use Rattle.store_model.specs.declared.held.Stored.TheVariants.{Items}
-use Rattle.envelope.specs.Tags.{tag_of_text}
+use Rattle.delivery_tags.specs.Tags.{tag_of_text}
 use Rattle.place_model.specs.Counts.{copy_weight, direct_pushes, end_weight, has_field, hand_weight, in_held, in_value, is_field, is_member, loss_weight, over_clients, push_weight, start_count, tagged, total}
 use Rattle.place_index.specs.Gathered.{first_of, gathered, hands, has, listed, listed_place, new_seat, number_told, place_by, seat_of, seated, single_place, told_at, standing_in, told_in, told_under, times, walk_start}
 use Rattle.place_model.specs.Histories.{Client, History, SystemState, after, new_client, start_from, table}

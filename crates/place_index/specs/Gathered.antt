@@ -9,7 +9,7 @@ use Rattle.store_model.specs.declared.command.Command.TheVariants.{Lpush, Rpush,
 use Rattle.store_model.specs.declared.held.Held.{Held}
 use Rattle.store_model.specs.declared.held.Stored.{Stored}
 use Rattle.store_model.specs.declared.held.Stored.TheVariants.{Items}
-use Rattle.envelope.specs.Tags.{tag_of_text}
+use Rattle.delivery_tags.specs.Tags.{tag_of_text}
 use Rattle.command_blocks.specs.Answers.{is_one, items_of, number_of, pair_of}
 use Rattle.place_model.specs.Histories.{Client, History}
 use Rattle.queue_keys.specs.Names.{Bytes, same}

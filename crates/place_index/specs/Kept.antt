@@ -1,7 +1,7 @@
 -- Whether a message is in the table of those that aren't acknowledged. Serves the proofs of code.
 use Rattle.std.specs.Prelude.{ℕ, Bool, ◌&&◌}
 use Rattle.store_model.specs.Keys.{Keys}
-use Rattle.envelope.specs.Tags.{tag_text}
+use Rattle.delivery_tags.specs.Tags.{tag_text}
 use Rattle.place_model.specs.Counts.{is_field, is_member}
 use Rattle.command_blocks.specs.EnvelopeTexts.{plain_setting}
 

@@ -1,7 +1,7 @@
 //! Whether a message is in the table of those that aren't acknowledged.
 ghost use Rattle.std.specs.Prelude.{◌≡◌, IfOk, Some};
 ghost use Rattle.store_model.specs.Keys.{value_at, value_of};
-ghost use Rattle.envelope.specs.Tags.{tag_text};
+ghost use Rattle.delivery_tags.specs.Tags.{tag_text};
 ghost use Rattle.place_model.specs.Counts.{has_field, has_member};
 ghost use Rattle.command_blocks.specs.EnvelopeTexts.{plain_setting};
 ghost use Rattle.place_index.specs.Kept.{is_kept};

@@ -1,7 +1,7 @@
 //! Where messages are after a history.
 ghost use Rattle.std.specs.Prelude.{◌≡◌, IfOk, map};
 ghost use Rattle.std.specs.FinMap.{empty};
-ghost use Rattle.envelope.specs.Tags.{tag_text};
+ghost use Rattle.delivery_tags.specs.Tags.{tag_text};
 ghost use Rattle.place_model.specs.Accepted.{places};
 ghost use Rattle.command_blocks.specs.EnvelopeTexts.{plain_setting};
 ghost use Rattle.place_model.specs.Histories.{History as Told, after};

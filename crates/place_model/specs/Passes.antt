@@ -29,7 +29,7 @@ pub record ReadsTags (σ : Setting) (w : SystemState) (at : ℕ) (high low : ℤ
 abbrev pub less : ℕ → ℕ → ℤ
 less a b = if nat_le b a then pos (a - b) else negsuc (b - a - 1)
 
--- the ten oldest messages of the table that were taken at least v seconds before this moment, the youngest of them first
+-- of the messages of the table that were taken at least v seconds before this moment the ten youngest, the youngest first
 abbrev pub due_members : Setting → SystemState → ℕ → ℕ → List Bytes
 due_members σ w at v = ranks_of (less at v) (pos 0) 0 10 (value_at (settled w.store at).keys σ.index)
 

@@ -1,7 +1,7 @@
 -- Tags with their places, as the code gives them. Serves the proofs of code.
 use Rattle.std.specs.Prelude.{List, map}
-use Rattle.envelope.specs.Tags.{tag_text}
-use Rattle.envelope.specs.declared.tag.Tag.{Tag}
+use Rattle.delivery_tags.specs.Tags.{tag_text}
+use Rattle.delivery_tags.specs.declared.tag.Tag.{Tag}
 use Rattle.queue_keys.specs.Names.{Bytes}
 use Rattle.place_model.specs.declared.place.Place.{Place}
 

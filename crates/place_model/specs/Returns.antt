@@ -12,8 +12,8 @@ use Rattle.command_blocks.specs.ReturnBlocks.{Carries}
 use Rattle.place_model.specs.Seen.{Seen}
 use Rattle.place_model.specs.Counts.{table_entry, is_field, is_member, score_at}
 use Rattle.place_model.specs.Starts.{elements_at}
-use Rattle.command_blocks.specs.declared.block.Side.{Side}
-use Rattle.command_blocks.specs.declared.block.Side.TheVariants.{Left, Right}
+use Rattle.command_blocks.specs.declared.side.Side.{Side}
+use Rattle.command_blocks.specs.declared.side.Side.TheVariants.{Left, Right}
 
 -- the push at this side
 abbrev pub push_command : Side → Bytes → Bytes → Command

@@ -22,8 +22,8 @@ use Rattle.place_model.specs.Seen.{seen}
 use Rattle.command_blocks.specs.Setting.{is_queue}
 use Rattle.command_blocks.specs.TakeBlocks.{Acknowledged, Empty, IsEndBlock, IsPopBlock, Popped, Unreadable, brpop_words}
 use Rattle.queue_keys.specs.Texts.{difference, token}
-use Rattle.command_blocks.specs.declared.block.Side.{Side}
-use Rattle.command_blocks.specs.declared.block.Side.TheVariants.{Left, Right}
+use Rattle.command_blocks.specs.declared.side.Side.{Side}
+use Rattle.command_blocks.specs.declared.side.Side.TheVariants.{Left, Right}
 use Rattle.place_theorem.proofs.Full.{Full}
 use Rattle.place_theorem.proofs.Machine.{reads_brpop}
 use Rattle.place_theorem.proofs.Values.{number_of-Status}

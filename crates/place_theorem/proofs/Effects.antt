@@ -24,8 +24,8 @@ use Rattle.queue_keys.specs.Names.{Bytes}
 use Rattle.place_model.specs.Returns.{push_commands, take_out}
 use Rattle.place_model.specs.Seen.{Seen, asked_by, hand_by, hand_from, push_with, ran_with, seen, seen_by, since_by, tag_list, tag_weight}
 use Rattle.command_blocks.specs.Setting.{is_queue}
-use Rattle.command_blocks.specs.declared.block.Side.{Side}
-use Rattle.command_blocks.specs.declared.block.Side.TheVariants.{Right}
+use Rattle.command_blocks.specs.declared.side.Side.{Side}
+use Rattle.command_blocks.specs.declared.side.Side.TheVariants.{Right}
 use Rattle.place_theorem.proofs.Full.{Alike, Full, Kinds, QueueKeys, keys_of, tag_short}
 use Rattle.place_theorem.proofs.Machine.{AllApart, Asks, At, Begins, Cursor, Ends, Fails, Finds, Finds_none, Finds_other, Idle, IsTalk, Leaves, Live, Passes_by, Publishes, Queues, Reads, Refuses, Step, Talks, Watches, Whole, Whole_end, Whole_free, Whole_pop, Whole_return, is_aside}
 use Rattle.place_theorem.proofs.Safe.{AskedIs, Effect, MarkOk, Quiet, Safe, SameOurs, SeenIs, Stands, alike_elsewhere, aside_quiet, conn_in, far_safe, far_same, kinds_elsewhere, quiet_safe, same_safe, set_safe, set_stands, table_of, touched_stands}

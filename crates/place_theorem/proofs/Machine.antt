@@ -22,8 +22,8 @@ use Rattle.command_blocks.specs.ReturnBlocks.{ReturnEnd, queued_calls, queued_ke
 use Rattle.command_blocks.specs.PassBlocks.{PassEnd, IsReturns, All_returned, Returned, Returned_until, Ended_early, IsRelease, Own, Foreign, tags_among, due_words, IsPassBlock, Is_held, Ran as Ran_pass}
 use Rattle.command_blocks.specs.Blocks.{IsNeutral, Pings, Selects, Measures, Subscribes, Unsubscribes, Announces, Replies, Receives, Limits, IsNeutralBlock, Answered, CounterUse, drawn, passes_after, IsBlock, Declare, Undeclare, Publish, Publish_short, Pop, End, Return, Pass, Neutral, AreBlocks, IsFrontOfBlocks, IsMannered}
 use Rattle.place_model.specs.Returns.{push_command, push_commands, take_out}
-use Rattle.command_blocks.specs.declared.block.Side.{Side}
-use Rattle.command_blocks.specs.declared.block.Side.TheVariants.{Left, Right}
+use Rattle.command_blocks.specs.declared.side.Side.{Side}
+use Rattle.command_blocks.specs.declared.side.Side.TheVariants.{Left, Right}
 use Rattle.place_theorem.proofs.Full.{Full, QueueKeys}
 use Rattle.place_theorem.proofs.Numerals.{integer_of-decimal}
 

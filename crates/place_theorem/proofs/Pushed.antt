@@ -12,8 +12,8 @@ use Rattle.queue_keys.specs.QueueKeys.{Among, Differ, IsAway}
 use Rattle.place_model.specs.Returns.{gain, push_command, push_commands}
 use Rattle.command_blocks.specs.Setting.{is_queue}
 use Rattle.place_model.specs.Starts.{IsListOrNone, elements_at, elements_of}
-use Rattle.command_blocks.specs.declared.block.Side.{Side}
-use Rattle.command_blocks.specs.declared.block.Side.TheVariants.{Left, Right}
+use Rattle.command_blocks.specs.declared.side.Side.{Side}
+use Rattle.command_blocks.specs.declared.side.Side.TheVariants.{Left, Right}
 use Rattle.place_theorem.proofs.Full.{Full, Kinds, QueueKeys}
 use Rattle.place_theorem.proofs.Transactions.{push_done}
 

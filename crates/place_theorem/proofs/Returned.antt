@@ -29,7 +29,7 @@ use Rattle.place_model.specs.Returns.{IsWholeReturn, ReturnsWhole, gain, push_co
 use Rattle.place_model.specs.Seen.{Seen, seen}
 use Rattle.command_blocks.specs.Setting.{is_queue}
 use Rattle.place_model.specs.Starts.{IsHashOrNone, IsSound, elements_at, elements_of}
-use Rattle.command_blocks.specs.declared.block.Side.{Side}
+use Rattle.command_blocks.specs.declared.side.Side.{Side}
 use Rattle.place_model.specs.declared.history.Entry.TheVariants.{Call as Called}
 use Rattle.place_theorem.proofs.Full.{Alike, Full, Kinds, keys_of}
 use Rattle.place_theorem.proofs.Kept.{Inv}

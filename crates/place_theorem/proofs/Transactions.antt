@@ -23,8 +23,8 @@ use Rattle.place_model.specs.Returns.{push_command, push_commands, take_out}
 use Rattle.place_model.specs.Seen.{Seen, deletes, hand_by, queued_push, queued_pushes, ran_by, ran_with, tag_weight}
 use Rattle.command_blocks.specs.Setting.{is_queue}
 use Rattle.place_model.specs.Starts.{IsHashOrNone}
-use Rattle.command_blocks.specs.declared.block.Side.{Side}
-use Rattle.command_blocks.specs.declared.block.Side.TheVariants.{Left, Right}
+use Rattle.command_blocks.specs.declared.side.Side.{Side}
+use Rattle.command_blocks.specs.declared.side.Side.TheVariants.{Left, Right}
 use Rattle.place_theorem.proofs.Full.{Alike, Full, Kinds, QueueKeys, keys_of}
 use Rattle.place_theorem.proofs.Machine.{AllApart, Idle}
 use Rattle.place_theorem.proofs.Safe.{Safe, Stands, conn_in, far_same, lists_elsewhere, lists_of, table_elsewhere, table_of, touched_is}

@@ -20,8 +20,8 @@ use Rattle.store_tables.proofs.Maps.{bytes_anti, bytes_total}
 use Rattle.command_blocks.specs.Answers.{items_of, number_of}
 use Rattle.command_blocks.specs.Calls.{Call}
 use Rattle.command_blocks.specs.Setting.{is_queue}
-use Rattle.command_blocks.specs.declared.block.Side.{Side}
-use Rattle.command_blocks.specs.declared.block.Side.TheVariants.{Left, Right}
+use Rattle.command_blocks.specs.declared.side.Side.{Side}
+use Rattle.command_blocks.specs.declared.side.Side.TheVariants.{Left, Right}
 use Rattle.place_model.specs.Counts.{IsAccepted, copy_count, copy_one, copy_weight, count, direct_pushes, table_entry, field_of, in_held, in_value, is_field, list_count, one_if_more, place_count, push_weight, start_count, sum_of, table_count, tagged, total}
 use Rattle.place_model.specs.Histories.{AllMayCome, Client, History, IsHistoryPrefix, MayCome, SystemState, after, after_entries, and_then, next, start_from}
 use Rattle.place_model.specs.Identity.{HasEnvelope, In_a_list, In_the_table, IsPublished, IsPush, PushedIn}

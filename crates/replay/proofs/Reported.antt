@@ -4,9 +4,9 @@ use Rattle.std.proofs.lemmas.List.{drop_more}
 use Rattle.std.proofs.lemmas.List.Folds.{flat_map-map}
 use Rattle.std.specs.Prelude.{codes, cond, count_by, decimal}
 use Rattle.std.specs.List.{flat_map, fold}
-use Rattle.envelope.proofs.TagTexts.{tag_of_text-tag_text}
-use Rattle.envelope.specs.Tags.{tag_of_text, tag_text}
-use Rattle.envelope.specs.declared.tag.Tag.{Tag}
+use Rattle.delivery_tags.proofs.TagTexts.{tag_of_text-tag_text}
+use Rattle.delivery_tags.specs.Tags.{tag_of_text, tag_text}
+use Rattle.delivery_tags.specs.declared.tag.Tag.{Tag}
 use Rattle.line_text.specs.Short.{tag_short}
 use Rattle.place_model.specs.Histories.{History}
 use Rattle.place_model.specs.declared.heard.Heard.{Heard}

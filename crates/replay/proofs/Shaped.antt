@@ -4,12 +4,12 @@ use Rattle.std.specs.Result.{result_ok}
 use Rattle.serde_json.specs.Data.{Data, null, boolean, number, string, array, object}
 use Rattle.envelope.specs.Entries.{EntryParts, entry_at, entry_in}
 use Rattle.envelope.specs.Envelopes.{envelope_at, parts_in}
-use Rattle.envelope.specs.Members.{text_at}
-use Rattle.envelope.specs.declared.fault.EnvelopeFault.{EnvelopeFault}
+use Rattle.envelope_trees.specs.Members.{text_at}
+use Rattle.envelope_trees.specs.declared.fault.EnvelopeFault.{EnvelopeFault}
 use Rattle.envelope.proofs.BodyTexts.{entry_is_read, envelope_from_read}
 use Rattle.envelope.proofs.Said.{said_is}
 use Rattle.envelope.proofs.Told.{told_by}
-use Rattle.envelope.specs.Marks.{is_marked}
+use Rattle.envelope_trees.specs.Marks.{is_marked}
 use Rattle.letters.specs.Letters.{entry_letter, entry_or_none, envelope_letter, letter_of}
 use Rattle.letters.specs.Letters as letters
 use Rattle.letters.specs.declared.letter.Letter.{Letter}
@@ -19,7 +19,7 @@ use Rattle.line_text.specs.declared.short.Shape.TheVariants.{Envelope}
 use Rattle.line_text.specs.declared.short.Shape.TheVariants as shapes
 use Rattle.queue_keys.specs.Names.{Bytes}
 use Rattle.schedule_model.specs.Shapes.{entry_or_tag, entry_shape, envelope_or, envelope_shape, shape_of, tag_shape}
-use Rattle.envelope.specs.Tags.{tag_of_text}
+use Rattle.delivery_tags.specs.Tags.{tag_of_text}
 use Rattle.replay.specs.Openings.{may_open}
 use Rattle.replay.proofs.FirstBytes.{is_tree, misses}
 

@@ -4,7 +4,7 @@ ghost use Rattle.std.specs.Result.{result_ok};
 ghost use Rattle.serde_json.specs.View.{view as data_of};
 ghost use Rattle.envelope.specs.Entries.{entry_at};
 ghost use Rattle.envelope.specs.Envelopes.{envelope_at};
-ghost use Rattle.envelope.specs.Tags.{tag_of_text};
+ghost use Rattle.delivery_tags.specs.Tags.{tag_of_text};
 ghost use Rattle.letters.specs.Letters.{letter_of};
 ghost use Rattle.queue_keys.specs.Names.{Bytes as Text};
 ghost use Rattle.schedule_model.specs.Shapes.{entry_or_tag, entry_shape, envelope_shape, shape_of, tag_shape};

@@ -3,7 +3,7 @@
 //! Each call appends to a vector. Where memory ends amid a text, a part of it may have been appended.
 ghost use Rattle.std.specs.Prelude.{◌≡◌, ◌++◌, ◌/◌, ◌%◌, ◌^◌, OnOk, codes, count_by, decimal};
 ghost use Rattle.std.specs.List.{flat_map};
-ghost use Rattle.envelope.specs.Tags.{tag_text};
+ghost use Rattle.delivery_tags.specs.Tags.{tag_text};
 ghost use Rattle.line_text.specs.Short.{tag_short};
 ghost use Rattle.command_blocks.specs.Setting.{Setting};
 ghost use Rattle.replay.specs.Kinds.{is_of, totals};

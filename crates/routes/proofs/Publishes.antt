@@ -4,7 +4,7 @@ use Rattle.serde_json.specs.Data.{Data}
 use Rattle.serde_json.specs.View.{view as data_of}
 use Rattle.serde_json.specs.Written.{compact_text}
 use Rattle.envelope.specs.Envelopes.{parts_in}
-use Rattle.envelope.specs.declared.tag.Tag.{Tag}
+use Rattle.delivery_tags.specs.declared.tag.Tag.{Tag}
 use Rattle.command_blocks.specs.Calls.{Call}
 use Rattle.command_blocks.specs.EnvelopeTexts.{plain_setting}
 use Rattle.command_blocks.specs.Scripts.{Over, Plan, Declare, Undeclare, Publish, Pop, End, Return, Pass, if_told}

@@ -4,7 +4,7 @@ use Rattle.serde_json.specs.Data.{Data}
 use Rattle.serde_json.specs.View.{view as data_of}
 use Rattle.serde_json.specs.Written.{compact_text}
 use Rattle.envelope.specs.Envelopes.{envelope_at, parts_in, priority_of}
-use Rattle.envelope.specs.declared.tag.Tag.{Tag}
+use Rattle.delivery_tags.specs.declared.tag.Tag.{Tag}
 use Rattle.command_blocks.specs.Calls.{Call}
 use Rattle.queue_keys.specs.Layouts.{plain, step_of}
 use Rattle.queue_keys.specs.Names.{Bytes, is_name}

@@ -8,7 +8,7 @@ use Rattle.queue_keys.specs.QueueKeys.{Each}
 use Rattle.command_blocks.specs.Setting.{named_or_none}
 use Rattle.command_blocks.specs.TakeBlocks.{IsPop}
 use Rattle.command_blocks.specs.Scripts.{Plan, Declare, Undeclare, Publish, Pop, End, Return, Pass}
-use Rattle.command_blocks.specs.declared.block.Side.TheVariants.{Left, Right}
+use Rattle.command_blocks.specs.declared.side.Side.TheVariants.{Left, Right}
 use Rattle.schedule_model.specs.Faults.{Craft, Test, first_reason, is_no_name, is_empty, declare_tests, asked_tests}
 use Rattle.schedule_model.specs.Schedules.{publish_plan, plan_of}
 use Rattle.schedule_model.specs.declared.line.Asked.{Asked}

@@ -7,9 +7,9 @@ use Rattle.serde_json.specs.Data.{Data, null, number, unsigned, string, array, o
 use Rattle.serde_json.specs.Find.{as_array}
 use Rattle.serde_json.specs.Written.{compact_text, has_float}
 use Rattle.envelope.specs.Envelopes.{json_at, are_short, max_bytes, max_text}
-use Rattle.envelope.specs.Marks.{marked}
-use Rattle.envelope.specs.Sealed.{sealed_tree, sealed_properties, sealed_info}
-use Rattle.envelope.specs.Tags.{is_tag, tag}
+use Rattle.envelope_trees.specs.Marks.{marked}
+use Rattle.envelope.specs.SealedTrees.{sealed_tree, sealed_properties, sealed_info}
+use Rattle.delivery_tags.specs.Tags.{is_tag, tag}
 use Rattle.queue_keys.specs.Names.{Bytes}
 
 -- ---- arguments

@@ -6,7 +6,7 @@ use Rattle.line_text.specs.Forms.{quoted}
 use Rattle.line_text.specs.Short.{short_word, short_value, tag_short}
 use Rattle.line_text.specs.declared.short.Shape.{Shape}
 use Rattle.store_model.specs.declared.reply.Reply.{Reply}
-use Rattle.envelope.specs.declared.tag.Tag.{Tag}
+use Rattle.delivery_tags.specs.declared.tag.Tag.{Tag}
 use Rattle.place_model.specs.Accepted.{places}
 use Rattle.place_model.specs.Histories.{History}
 use Rattle.queue_keys.specs.Names.{Bytes}

@@ -8,7 +8,7 @@ use Rattle.line_text.specs.declared.reason.Reason.TheVariants.{Long, Header, Lat
 use Rattle.place_model.specs.Histories.{History}
 use Rattle.queue_keys.specs.Names.{Bytes}
 use Rattle.command_blocks.specs.Scripts.{Plan, Declare, Undeclare, Publish, Pop, End, Return, Pass}
-use Rattle.command_blocks.specs.declared.block.Side.TheVariants.{Left, Right}
+use Rattle.command_blocks.specs.declared.side.Side.TheVariants.{Left, Right}
 use Rattle.place_model.specs.declared.heard.Heard.{Heard}
 use Rattle.schedule_model.specs.Built.{waits}
 use Rattle.schedule_model.specs.Costs.{is_full, total_cost}

@@ -3,9 +3,9 @@ use Rattle.std.specs.Prelude.{ℕ, ◌/◌, ◌%◌, ◌^◌, Option, None, Some
 use Rattle.serde_json.specs.Data.{Data}
 use Rattle.envelope.specs.Entries.{EntryParts, entry_at}
 use Rattle.envelope.specs.Envelopes.{envelope_at, parts_in}
-use Rattle.envelope.specs.Marks.{is_marked}
-use Rattle.envelope.specs.Tags.{tag_of_text}
-use Rattle.envelope.specs.declared.fault.EnvelopeFault.{EnvelopeFault}
+use Rattle.envelope_trees.specs.Marks.{is_marked}
+use Rattle.delivery_tags.specs.Tags.{tag_of_text}
+use Rattle.envelope_trees.specs.declared.fault.EnvelopeFault.{EnvelopeFault}
 use Rattle.line_text.specs.declared.short.Shape.{Shape}
 use Rattle.line_text.specs.declared.short.Shape.TheVariants.{Envelope, Entry, Tag, Other}
 use Rattle.queue_keys.specs.Names.{Bytes}

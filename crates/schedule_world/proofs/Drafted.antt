@@ -15,17 +15,18 @@ use Rattle.serde_json.specs.Read.{read}
 use Rattle.serde_json.specs.View.{view as data_of}
 use Rattle.serde_json.specs.Written.{compact_text, has_float}
 use Rattle.envelope.specs.Envelopes.{are_short, max_bytes, max_text}
-use Rattle.envelope.specs.Marks.{marked}
-use Rattle.envelope.specs.Members.{if_object, is_nothing}
-use Rattle.envelope.specs.Reading.{◌>>=◌, needed, wanted}
-use Rattle.envelope.specs.Sealed.{sealed, sealed_info, sealed_properties, sealed_tree, seal_of}
-use Rattle.envelope.specs.Tags.{tag, tag_number, tag_text}
+use Rattle.envelope_trees.specs.Marks.{marked}
+use Rattle.envelope_trees.specs.Members.{if_object, is_nothing}
+use Rattle.envelope_trees.specs.Reading.{◌>>=◌, needed, wanted}
+use Rattle.envelope.specs.SealedTrees.{sealed_info, sealed_properties, sealed_tree}
+use Rattle.sealed_drafts.specs.Sealed.{sealed, seal_of}
+use Rattle.delivery_tags.specs.Tags.{tag, tag_number, tag_text}
 use Rattle.envelope.specs.declared.envelope.Envelope.{Envelope}
-use Rattle.envelope.specs.declared.fault.Field.TheVariants as field
-use Rattle.envelope.specs.declared.fault.EnvelopeFault.{EnvelopeFault}
-use Rattle.envelope.specs.declared.fault.EnvelopeFault.TheVariants.{TooLong, TooDeep, Float, Missing, Compressed, BadBody}
-use Rattle.envelope.specs.declared.sealing.Draft.{Draft}
-use Rattle.envelope.proofs.EnvelopeTags.{tag_is}
+use Rattle.envelope_trees.specs.declared.fault.Field.TheVariants as field
+use Rattle.envelope_trees.specs.declared.fault.EnvelopeFault.{EnvelopeFault}
+use Rattle.envelope_trees.specs.declared.fault.EnvelopeFault.TheVariants.{TooLong, TooDeep, Float, Missing, Compressed, BadBody}
+use Rattle.sealed_drafts.specs.declared.sealing.Draft.{Draft}
+use Rattle.delivery_tags.proofs.SeedTags.{tag_is}
 use Rattle.envelope.proofs.Texts.{json_some, json_none}
 use Rattle.queue_keys.specs.Names.{Bytes}
 use Rattle.schedule_model.specs.Drafts.{are_told, are_texts, are_within, arguments_of, content_tree, headers_tree, if_arguments, if_sealed, sealed_task, task_tree}

@@ -7,14 +7,15 @@ use Rattle.serde_json.specs.Find.{get}
 use Rattle.serde_json.specs.View.{view as data_of}
 use Rattle.serde_json.specs.Written.{compact_text, has_float}
 use Rattle.envelope.specs.Envelopes.{Parts, are_short, max_bytes, max_text, parts_in, said_by}
-use Rattle.envelope.specs.Marks.{marked}
-use Rattle.envelope.specs.Members.{if_object, is_nothing, object_at, text_at}
-use Rattle.envelope.specs.Sealed.{seal_of, sealed, sealed_info, sealed_properties, sealed_tree}
-use Rattle.envelope.specs.declared.fault.EnvelopeFault.{EnvelopeFault}
-use Rattle.envelope.specs.declared.fault.EnvelopeFault.TheVariants.{TooLong, TooDeep, Float, Missing, Compressed, BadBody}
-use Rattle.envelope.specs.declared.fault.Field.TheVariants as field
-use Rattle.envelope.specs.Reading.{needed, wanted}
-use Rattle.envelope.specs.declared.sealing.Draft.{Draft}
+use Rattle.envelope_trees.specs.Marks.{marked}
+use Rattle.envelope_trees.specs.Members.{if_object, is_nothing, object_at, text_at}
+use Rattle.envelope.specs.SealedTrees.{sealed_info, sealed_properties, sealed_tree}
+use Rattle.sealed_drafts.specs.Sealed.{seal_of, sealed}
+use Rattle.envelope_trees.specs.declared.fault.EnvelopeFault.{EnvelopeFault}
+use Rattle.envelope_trees.specs.declared.fault.EnvelopeFault.TheVariants.{TooLong, TooDeep, Float, Missing, Compressed, BadBody}
+use Rattle.envelope_trees.specs.declared.fault.Field.TheVariants as field
+use Rattle.envelope_trees.specs.Reading.{needed, wanted}
+use Rattle.sealed_drafts.specs.declared.sealing.Draft.{Draft}
 use Rattle.envelope.proofs.Said.{bind_ok, said_is}
 use Rattle.envelope.proofs.Told.{told_by}
 use Rattle.queue_keys.specs.Names.{Bytes}

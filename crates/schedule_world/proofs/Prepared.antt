@@ -4,7 +4,7 @@ use Rattle.std.specs.Prelude.{not, if◌then◌else◌}
 use Rattle.std.specs.List.{list_all, list_any}
 use Rattle.serde_json.specs.Data.{Data}
 use Rattle.line_text.specs.declared.reason.Reason.TheVariants.{Name, Reserved, Json, Task}
-use Rattle.envelope.specs.Tags.{tag, tag_number, tag_text}
+use Rattle.delivery_tags.specs.Tags.{tag, tag_number, tag_text}
 use Rattle.command_blocks.specs.EnvelopeTexts.{plain_setting}
 use Rattle.queue_keys.specs.Names.{Bytes, all_free, has_length, is_name, is_reserved}
 use Rattle.command_blocks.specs.Scripts.{End, Publish, Pop, end_script, pop_script, publish_script}

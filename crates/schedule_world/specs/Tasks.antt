@@ -5,7 +5,7 @@ use Rattle.serde_json.specs.View.{view as data_of}
 use Rattle.serde_json.specs.Written.{compact_text, has_float}
 use Rattle.envelope.specs.Envelopes.{parts_in}
 use Rattle.envelope.specs.declared.envelope.Envelope.{Envelope}
-use Rattle.envelope.specs.declared.sealing.Draft.{Draft}
+use Rattle.sealed_drafts.specs.declared.sealing.Draft.{Draft}
 use Rattle.queue_keys.specs.Names.{Bytes}
 use Rattle.schedule_model.specs.Drafts.{content_tree, headers_tree}
 use Rattle.schedule_world.specs.declared.task.TaskTexts.{TaskTexts}

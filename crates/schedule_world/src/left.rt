@@ -2,7 +2,7 @@
 ghost use Rattle.std.specs.Prelude.{◌≡◌, ◌<◌, ◌≤◌, ◌^◌, Err, IfOk, IfSome, Ok, OnOk, alloc_error, if◌then◌else◌, length, true};
 ghost use Rattle.command_blocks.specs.EnvelopeTexts.{plain_setting};
 ghost use Rattle.command_blocks.specs.Scripts.{Over, end_script, next_words, pop_script, publish_script};
-ghost use Rattle.envelope.specs.Tags.{tag_text};
+ghost use Rattle.delivery_tags.specs.Tags.{tag_text};
 ghost use Rattle.routes.specs.Publishes.{GoesDirectly};
 ghost use Rattle.schedule_model.specs.Faults.{has_more, is_script_off};
 ghost use Rattle.schedule_world.specs.Blocks.{script_left};

@@ -1,4 +1,4 @@
--- When keys expire, told without a look at each of them.
+-- When keys expire, told without a look at each of them. Serves the proofs of code.
 use Rattle.std.specs.Prelude.{◌≡◌, ◌≤◌, ℕ, false, List, [], ◌∷◌, Option, None, Some}
 use Rattle.std.specs.FinMap.{get}
 use Rattle.store_model.specs.Words.{Bytes}

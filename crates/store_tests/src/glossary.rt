@@ -2,9 +2,10 @@
 ghost use Rattle.std.specs.Prelude.{IfOk, IsUtf8};
 
 use crate::spelled::spelled;
-use envelope::{Draft, Envelope, EnvelopeFault, Tag, redelivered, seal, write, write_entry};
+use envelope::{Envelope, EnvelopeFault, Tag, redelivered, write, write_entry};
 use line_text::{Legend, Shape, number_in, short_word, short_words};
 use queue_keys::{QueueName, pop_keys, queue_key, step_of};
+use sealed_drafts::{Draft, seal};
 use serde_json::Value as Tree;
 use std::alloc::{AllocError, Global};
 use std::process::Abort;

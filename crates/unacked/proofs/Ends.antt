@@ -4,8 +4,8 @@ use Rattle.std.specs.declared.alloc.AllocError.{AllocError}
 use Rattle.std.specs.Prelude.{IfOk, is_some}
 use Rattle.wire_values.specs.declared.value.Value.{Value}
 use Rattle.store_model.specs.Words.{Words}
-use Rattle.envelope.specs.Tags.{tag_text}
-use Rattle.envelope.proofs.TagTexts.{tag_of_text-tag_text}
+use Rattle.delivery_tags.specs.Tags.{tag_text}
+use Rattle.delivery_tags.proofs.TagTexts.{tag_of_text-tag_text}
 use Rattle.command_blocks.specs.Calls.{Call}
 use Rattle.command_blocks.specs.EnvelopeTexts.{plain_setting}
 use Rattle.command_blocks.specs.Scripts.{Script, next_words}

@@ -12,10 +12,10 @@ use Rattle.wire_values.specs.declared.value.Value.{Value}
 use Rattle.envelope.specs.Bodies.{entry_of, entry_text, exchange_or, if_plain, parts_at, routing_key_or, tag_of_bytes}
 use Rattle.envelope.specs.Entries.{entry_data, entry_for}
 use Rattle.envelope.specs.Envelopes.{envelope_at, max_levels, parts_in}
-use Rattle.envelope.specs.Reading.{Fails}
-use Rattle.envelope.specs.Tags.{tag_text}
-use Rattle.envelope.specs.declared.fault.EnvelopeFault.{EnvelopeFault}
-use Rattle.envelope.specs.declared.fault.EnvelopeFault.TheVariants.{TooLong, NotJson, TooDeep, Float, Missing, Compressed, BadBody, Memory}
+use Rattle.envelope_trees.specs.Reading.{Fails}
+use Rattle.delivery_tags.specs.Tags.{tag_text}
+use Rattle.envelope_trees.specs.declared.fault.EnvelopeFault.{EnvelopeFault}
+use Rattle.envelope_trees.specs.declared.fault.EnvelopeFault.TheVariants.{TooLong, NotJson, TooDeep, Float, Missing, Compressed, BadBody, Memory}
 use Rattle.envelope.proofs.BodyTexts.{envelope_from_read}
 use Rattle.envelope.proofs.Said.{IsPlain, said_is}
 use Rattle.command_blocks.specs.Answers.{pair_of}

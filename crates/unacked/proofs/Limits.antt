@@ -7,9 +7,9 @@ use Rattle.std.proofs.lemmas.List.Elements.{All-nil, All-cons, All-append}
 use Rattle.std.proofs.lemmas.Fmt.{length-decimal-le}
 use Rattle.uuid.proofs.TextLemmas.{by_index_length}
 use Rattle.envelope.specs.Entries.{EntryParts, entry_at, max_entry}
-use Rattle.envelope.specs.Tags.{tag_text}
-use Rattle.envelope.specs.declared.fault.EnvelopeFault.TheVariants.{TooLong}
-use Rattle.envelope.specs.Reading.{wanted}
+use Rattle.delivery_tags.specs.Tags.{tag_text}
+use Rattle.envelope_trees.specs.declared.fault.EnvelopeFault.TheVariants.{TooLong}
+use Rattle.envelope_trees.specs.Reading.{wanted}
 use Rattle.envelope.proofs.Said.{bind_ok, wanted_is}
 use Rattle.store_model.specs.Words.{IsWithinLimits, Words}
 use Rattle.queue_keys.specs.Layouts.{plain}

@@ -1,7 +1,7 @@
 -- What is left of an acknowledgement, and what its end tells. Serves the proofs of code.
 use Rattle.std.specs.Prelude.{◌≡◌, ℕ, ℤ, true, refl, List, [], ◌∷◌, ◌++◌, codes, Some}
 use Rattle.store_model.specs.Words.{Words}
-use Rattle.envelope.specs.Tags.{tag_text}
+use Rattle.delivery_tags.specs.Tags.{tag_text}
 use Rattle.command_blocks.specs.Answers.{is_one, integers}
 use Rattle.command_blocks.specs.Calls.{Call}
 use Rattle.command_blocks.specs.Cores.{is_saying}

@@ -10,7 +10,7 @@ use Rattle.store_model.specs.Words.{Words}
 use Rattle.envelope.specs.Bodies.{tag_of_bytes}
 use Rattle.envelope.specs.Entries.{entry_data, entry_for}
 use Rattle.envelope.specs.Envelopes.{envelope_at, parts_in}
-use Rattle.envelope.specs.Tags.{tag_text}
+use Rattle.delivery_tags.specs.Tags.{tag_text}
 use Rattle.command_blocks.specs.Calls.{Call}
 use Rattle.command_blocks.specs.Cores.{is_saying}
 use Rattle.command_blocks.specs.EnvelopeTexts.{plain_setting}

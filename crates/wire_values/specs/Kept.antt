@@ -1,4 +1,4 @@
--- What the small types over vectors hold.
+-- What the small types over vectors hold. Serves the proofs of code.
 use Rattle.std.specs.Prelude.{List, [], Option, None, Some}
 use Rattle.std.specs.declared.alloc.Global.{Global}
 use Rattle.std.specs.declared.vec.Vec.{Vec}

@@ -18,8 +18,8 @@ use Rattle.queue_keys.specs.Texts.{token}
 use Rattle.command_blocks.specs.ReturnBlocks.{Again, Contended, Eighth, Gone, IsTries, IsTry, Missing, Moved, Nowhere, Stayed, Try, Useless, Whole}
 use Rattle.command_blocks.specs.RouteBlocks.{Asked, Named, Plain, Told}
 use Rattle.command_blocks.specs.TakeBlocks.{Acknowledged, Empty, IsPop, Popped, Unreadable}
-use Rattle.command_blocks.specs.declared.block.Side.{Side}
-use Rattle.command_blocks.specs.declared.block.Side.TheVariants.{Left, Right}
+use Rattle.command_blocks.specs.declared.side.Side.{Side}
+use Rattle.command_blocks.specs.declared.side.Side.TheVariants.{Left, Right}
 use Rattle.worked_blocks.specs.Lists.{all_blocks, bindings, declared, ended, later_keys, marked_envelope, named_envelope, named_marked, passed_calls, passed_held, passed_nothing, passed_stuck, pinged, plain_envelope, popped, popped_junk, popped_nothing, published, published_to_none, published_to_two, q, released, released_altered, released_foreign, released_nobody, requeued, returned, returned_by_bindings, returned_contended, returned_gone, returned_junk, returned_late, returned_nowhere, second_gone, second_tag, message_tag}
 use Rattle.worked_blocks.specs.Toy.{toy_setting}
 

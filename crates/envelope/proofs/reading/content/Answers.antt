@@ -2,8 +2,8 @@ use Rattle.std.proofs.Common.{◌≡◌, sym, ap, ◌∙◌, subst, rules}
 use Rattle.std.specs.Prelude.{IsUtf8}
 use Rattle.base64.specs.Engines.{standard}
 use Rattle.base64.specs.GeneralPurpose.{decode_of}
-use Rattle.envelope.specs.Reading.{needed}
-use Rattle.envelope.specs.declared.fault.EnvelopeFault.TheVariants.{BadBody}
+use Rattle.envelope_trees.specs.Reading.{needed}
+use Rattle.envelope_trees.specs.declared.fault.EnvelopeFault.TheVariants.{BadBody}
 use Rattle.envelope.proofs.Texts.{content_some, content_no_text, content_no_base64}
 use Rattle.envelope.proofs.reading.content.Goals as goal
 

@@ -5,9 +5,9 @@ use Rattle.serde_json.specs.Data.{Data}
 use Rattle.serde_json.specs.Written.{compact_text, has_float}
 use Rattle.serde_json.specs.View.{view as data_of}
 use Rattle.envelope.specs.Envelopes.{max_text}
-use Rattle.envelope.specs.Marks.{marked}
-use Rattle.envelope.proofs.Kept.{float-marked}
-use Rattle.envelope.proofs.Lengths.{marked_length}
+use Rattle.envelope_trees.specs.Marks.{marked}
+use Rattle.envelope_trees.proofs.Kept.{float-marked}
+use Rattle.envelope_trees.proofs.Lengths.{marked_length}
 use Rattle.envelope.proofs.reading.fits_marked.Goals as goal
 
 -- marks add so little that a short text stays short

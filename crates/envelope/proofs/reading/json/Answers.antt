@@ -1,6 +1,6 @@
 use Rattle.std.proofs.Common.{true≢false, sym, ap, ◌∙◌}
-use Rattle.envelope.specs.Reading.{needed}
-use Rattle.envelope.specs.declared.fault.EnvelopeFault.TheVariants.{NotJson}
+use Rattle.envelope_trees.specs.Reading.{needed}
+use Rattle.envelope_trees.specs.declared.fault.EnvelopeFault.TheVariants.{NotJson}
 use Rattle.envelope.proofs.Texts.{json_some, json_none}
 use Rattle.envelope.proofs.reading.json.Goals as goal
 

@@ -1,6 +1,6 @@
 use Rattle.std.proofs.Common.{sym, ◌∙◌}
 use Rattle.envelope.specs.Entries.{entry_at}
-use Rattle.envelope.specs.Tags.{tag_of_text}
+use Rattle.delivery_tags.specs.Tags.{tag_of_text}
 use Rattle.replay.proofs.Shaped.{from_entry, past_entry}
 use Rattle.replay.proofs.legend.entry_or_tag.Goals as goal
 

@@ -1,8 +1,8 @@
 use Rattle.std.proofs.Common.{rules, sym, subst, ◌∙◌}
 use Rattle.std.specs.Prelude.{IsUtf8}
 use Rattle.serde_json.specs.View.{view as data_of}
-use Rattle.envelope.specs.Tags.{tag_text}
-use Rattle.envelope.proofs.TagTexts.{tag_ascii}
+use Rattle.delivery_tags.specs.Tags.{tag_text}
+use Rattle.delivery_tags.proofs.TagTexts.{tag_ascii}
 use Rattle.schedule_world.proofs.Drafted.{same_headers}
 use Rattle.schedule_world.proofs.task.draft_of.Goals as goal
 

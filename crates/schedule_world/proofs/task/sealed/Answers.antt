@@ -1,7 +1,7 @@
 use Rattle.std.proofs.Common.{sym, subst}
 use Rattle.std.specs.Prelude.{IsUtf8}
 use Rattle.serde_json.specs.View.{view as data_of}
-use Rattle.envelope.proofs.TagTexts.{tag_ascii}
+use Rattle.delivery_tags.proofs.TagTexts.{tag_ascii}
 use Rattle.schedule_world.proofs.Drafted.{each_ok, sealed_is, texts_are, unsealed}
 use Rattle.schedule_world.proofs.Named.{each_some, same_names}
 use Rattle.schedule_world.proofs.task.sealed.Goals as goal

@@ -1,7 +1,7 @@
 -- The words are those of the two commands that put an envelope into the table, and are short.
 use Rattle.std.proofs.Common.{◌∙◌, ap, arith, codes, sym, subst}
 use Rattle.serde_json.specs.View.{view as data_of}
-use Rattle.envelope.specs.Tags.{tag_text}
+use Rattle.delivery_tags.specs.Tags.{tag_text}
 use Rattle.unacked.proofs.Kept.{index_said, table_said}
 use Rattle.place_model.proofs.CommandLimits.{IsShort}
 use Rattle.unacked.proofs.Limits.{decimal_short, entry_short, four_made, tag_short}

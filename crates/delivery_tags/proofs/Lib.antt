@@ -1,0 +1,3 @@
+pub mod SeedTags
+pub mod Sixteen
+pub mod TagTexts

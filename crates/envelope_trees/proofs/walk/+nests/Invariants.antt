@@ -1,0 +1,11 @@
+use Rattle.std.proofs.Common.{◌≡◌, drop}
+use Rattle.std.specs.Prelude.{nat_le}
+use Rattle.serde_json.specs.Data.{items_depth, members_depth}
+use Rattle.serde_json.specs.View.{items_view, members_view}
+use Rattle.envelope_trees.proofs.walk.+nests.Given as goal
+
+abbrev pub invariant-items_nest-loop-item : goal.invariant-items_nest-loop-item
+invariant-items_nest-loop-item l = nat_le (items_depth (items_view (drop l.item-index l.item-items))) l.limit ≡ nat_le (items_depth (items_view l.item-items)) l.limit
+
+abbrev pub invariant-members_nest-loop-member : goal.invariant-members_nest-loop-member
+invariant-members_nest-loop-member l = nat_le (members_depth (members_view l.member-iterator)) l.limit ≡ nat_le (members_depth (members_view l.members.entries)) l.limit

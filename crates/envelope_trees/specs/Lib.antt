@@ -1,0 +1,4 @@
+pub mod Marks
+pub mod Members
+pub mod Reading
+pub mod Sorted
