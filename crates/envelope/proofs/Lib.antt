@@ -1,9 +1,14 @@
 pub mod BodyTexts
 pub mod Contents
 pub mod EntriesBack
+pub mod EntryRelations
 pub mod EntryTexts
 pub mod EnvelopeTags
 pub mod MarkedSaid
+pub mod Members
+pub mod Octets
+pub mod Readings
+pub mod Relations
 pub mod Said
 pub mod Texts
 pub mod Told

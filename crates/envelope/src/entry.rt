@@ -4,6 +4,7 @@ ghost use Rattle.serde_json.specs.Data.{string};
 ghost use Rattle.serde_json.specs.View.{items_view, view as data_of};
 ghost use Rattle.serde_json.specs.Written.{compact_text};
 ghost use Rattle.envelope.specs.Entries.{entry_at, entry_data, entry_for, entry_in, of_items, of_three};
+ghost use Rattle.envelope.specs.Relations.{IsEntry};
 ghost use Rattle.envelope_trees.specs.Reading.{Gives, needed};
 ghost use Rattle.envelope.specs.ShownEntry.{entry_view, parts_of_items};
 ghost use Rattle.envelope.specs.Steps.{named_entry, value_entry};
@@ -37,8 +38,17 @@ pub struct UnackedEntry {
 /// The first that holds: `TooLong` above 1,048,576 bytes; `NotJson`, also where it is no array of three whose last
 /// two are texts; each fault of the envelope's tree, as `read` gives it; `TooLong` where one of the two texts has
 /// more than 255 bytes. `Memory` is want of memory.
-#[tactic(auto, unfolding(crate::specs::Entries::entry_at))]
 pub fn read_entry(alloc: Global, bytes: &[u8]) -> Result<UnackedEntry, EnvelopeFault>
+    ensures value { Gives entry_view result (entry_at bytes.now) }
+    // What is read is an entry's array, whose envelope has what an envelope has.
+    ensures members { IfOk result (λ e. IsEntry (entry_view e) bytes.now) }
+{
+    entry_told(alloc, bytes)
+}
+
+/// The entry that the bytes are, as their first fault is looked for.
+#[tactic(auto, unfolding(crate::specs::Entries::entry_at))]
+fn entry_told(alloc: Global, bytes: &[u8]) -> Result<UnackedEntry, EnvelopeFault>
     ensures { Gives entry_view result (entry_at bytes.now) }
 {
     want(bytes.len() <= MAX_ENTRY, EnvelopeFault::TooLong)?;

@@ -5,6 +5,7 @@ ghost use Rattle.serde_json.specs.Read.{max_depth, read as json_in};
 ghost use Rattle.serde_json.specs.View.{view as data_of};
 ghost use Rattle.serde_json.specs.Written.{compact_text, has_float};
 ghost use Rattle.envelope.specs.Envelopes.{Parts, are_short, content_of, envelope_at, envelope_of, json_at, max_text, parts_of, properties_said, said_by, tree_at};
+ghost use Rattle.envelope.specs.Relations.{IsEnvelope};
 ghost use Rattle.envelope_trees.specs.Marks.{marked};
 ghost use Rattle.envelope_trees.specs.Members.{text_at};
 ghost use Rattle.envelope_trees.specs.Reading.{Gives, needed, wanted};
@@ -47,8 +48,17 @@ const MAX_LEVELS: u32 = 100;
 /// `Missing` of the first member in the order of `Field`; `Compressed`; `BadBody`; `TooLong` where the exchange or
 /// the routing key has more than 255 bytes, or the compact text more than 1,040,000, or more than 1,000,000 with
 /// both redelivered marks. `Memory` is want of memory.
-#[tactic(auto, unfolding(crate::specs::Envelopes::envelope_at))]
 pub fn read(alloc: Global, bytes: &[u8]) -> Result<Envelope, EnvelopeFault>
+    ensures value { Gives data_of result (envelope_at bytes.now) }
+    // What is read has, member by member, what an envelope has.
+    ensures members { IfOk result (λ e. IsEnvelope (data_of e) bytes.now) }
+{
+    read_told(alloc, bytes)
+}
+
+/// The envelope that the bytes are, as their first fault is looked for.
+#[tactic(auto, unfolding(crate::specs::Envelopes::envelope_at))]
+fn read_told(alloc: Global, bytes: &[u8]) -> Result<Envelope, EnvelopeFault>
     ensures { Gives data_of result (envelope_at bytes.now) }
 {
     let tree = tree_of(alloc, bytes)?;

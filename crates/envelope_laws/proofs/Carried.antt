@@ -27,7 +27,7 @@ use Rattle.envelope_trees.proofs.TextsBack.{read-compact_text}
 use Rattle.json_texts.specs.Trees.{HasTexts}
 use Rattle.json_texts.proofs.Trees.{reads_texts}
 use Rattle.envelope_laws.specs.Carried.{IsCarried}
-use Rattle.envelope_laws.proofs.Members.{marked-texts}
+use Rattle.envelope.proofs.Members.{marked-texts}
 use Rattle.envelope_laws.proofs.Written.{compact_utf8}
 
 -- ---- the tree of an entry

@@ -1,11 +1,7 @@
-pub mod Members
-pub mod Octets
 pub mod Names
 pub mod Tags
 pub mod Written
 pub mod Carried
-pub mod Relations
-pub mod EntryRelations
 pub mod MarksAlone
 pub mod SealsSay
 pub mod Entered

@@ -11,7 +11,7 @@ use Rattle.envelope.proofs.Told.{told_by}
 use Rattle.json_texts.specs.Trees.{HasTexts}
 use Rattle.json_texts.proofs.Trees.{reads_texts}
 use Rattle.envelope_laws.specs.Names.{is_short_text}
-use Rattle.envelope_laws.proofs.Members.{object_at-texts, text_at-texts}
+use Rattle.envelope.proofs.Members.{object_at-texts, text_at-texts}
 
 pub names_utf8 : (d : Data) (p : Parts) → HasTexts d → said_by d ≡ Ok p → IsUtf8 p.exchange × IsUtf8 p.routing_key
 names_utf8 d p h e =

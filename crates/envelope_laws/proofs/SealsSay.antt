@@ -25,7 +25,7 @@ use Rattle.envelope.proofs.Contents.{content_back}
 use Rattle.sealed_drafts.proofs.SealedTrees.{sealed_is}
 use Rattle.delivery_tags.proofs.TagTexts.{tag_of_text-tag_text}
 use Rattle.envelope.proofs.Told.{told_by}
-use Rattle.envelope_laws.proofs.Octets.{utf8_bytes}
+use Rattle.envelope.proofs.Octets.{utf8_bytes}
 
 -- the content of a draft that was sealed is UTF-8
 sealed_text : (draft : Draft) (n : ℕ) (d : Data) → seal_of draft n ≡ Ok d → is_utf8 draft.content ≡ true

@@ -1,5 +1,5 @@
 -- What the program seals tells what was asked.
-use Rattle.std.proofs.Common.{◌≡◌, ℕ, ◌<◌, ◌≤◌, ◌^◌, [], length, Bool, true, false, ◌&&◌, if◌then◌else◌, Option, Some, None, option_map, option_and_then, Ok, IsUtf8, refl, sym, ap, subst, ◌∙◌, arith}
+use Rattle.std.proofs.Common.{◌≡◌, ℕ, min, ◌<◌, ◌≤◌, ◌^◌, [], length, Bool, true, false, ◌&&◌, if◌then◌else◌, Option, Some, None, option_map, option_and_then, Ok, IsUtf8, refl, sym, ap, subst, ◌∙◌, arith}
 use Rattle.std.specs.Prelude.{nat_le, nat_lt}
 use Rattle.std.specs.Result.{result_ok}
 use Rattle.std.specs.Str.{is_utf8}
@@ -46,12 +46,12 @@ tag_known s n e = go (nat_lt s (2 ^ 64) && nat_lt n (2 ^ 64)) refl e
 
 -- what an envelope's tree of these parts tells, as it is written
 told : (s n : ℕ) (d : Data) (p : Parts) → tag s n ≡ tag_text p.tag → envelope_at (compact_text d) ≡ Ok d → said_by d ≡ Ok p
-    → (written_tag (compact_text d) ≡ Some (tag s n)) × ((held : ℕ) × (way_of (compact_text d) ≡ Some (record { exchange = p.exchange; routing_key = p.routing_key; priority = held })))
+    → (written_tag (compact_text d) ≡ Some (tag s n)) × (way_of (compact_text d) ≡ Some (record { exchange = p.exchange; routing_key = p.routing_key; priority = priority_of d }))
 told s n d p text reads says =
     let same : parts_in d ≡ p = ap parts_or_none says in (
       ap (λ r. option_and_then (tag_as_written (compact_text d)) (result_ok r)) reads ∙ ap (λ b. if b then Some (tag_text (parts_in d).tag) else None) (same-refl (compact_text d))
           ∙ ap (λ (q : Parts). Some (tag_text q.tag)) same ∙ ap (λ x. Some x) (sym text),
-      (priority_of d, ap (λ r. option_map way_said (result_ok r)) reads ∙ ap (λ (q : Parts). way (record { exchange = q.exchange; routing_key = q.routing_key; priority = priority_of d })) same),
+      ap (λ r. option_map way_said (result_ok r)) reads ∙ ap (λ (q : Parts). way (record { exchange = q.exchange; routing_key = q.routing_key; priority = priority_of d })) same,
     )
   where
     way : Way → Option Way
@@ -60,7 +60,7 @@ told s n d p text reads says =
 -- what was sealed
 module _ (s n : ℕ) (x k : Bytes) (p : ℕ) (task j : Bytes) where
   abbrev Tells : Bytes → Type 0
-  Tells v = (written_tag v ≡ Some (tag s n)) × ((held : ℕ) × (way_of v ≡ Some (record { exchange = x; routing_key = k; priority = held })))
+  Tells v = (written_tag v ≡ Some (tag s n)) × (way_of v ≡ Some (record { exchange = x; routing_key = k; priority = min p 9 }))
 
   abbrev tree : Data → Data
   tree args = task_tree (tag s n) x k p task args

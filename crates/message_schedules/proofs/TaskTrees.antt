@@ -23,7 +23,7 @@ use Rattle.envelope_laws.proofs.Written.{compact_utf8}
 use Rattle.json_texts.specs.Trees.{HasTexts, MembersHaveTexts}
 use Rattle.queue_keys.specs.Names.{Bytes}
 use Rattle.schedule_model.specs.Drafts.{content_tree, headers_tree, no_embed, task_tree}
-use Rattle.envelope_laws.proofs.Octets.{utf8_bytes}
+use Rattle.envelope.proofs.Octets.{utf8_bytes}
 
 -- ---- members by their names
 

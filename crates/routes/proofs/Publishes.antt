@@ -11,7 +11,7 @@ use Rattle.command_blocks.specs.Scripts.{Over, Plan, Declare, Undeclare, Publish
 use Rattle.block_core.specs.Stages.{TellsOn, progress_left}
 use Rattle.block_laws.specs.Rows.{IsPublication}
 use Rattle.routes.specs.Publishes.{GoesDirectly, PublishHad, TellsPublish, direct_key, pushed_by, push_stage_left}
-use Rattle.routes.specs.declared.publish.PublishStage.{PublishStage}
+use Rattle.routes.specs.declared.stage.PublishStage.{PublishStage}
 use Rattle.routes.proofs.Direct.{direct_keys}
 
 -- what an answer to the push brought is left

@@ -14,7 +14,7 @@ use Rattle.block_core.specs.Cores.{HasHad, core_left}
 use Rattle.block_core.specs.declared.block.BlockCore.{BlockCore}
 use Rattle.block_core.specs.declared.stage.Progress.{Progress}
 use Rattle.block_core.specs.declared.stage.Progress.TheVariants.{Over, Refused}
-use Rattle.routes.specs.declared.publish.PublishStage.{PublishStage}
+use Rattle.routes.specs.declared.stage.PublishStage.{PublishStage}
 use Rattle.routes.specs.declared.publish.Sent.{Sent}
 
 -- the tree is that of an envelope that goes to a queue directly, and its text is read again as the same tree

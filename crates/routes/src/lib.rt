@@ -2,5 +2,7 @@
 #![tactic(auto)]
 
 mod publish;
+mod stage;
 
-pub use publish::{PublishCore, PublishStage, Sent, publish_core};
+pub use publish::{PublishCore, Sent, publish_core};
+pub use stage::PublishStage;

@@ -12,10 +12,11 @@ ghost use Rattle.routes.specs.Publishes.{GoesDirectly, HasPublishing, direct_key
 ghost use Rattle.serde_json.specs.View.{view as data_of};
 ghost use Rattle.serde_json.specs.Written.{compact_text};
 
+use crate::stage::PublishStage;
 use block_core::{BlockCore, Progress, Stage};
 use command_blocks::answer::integer;
 use envelope::{Envelope, Tag, write};
-use queue_keys::{QueueName, queue_key, step_of};
+use queue_keys::{NameFault, QueueName, queue_key, step_of};
 use std::alloc::{AllocError, Global};
 use wire_values::{Bytes, Value, Words};
 
@@ -27,12 +28,6 @@ pub type PublishCore = BlockCore<PublishStage, Sent>;
 pub struct Sent {
     pub tag: Tag,
     pub queues: u32,
-}
-
-/// The one command of a publication, LPUSH.
-#[derive(Drop)]
-pub struct PublishStage {
-    envelope: Envelope,
 }
 
 impl Stage for PublishStage {
@@ -88,6 +83,7 @@ fn pushed(tag: Tag, answer: &Value) -> Progress<PublishStage, Sent>
 
 /// The words that push an envelope to the list of its queue.
 fn push_words(alloc: Global, e: &Envelope) -> Result<Words, AllocError>
+    requires { is_name (parts_in (data_of e.now)).routing_key ≡ true }
     ensures words { IfOk result (λ words. let d = data_of e.now in
         words ≡ codes "LPUSH" ∷ direct_key d ∷ compact_text d ∷ []) }
     ensures limits { IfOk result (λ words. IsWithinLimits words) }
@@ -99,13 +95,25 @@ fn push_words(alloc: Global, e: &Envelope) -> Result<Words, AllocError>
 
 /// The key of the list to which an envelope is pushed, whose routing key is the lawful name of a queue.
 fn list_key(alloc: Global, e: &Envelope) -> Result<Bytes, AllocError>
-    ensures key { IfOk result (λ key. key ≡ direct_key (data_of e.now)) }
-    ensures named { IfOk result (λ _. is_name (parts_in (data_of e.now)).routing_key ≡ true) }
+    requires { is_name (parts_in (data_of e.now)).routing_key ≡ true }
+    ensures { IfOk result (λ key. key ≡ direct_key (data_of e.now)) }
 {
-    let Ok(queue) = QueueName::new(alloc, e.routing_key()) else {
-        return Err(AllocError);
-    };
+    let queue = lawful_name(alloc, e.routing_key())?;
     queue_key(alloc, &queue, step_of(e.priority()))
+}
+
+/// The queue of a lawful name.
+fn lawful_name(alloc: Global, name: &[u8]) -> Result<QueueName, AllocError>
+    requires { is_name name.now ≡ true }
+    ensures { IfOk result (λ queue. queue ≡ name.now) }
+{
+    match QueueName::new(alloc, name) {
+        Ok(queue) => Ok(queue),
+        Err(NameFault::Memory) => Err(AllocError),
+        Err(
+            NameFault::Empty | NameFault::Long | NameFault::Byte(_) | NameFault::Reserved,
+        ) => unreachable!(),
+    }
 }
 
 /// Three words.

@@ -1,12 +1,14 @@
 -- The crafts of lawful layouts.
-use Rattle.std.proofs.Common.{◌≡◌, ℕ, ◌*◌, ◌≤◌, suc, arith, refl, ap, sym, ◌∙◌, subst, List, [], ◌∷◌, ◌++◌, Bool, true, false, Some, if◌then◌else◌, length, length-append}
+use Rattle.std.proofs.Common.{◌≡◌, ℕ, ◌*◌, ◌≤◌, suc, arith, refl, ap, sym, ◌∙◌, subst, List, [], ◌∷◌, ◌++◌, Bool, true, false, Some, if◌then◌else◌, length, min, length-append}
 use Rattle.std.specs.Prelude.{◌&&◌}
 use Rattle.queue_keys.specs.Names.{Bytes, is_name}
 use Rattle.queue_keys.specs.Layouts.{Layout, is_layout, is_prefix, rises_from_zero, step_of}
 use Rattle.queue_keys.specs.QueueKeys.{queue_key, keys_at, keys_by, pop_keys}
 use Rattle.queue_keys.specs.Lookup.{route_keys}
 use Rattle.command_blocks.specs.Setting.{Texts, IsTexts, IsLawful, named_exchange, way_keys, setting_of}
+use Rattle.queue_keys.proofs.Splits.{split_of_key}
 use Rattle.key_laws.proofs.Settings.{lawful_setting}
+use Rattle.key_laws.proofs.Steps.{has_step}
 use Rattle.manner_laws.specs.Cursor.{IsReadable}
 use Rattle.manner_laws.specs.LayoutKeys.{exchange_of_key, TellsShortExchanges}
 use Rattle.manner_laws.proofs.LayoutReads.{readable_layout}
@@ -46,11 +48,12 @@ few_keys l lawful few q qs le = by l.steps refl where
 one_key : (l : Layout) (k : Bytes) (held : ℕ) → is_name k ≡ true → route_keys l (step_of l held) [] k [] ≡ queue_key l k (step_of l held) ∷ []
 one_key l k held is = ap (λ b. keys_at l (step_of l held) (if b then k ∷ [] else [])) is
 
-sealed_tells : (l : Layout) (τ : Texts) (s n : ℕ) (x k v : Bytes) (held : ℕ) → τ.written_tag v ≡ Some (τ.tag s n) → τ.way_of v ≡ Some (record { exchange = x; routing_key = k; priority = held }) → IsSealed (setting_of l τ) s n x k v
-sealed_tells l τ s n x k v held tag way = record {
+sealed_tells : (l : Layout) (τ : Texts) (s n : ℕ) (x k v : Bytes) (held : ℕ) → is_layout l ≡ true → τ.written_tag v ≡ Some (τ.tag s n) → τ.way_of v ≡ Some (record { exchange = x; routing_key = k; priority = held }) → IsSealed (setting_of l τ) s n x k v
+sealed_tells l τ s n x k v held lawful tag way = record {
   tag = tag;
   exchange = ap named_exchange way;
-  key = λ empty is. (queue_key l k (step_of l held), ap (λ w. way_keys l w []) way ∙ (ap (λ e. route_keys l (step_of l held) e k []) empty ∙ one_key l k held is));
+  key = λ empty is. (queue_key l k (step_of l held), (step_of l held, (ap (λ w. way_keys l w []) way ∙ (ap (λ e. route_keys l (step_of l held) e k []) empty ∙ one_key l k held is),
+      split_of_key l k (step_of l held) is (has_step l held lawful))));
 }
 
 -- ---- crafts
@@ -60,6 +63,6 @@ layout_craft l τ κ lawful few is texts short tells = record {
   lawful = subst IsLawful (sym is) (lawful_setting l τ lawful texts);
   exchange_at = exchange_of_key l;
   readable = subst (λ σ. IsReadable σ (exchange_of_key l)) (sym is) (readable_layout l τ lawful short);
-  seals = λ s n x k p t j v e. let h = tells s n x k p t j v e in subst (λ σ. IsSealed σ s n x k v) (sym is) (sealed_tells l τ s n x k v h.1.0 h.0 h.1.1);
+  seals = λ s n x k p t j v e. let h = tells s n x k p t j v e in subst (λ σ. IsSealed σ s n x k v) (sym is) (sealed_tells l τ s n x k v (min p 9) lawful h.0 h.1);
   pops = λ q qs le. subst (λ σ. (k : Bytes) × (ks : List Bytes) × (σ.pop_keys (q ∷ qs) ≡ k ∷ ks) × (length (k ∷ ks) ≤ 4094)) (sym is) (few_keys l lawful few q qs le);
 }

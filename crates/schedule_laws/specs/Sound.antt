@@ -1,5 +1,5 @@
 -- Soundness of what a schedule determines.
-use Rattle.std.specs.Prelude.{◌≡◌, ℕ, ◌^◌, ◌<◌, ◌≤◌, true, List, [], ◌∷◌, length, Option, Some}
+use Rattle.std.specs.Prelude.{◌≡◌, ℕ, ◌^◌, ◌<◌, ◌≤◌, true, List, [], ◌∷◌, length, min, Option, Some}
 use Rattle.queue_keys.specs.Names.{Bytes, is_name}
 use Rattle.queue_keys.specs.Layouts.{Layout, is_layout}
 use Rattle.command_blocks.specs.Setting.{Setting, Texts, IsTexts, IsLawful, named_or_none, setting_of}
@@ -14,11 +14,11 @@ use Rattle.schedule_model.specs.Desk.{ScheduleReader}
 use Rattle.schedule_model.specs.Faults.{Craft}
 use Rattle.schedule_model.specs.Schedules.{Determined, Whole, Full, Bad_line, schedule_run, reader_history}
 
--- the envelope v, as it is written, tells what was asked: a tag's seed and counter, an exchange, and with the empty exchange one key
+-- the envelope v, as it is written, tells what was asked: a tag's seed and counter, an exchange, and with the empty exchange one key, that of the queue k at a step
 pub record IsSealed (σ : Setting) (s n : ℕ) (x k v : Bytes) : Type 0 where
   pub tag : σ.written_tag v ≡ Some (σ.tag s n)
   pub exchange : σ.exchange_of v ≡ named_or_none x
-  pub key : x ≡ [] → is_name k ≡ true → (q : Bytes) × (σ.keys_for v [] ≡ q ∷ [])
+  pub key : x ≡ [] → is_name k ≡ true → (q : Bytes) × (step : ℕ) × (σ.keys_for v [] ≡ q ∷ []) × (σ.split q ≡ Some (k, step))
 
 -- the names and texts are lawful, keys tell what they were made of, sealed envelopes tell what was asked, and as many queues as a line may name can be popped
 pub record IsCraft (κ : Craft) : Type 0 where
@@ -54,10 +54,10 @@ SchedulesSound = (κ : Craft) → IsCraft κ → (bytes : Bytes) → IsSoundlyDe
 
 -- ---- crafts of layouts
 
--- sealed envelopes stand as they are written, tell the tag of the seed and the counter, and go where was asked
+-- sealed envelopes stand as they are written, tell the tag of the seed and the counter, and go where was asked, with the priority that was asked, held within 0 to 9
 abbrev pub SealsTell : Texts → Craft → Type 0
 SealsTell τ κ = (s n : ℕ) (x k : Bytes) (p : ℕ) (t j v : Bytes) → κ.sealed s n x k p t j ≡ Some v
-    → (τ.written_tag v ≡ Some (τ.tag s n)) × ((held : ℕ) × (τ.way_of v ≡ Some (record { exchange = x; routing_key = k; priority = held })))
+    → (τ.written_tag v ≡ Some (τ.tag s n)) × (τ.way_of v ≡ Some (record { exchange = x; routing_key = k; priority = min p 9 }))
 
 -- a lawful layout of at most four steps makes a craft, with texts that keep their facts and envelopes that tell what was asked
 abbrev pub LayoutsMakeCrafts : Type 0

@@ -8,6 +8,7 @@ use Rattle.serde_json.specs.Find.{get, of_integer}
 use Rattle.serde_json.specs.View.{view as data_of}
 use Rattle.serde_json.specs.Written.{has_float, compact_text}
 use Rattle.envelope.specs.Envelopes.{are_short, max_bytes, max_text}
+use Rattle.envelope.specs.SealedTrees.{sealed_info, sealed_properties, sealed_tree}
 use Rattle.envelope_trees.specs.Marks.{marked}
 use Rattle.envelope_trees.specs.Members.{if_object, is_nothing}
 use Rattle.envelope_trees.specs.Reading.{◌>>=◌, needed, wanted}

@@ -1,8 +1,11 @@
--- What commands leave of connections: each that watches an altered key is marked, and at most messages come to be pending.
-use Rattle.std.proofs.Common.{◌≡◌, ◌≢◌, ℕ, List, [], ◌∷◌, ◌++◌, Bool, true, false, cond, refl, sym, ap, subst, ◌∙◌, Some, Option}
+-- What commands leave of connections: each that watches an altered key is marked, and at most messages on its channels come to be pending.
+use Rattle.std.proofs.Common.{◌≡◌, ◌≢◌, ◌⊎◌, inl, inr, ◌≤◌, ◌<◌, ◌+◌, ℕ, List, [], ◌∷◌, ◌++◌, length, length-append, Bool, true, false, cond, nat_lt, refl, sym, ap, subst, ◌∙◌, Some, Option, arith}
 use Rattle.std.specs.Prelude.{◌||◌, map, if◌then◌else◌}
 use Rattle.std.specs.Ordering.{nat_cmp, eq_by_cmp}
+use Rattle.std.proofs.lemmas.Bool.{and_parts}
+use Rattle.std.proofs.lemmas.Bool.Decides.{nat_tests}
 use Rattle.std.proofs.lemmas.Cmp.{nat_cmp_total}
+use Rattle.wire_values.specs.declared.value.Value.{Value}
 use Rattle.std.specs.FinMap.{insert, remove, entries, from_entries, get-entries, get-from_entries, nat_cmp-IsAntisymmetric}
 use Rattle.std.specs.FinMap.Entries.{find}
 use Rattle.store_model.specs.Words.{Bytes}
@@ -15,7 +18,7 @@ use Rattle.store_model.specs.declared.command.Command.{Command}
 use Rattle.store_model.specs.declared.command.Command.TheVariants.{Publish}
 use Rattle.store_model.specs.declared.connection.Queue.{Queue}
 use Rattle.store_model.specs.declared.connection.Conn.{Conn}
-use Rattle.store_laws.specs.Laws.{IsTouched, IsGone}
+use Rattle.store_laws.specs.Laws.{AreHeard, IsTouched, IsGone}
 use Rattle.store_laws.proofs.Maps.{get-insert_same, get-insert_other, get-remove_same, get-remove_other}
 use Rattle.store_laws.proofs.Law.{hit-append}
 
@@ -51,10 +54,21 @@ touch_none c = λ i. record c { marked = or_false c.marked i }
 
 -- nothing was altered, and nothing came
 pub untouched : (c : Conn) → IsTouched [] c c
-untouched c = record { queue = refl; watched = refl; marked = sym (or_false c.marked); channels = refl; pending = ([], sym (append_none c.pending)) }
+untouched c = record { queue = refl; watched = refl; marked = sym (or_false c.marked); channels = refl; pending = ([], (sym (append_none c.pending), tt)); room = inl refl }
 
 pub touched_by : (ks : List Bytes) (c : Conn) → IsTouched ks c (touch ks c)
-touched_by ks c = record { queue = refl; watched = refl; marked = refl; channels = refl; pending = ([], sym (append_none c.pending)) }
+touched_by ks c = record { queue = refl; watched = refl; marked = refl; channels = refl; pending = ([], (sym (append_none c.pending), tt)); room = inl refl }
+
+-- messages after messages
+heard-append : (channels : List Bytes) (vs ws : List Value) → AreHeard channels vs → AreHeard channels ws → AreHeard channels (vs ++ ws)
+heard-append channels [] ws h i = i
+heard-append channels (v ∷ vs) ws h i = (h.0, heard-append channels vs ws h.1 i)
+
+-- what came in two steps, or in one of them
+room_then : (xs ys zs : List Value) → (ys ≡ xs) ⊎ (length ys ≤ 1024) → (zs ≡ ys) ⊎ (length zs ≤ 1024) → (zs ≡ xs) ⊎ (length zs ≤ 1024)
+room_then xs ys zs h (inr le) = inr le
+room_then xs ys zs (inl e) (inl f) = inl (f ∙ e)
+room_then xs ys zs (inr le) (inl f) = inr (subst (λ l. length l ≤ 1024) (sym f) le)
 
 pub touched_then : (ks ks' : List Bytes) (c c' c'' : Conn) → IsTouched ks c c' → IsTouched ks' c' c'' → IsTouched (ks ++ ks') c c''
 touched_then ks ks' c c' c'' t u = record {
@@ -62,7 +76,8 @@ touched_then ks ks' c c' c'' t u = record {
   watched = u.watched ∙ t.watched;
   marked = u.marked ∙ (λ i. t.marked i || hit ks' (t.watched i)) ∙ or_assoc c.marked (hit ks c.watched) (hit ks' c.watched) ∙ ap (λ b. c.marked || b) (sym (hit-append ks ks' c.watched));
   channels = u.channels ∙ t.channels;
-  pending = (t.pending.0 ++ u.pending.0, u.pending.1 ∙ ap (λ xs. xs ++ u.pending.0) t.pending.1 ∙ append_assoc c.pending t.pending.0 u.pending.0);
+  pending = (t.pending.0 ++ u.pending.0, (u.pending.1.0 ∙ ap (λ xs. xs ++ u.pending.0) t.pending.1.0 ∙ append_assoc c.pending t.pending.0 u.pending.0, heard-append c.channels t.pending.0 u.pending.0 t.pending.1.1 (subst (λ cs. AreHeard cs u.pending.0) t.channels u.pending.1.1)));
+  room = room_then c.pending c'.pending c''.pending t.room u.room;
 }
 
 -- ---- maps of connections
@@ -85,12 +100,20 @@ pub conn-delivered : (channel text : Bytes) (m : Conns) (c : ℕ) → conn (deli
 unfolding delivered
 conn-delivered channel text m c = conn-mapped (reached channel text) m c refl
 
+one_more : (vs : List Value) (v : Value) → nat_lt (length vs) 1024 ≡ true → length (vs ++ v ∷ []) ≤ 1024
+one_more vs v e =
+    let long : length (vs ++ v ∷ []) ≡ length vs + 1 = length-append vs (v ∷ []) in
+    let few : length vs < 1024 = grind (arith, nat_tests) in
+    omega (arith, long, few)
+
 told_kept : (channel text : Bytes) (c : Conn) → IsTouched [] c (reached channel text c)
-told_kept channel text c = go (hears channel c)
+told_kept channel text c = go (hears channel c) refl
   where
-    go : (b : Bool) → IsTouched [] c (if b then record c { pending = c.pending ++ message channel text ∷ [] } else c)
-    go true = record { queue = refl; watched = refl; marked = sym (or_false c.marked); channels = refl; pending = (message channel text ∷ [], refl) }
-    go false = untouched c
+    go : (b : Bool) → hears channel c ≡ b → IsTouched [] c (if b then record c { pending = c.pending ++ message channel text ∷ [] } else c)
+    go true e =
+        let s = and_parts _ _ e in
+        record { queue = refl; watched = refl; marked = sym (or_false c.marked); channels = refl; pending = (message channel text ∷ [], (refl, ((channel, (text, (s.0, refl))), tt))); room = inr (one_more c.pending (message channel text) s.1) }
+    go false e = untouched c
 
 -- a command alters no more of a connection than its pending messages by what it posts
 pub posted_kept : (command : Command) (m : Conns) (c : ℕ) → IsTouched [] (conn m c) (conn (posted command m) c)

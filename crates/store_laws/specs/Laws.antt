@@ -1,10 +1,11 @@
 -- What commands keep of keys and of connections.
-use Rattle.std.specs.Prelude.{◌≡◌, ℕ, ◌||◌, ◌++◌, false, List, bytes_eq, None, if◌then◌else◌}
+use Rattle.std.specs.Prelude.{◌≡◌, ◌⊎◌, ◌≤◌, ℕ, ◌||◌, ◌++◌, true, false, List, [], ◌∷◌, length, bytes_eq, None, if◌then◌else◌}
 use Rattle.std.specs.List.{list_any}
 use Rattle.std.specs.FinMap.{get, entries}
 use Rattle.wire_values.specs.declared.value.Value.{Value}
 use Rattle.store_model.specs.Words.{Bytes}
 use Rattle.store_model.specs.Keys.{Keys, is_expired, due_keys}
+use Rattle.store_model.specs.Replies.{message}
 use Rattle.store_model.specs.Commands.{Around, run}
 use Rattle.store_model.specs.Connections.{Conns, no_conn, conn, hit, touch}
 use Rattle.store_model.specs.Store.{State, run_all, settled}
@@ -23,13 +24,19 @@ KeepsOthers e m command k = IsKept m (run e m command).altered (run e m command)
 abbrev pub QueueKeepsOthers : ℕ → Keys → Conns → List Command → Bytes → Type 0
 QueueKeepsOthers at m cs commands k = IsKept m (run_all at m cs commands).altered (run_all at m cs commands).keys k
 
--- a connection after these keys were altered: it is marked where it watches one of them, and at most messages came to be pending
+-- each of these is a message on one of the channels
+abbrev pub AreHeard : List Bytes → List Value → Type 0
+AreHeard channels [] = Unit {0}
+AreHeard channels (v ∷ vs) = ((channel : Bytes) × (text : Bytes) × (list_any (bytes_eq channel) channels ≡ true) × (v ≡ message channel text)) × AreHeard channels vs
+
+-- a connection after these keys were altered: it is marked where it watches one of them, and messages on its channels may have come to be pending, after those that were, up to 1,024 in all
 pub record IsTouched (altered : List Bytes) (before now : Conn) : Type 0 where
   pub queue : now.queue ≡ before.queue
   pub watched : now.watched ≡ before.watched
   pub marked : now.marked ≡ (before.marked || hit altered before.watched)
   pub channels : now.channels ≡ before.channels
-  pub pending : (more : List Value) × (now.pending ≡ before.pending ++ more)
+  pub pending : (more : List Value) × (now.pending ≡ before.pending ++ more) × AreHeard before.channels more
+  pub room : (now.pending ≡ before.pending) ⊎ (length now.pending ≤ 1024)
 
 -- what a step of connection c leaves beside it: keys that aren't told of as altered, and connections that watch none of the altered ones, are as before
 pub record IsElsewhere (before now : State) (c : ℕ) : Type 0 where

@@ -1,6 +1,6 @@
 -- What `envelopes_read` ensures.
-use Rattle.envelope_laws.proofs.EntryRelations.{entry_from, entry_read}
-use Rattle.envelope_laws.proofs.Relations.{envelope_from, envelope_read, tree_said}
+use Rattle.envelope.proofs.EntryRelations.{entry_from, entry_read}
+use Rattle.envelope.proofs.Relations.{envelope_from, envelope_read, tree_said}
 use Rattle.envelope_laws.proofs.envelopes_read.Goals as goal
 
 pub returns-clause-envelopes : goal.returns-clause-envelopes

@@ -9,4 +9,4 @@ use Rattle.unacked.proofs.pop.delivered.Goals as goal
 pub returns-in_ok-delivery-in-Ok-clause-left : goal.returns-in_ok-delivery-in-Ok-clause-left
 returns-in_ok-delivery-in-Ok-clause-left c =
     ap (λ (d : Delivery). begin_left (index_words (data_of d.envelope)) (table_words (data_of d.envelope))) c.in_ok-delivery-in-Ok.ensures.ok
-    ∙ kept (data_of c.in-Ok.envelope) c.args.element.now c.in-Ok.ensures
+    ∙ kept (data_of c.in-Ok.envelope) c.args.element.now c.in-Ok.ensures.value

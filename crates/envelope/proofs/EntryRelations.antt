@@ -19,7 +19,7 @@ use Rattle.envelope.proofs.Said.{bind_ok, needed_is, wanted_is}
 use Rattle.envelope.proofs.Texts.{json_some}
 use Rattle.json_texts.specs.Trees.{HasTexts}
 use Rattle.json_texts.proofs.Trees.{reads_texts}
-use Rattle.envelope_laws.proofs.Relations.{is_short, short_is, tree_from, tree_said}
+use Rattle.envelope.proofs.Relations.{is_short, short_is, tree_from, tree_said}
 
 -- ---- the array of an entry
 

@@ -22,8 +22,8 @@ use Rattle.envelope.proofs.Contents.{content_back}
 use Rattle.envelope.proofs.Told.{IsPropertiesTold, IsTold, told_by, told_from}
 use Rattle.json_texts.specs.Trees.{HasTexts}
 use Rattle.json_texts.proofs.Trees.{reads_texts}
-use Rattle.envelope_laws.proofs.Members.{text_at-texts}
-use Rattle.envelope_laws.proofs.Octets.{utf8_bytes}
+use Rattle.envelope.proofs.Members.{text_at-texts}
+use Rattle.envelope.proofs.Octets.{utf8_bytes}
 
 -- ---- words and bodies
 
