@@ -1,5 +1,5 @@
 -- What a reading gives is an envelope or an entry, member by member.
-use Rattle.std.proofs.Common.{◌≡◌, ℕ, List, Result, Ok, Err}
+use Rattle.std.proofs.Common.{ℕ, List, Result, Ok, Err}
 use Rattle.std.specs.Prelude.{IfOk}
 use Rattle.serde_json.specs.Data.{Data}
 use Rattle.envelope_trees.specs.Reading.{Gives}

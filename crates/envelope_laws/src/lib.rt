@@ -3,13 +3,13 @@
 
 mod laws;
 
-pub use laws::{bodies_stay, marks_stay, tags_tell, texts_read_back};
-
 ghost use Rattle.envelope_laws.specs.Carried.{EntriesCarryEnvelopes, EnvelopesGoIn};
 ghost use Rattle.envelope_laws.specs.Marks.{MarksAlone};
 ghost use Rattle.envelope_laws.specs.Names.{NamesAreTexts, TagsAreShort};
 ghost use Rattle.envelope_laws.specs.Relations.{ReadsEntries, ReadsEnvelopes, TreesSay};
 ghost use Rattle.envelope_laws.specs.Sealed.{SealsSay};
+
+pub use laws::{bodies_stay, marks_stay, tags_tell, texts_read_back};
 
 /// Reading gives an envelope's tree exactly where the bytes are a JSON text of that tree and the tree has, member by member,
 /// what an envelope has; it then says what its members say. The same holds of entries.

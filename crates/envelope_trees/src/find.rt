@@ -29,11 +29,7 @@ pub fn object<'a>(value: &'a Value, name: &str) -> Option<&'a Value>
 }
 
 /// The text at a name, or the fault that it is missing.
-pub fn needed_text<'a>(
-    value: &'a Value,
-    name: &str,
-    field: Field,
-) -> Result<&'a str, EnvelopeFault>
+pub fn needed_text<'a>(value: &'a Value, name: &str, field: Field) -> Result<&'a str, EnvelopeFault>
     ensures { Gives (λ s. s.now) result (needed (Missing field)
         (text_at name.now (view value.now))) }
 {

@@ -110,9 +110,8 @@ fn lawful_name(alloc: Global, name: &[u8]) -> Result<QueueName, AllocError>
     match QueueName::new(alloc, name) {
         Ok(queue) => Ok(queue),
         Err(NameFault::Memory) => Err(AllocError),
-        Err(
-            NameFault::Empty | NameFault::Long | NameFault::Byte(_) | NameFault::Reserved,
-        ) => unreachable!(),
+        Err(NameFault::Empty | NameFault::Long | NameFault::Byte(_) | NameFault::Reserved) =>
+            unreachable!(),
     }
 }
 

@@ -52,8 +52,16 @@ sealed_tells : (l : Layout) (τ : Texts) (s n : ℕ) (x k v : Bytes) (held : ℕ
 sealed_tells l τ s n x k v held lawful tag way = record {
   tag = tag;
   exchange = ap named_exchange way;
-  key = λ empty is. (queue_key l k (step_of l held), (step_of l held, (ap (λ w. way_keys l w []) way ∙ (ap (λ e. route_keys l (step_of l held) e k []) empty ∙ one_key l k held is),
-      split_of_key l k (step_of l held) is (has_step l held lawful))));
+  key = λ empty is. (
+    queue_key l k (step_of l held),
+    (
+      step_of l held,
+      (
+        ap (λ w. way_keys l w []) way ∙ (ap (λ e. route_keys l (step_of l held) e k []) empty ∙ one_key l k held is),
+        split_of_key l k (step_of l held) is (has_step l held lawful),
+      ),
+    ),
+  );
 }
 
 -- ---- crafts

@@ -4,7 +4,7 @@ use Rattle.std.specs.Prelude.{nat_le, not}
 use Rattle.std.specs.Str.{is_utf8}
 use Rattle.std.proofs.lemmas.Bool.Decides.{nat_tests}
 use Rattle.base64.specs.Engines.{standard}
-use Rattle.base64.specs.GeneralPurpose.{decode_of, decoded_of, encode_of}
+use Rattle.base64.specs.GeneralPurpose.{encode_of}
 use Rattle.serde_json.specs.Data.{Data, null, boolean, number, string, array, object, Members, depth}
 use Rattle.serde_json.specs.Find.{get, of_integer, is_float}
 use Rattle.serde_json.specs.View.{view as data_of}

@@ -1,10 +1,10 @@
 -- The envelope that a producer's draft becomes.
-use Rattle.std.specs.Prelude.{List, ℕ, ℤ, codes, [], length, nat_le, not, Result, Ok}
+use Rattle.std.specs.Prelude.{ℕ, codes, length, nat_le, not, Result, Ok}
 use Rattle.std.specs.Str.{is_utf8}
 use Rattle.base64.specs.Engines.{standard}
 use Rattle.base64.specs.GeneralPurpose.{encode_of}
-use Rattle.serde_json.specs.Data.{Data, string, number, unsigned, object, member, no_members, depth}
-use Rattle.serde_json.specs.Find.{get, of_integer}
+use Rattle.serde_json.specs.Data.{Data, depth}
+use Rattle.serde_json.specs.Find.{get}
 use Rattle.serde_json.specs.View.{view as data_of}
 use Rattle.serde_json.specs.Written.{has_float, compact_text}
 use Rattle.envelope.specs.Envelopes.{are_short, max_bytes, max_text}
