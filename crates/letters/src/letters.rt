@@ -31,13 +31,19 @@ pub struct Letters {
 }
 
 impl Letters {
-    ghost use Rattle.std.specs.Prelude.{IfOk, IfSome, Ok};
+    ghost use Rattle.std.specs.Prelude.{IfSome, List, Ok, OnOk, ℕ};
     ghost use Rattle.envelope.specs.Entries.{entry_at, entry_for};
     ghost use Rattle.envelope.specs.Envelopes.{envelope_at};
+    ghost use Rattle.letters.specs.Known.{Knows};
+    ghost use Rattle.letters.specs.Letters.{envelope_letter};
+    ghost use Rattle.letters.specs.declared.letter.Letter.{Letter};
     ghost use Rattle.serde_json.specs.View.{view as data_of};
+    ghost use Rattle.serde_json.specs.Written.{compact_text};
 
     /// No texts; takes no memory.
-    pub fn new(alloc: Global) -> Letters {
+    pub fn new(alloc: Global) -> Letters
+        ensures { (text : List ℕ) (letter : Letter) → Knows result text letter → ⊥ }
+    {
         Letters {
             kept: BTreeMap::new(alloc),
         }
@@ -45,7 +51,9 @@ impl Letters {
 
     /// What the bytes spell, where they are known. Takes no memory.
     pub fn known(&self, bytes: &[u8]) -> Option<Letter>
-        ensures { IfSome result (λ letter. letter_of bytes.now ≡ Some letter) }
+        ensures letter { IfSome result (λ letter. letter_of bytes.now ≡ Some letter) }
+        // Only what was noted is known.
+        ensures noted { IfSome result (λ letter. Knows self.now bytes.now letter) }
     {
         match self.kept.get(&mark_of(bytes)) {
             Some(note) => note.letter_if(bytes),
@@ -54,7 +62,9 @@ impl Letters {
     }
 
     /// Notes an envelope by its compact text, and by the text of its entry.
-    pub fn note(&mut self, alloc: Global, e: &Envelope) -> Result<(), AllocError> {
+    pub fn note(&mut self, alloc: Global, e: &Envelope) -> Result<(), AllocError>
+        ensures { OnOk result (Knows self.new (compact_text (data_of e.now)) (envelope_letter (data_of e.now))) }
+    {
         let entry = write_entry(alloc, e)?;
         self.add_entry(entry, e)?;
         let text = Bytes::from_slice(alloc, e.text())?;
@@ -64,6 +74,7 @@ impl Letters {
     /// Notes an envelope by its text.
     fn add(&mut self, text: Bytes, e: &Envelope) -> Result<(), AllocError>
         requires { envelope_at text ≡ Ok (data_of e.now) }
+        ensures { OnOk result (Knows self.new text (envelope_letter (data_of e.now))) }
     {
         self.put(text, Letter::of_envelope(e))
     }
@@ -78,6 +89,7 @@ impl Letters {
     /// Notes what a text spells.
     fn put(&mut self, text: Bytes, letter: Letter) -> Result<(), AllocError>
         requires { letter_of text ≡ Some letter }
+        ensures { OnOk result (Knows self.new text letter) }
     {
         let mark = mark_of(text.as_slice());
         let _ = self.kept.insert(mark, Note { text, letter })?;
@@ -90,7 +102,8 @@ impl Note {
 
     /// What the bytes spell, where they are this text.
     fn letter_if(&self, bytes: &[u8]) -> Option<Letter>
-        ensures { IfSome result (λ letter. letter_of bytes.now ≡ Some letter) }
+        ensures letter { IfSome result (λ letter. letter_of bytes.now ≡ Some letter) }
+        ensures own { IfSome result (λ letter. (self.now.text ≡ bytes.now) × (self.now.letter ≡ letter)) }
     {
         if self.text.as_slice() == bytes {
             return Some(self.letter);

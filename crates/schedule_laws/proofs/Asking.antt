@@ -76,7 +76,7 @@ published : (κ : Craft) (craft : IsCraft κ) (s n : ℕ) (x k : Bytes) (p : ℕ
 published κ craft s n x k p t j plan h None is e = cc
 published κ craft s n x k p t j plan h (Some v) is e = subst (IsLawfulPlan κ.setting s n) (some_is (Publish v) plan e) (record {
   tag = sealed.tag;
-  key = λ none. let empty = unnamed x (sym sealed.exchange ∙ none) in let one = sealed.key empty (routing_key x k h.0 h.1.0 empty) in (one.0, one.1.1.0);
+  key = λ none. let empty = unnamed x (sym sealed.exchange ∙ none) in let one = sealed.key empty (routing_key x k h.0 h.1.0 empty) in (one.0, one.2);
 }) where
   sealed : IsSealed κ.setting s (suc n) x k v
   sealed = craft.seals s (suc n) x k p t j v is

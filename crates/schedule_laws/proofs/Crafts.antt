@@ -54,13 +54,9 @@ sealed_tells l τ s n x k v held lawful tag way = record {
   exchange = ap named_exchange way;
   key = λ empty is. (
     queue_key l k (step_of l held),
-    (
-      step_of l held,
-      (
-        ap (λ w. way_keys l w []) way ∙ (ap (λ e. route_keys l (step_of l held) e k []) empty ∙ one_key l k held is),
-        split_of_key l k (step_of l held) is (has_step l held lawful),
-      ),
-    ),
+    step_of l held,
+    ap (λ w. way_keys l w []) way ∙ (ap (λ e. route_keys l (step_of l held) e k []) empty ∙ one_key l k held is),
+    split_of_key l k (step_of l held) is (has_step l held lawful),
   );
 }
 

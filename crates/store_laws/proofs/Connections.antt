@@ -54,10 +54,10 @@ touch_none c = λ i. record c { marked = or_false c.marked i }
 
 -- nothing was altered, and nothing came
 pub untouched : (c : Conn) → IsTouched [] c c
-untouched c = record { queue = refl; watched = refl; marked = sym (or_false c.marked); channels = refl; pending = ([], (sym (append_none c.pending), tt)); room = inl refl }
+untouched c = record { queue = refl; watched = refl; marked = sym (or_false c.marked); channels = refl; pending = ([], sym (append_none c.pending), tt); room = inl refl }
 
 pub touched_by : (ks : List Bytes) (c : Conn) → IsTouched ks c (touch ks c)
-touched_by ks c = record { queue = refl; watched = refl; marked = refl; channels = refl; pending = ([], (sym (append_none c.pending), tt)); room = inl refl }
+touched_by ks c = record { queue = refl; watched = refl; marked = refl; channels = refl; pending = ([], sym (append_none c.pending), tt); room = inl refl }
 
 -- messages after messages
 heard-append : (channels : List Bytes) (vs ws : List Value) → AreHeard channels vs → AreHeard channels ws → AreHeard channels (vs ++ ws)
@@ -76,7 +76,7 @@ touched_then ks ks' c c' c'' t u = record {
   watched = u.watched ∙ t.watched;
   marked = u.marked ∙ (λ i. t.marked i || hit ks' (t.watched i)) ∙ or_assoc c.marked (hit ks c.watched) (hit ks' c.watched) ∙ ap (λ b. c.marked || b) (sym (hit-append ks ks' c.watched));
   channels = u.channels ∙ t.channels;
-  pending = (t.pending.0 ++ u.pending.0, (u.pending.1.0 ∙ ap (λ xs. xs ++ u.pending.0) t.pending.1.0 ∙ append_assoc c.pending t.pending.0 u.pending.0, heard-append c.channels t.pending.0 u.pending.0 t.pending.1.1 (subst (λ cs. AreHeard cs u.pending.0) t.channels u.pending.1.1)));
+  pending = (t.pending.0 ++ u.pending.0, u.pending.1 ∙ ap (λ xs. xs ++ u.pending.0) t.pending.1 ∙ append_assoc c.pending t.pending.0 u.pending.0, heard-append c.channels t.pending.0 u.pending.0 t.pending.2 (subst (λ cs. AreHeard cs u.pending.0) t.channels u.pending.2));
   room = room_then c.pending c'.pending c''.pending t.room u.room;
 }
 
@@ -112,7 +112,7 @@ told_kept channel text c = go (hears channel c) refl
     go : (b : Bool) → hears channel c ≡ b → IsTouched [] c (if b then record c { pending = c.pending ++ message channel text ∷ [] } else c)
     go true e =
         let s = and_parts _ _ e in
-        record { queue = refl; watched = refl; marked = sym (or_false c.marked); channels = refl; pending = (message channel text ∷ [], (refl, ((channel, (text, (s.0, refl))), tt))); room = inr (one_more c.pending (message channel text) s.1) }
+        record { queue = refl; watched = refl; marked = sym (or_false c.marked); channels = refl; pending = (message channel text ∷ [], refl, ((channel, text, s.0, refl), tt)); room = inr (one_more c.pending (message channel text) s.1) }
     go false e = untouched c
 
 -- a command alters no more of a connection than its pending messages by what it posts

@@ -1,0 +1,15 @@
+-- Which texts are noted. Serves the proofs of code.
+use Rattle.std.specs.Prelude.{◌≡◌, ℕ, List, Some}
+use Rattle.std.specs.BTreeMap.{get}
+use Rattle.std.specs.Ordering.{nat_cmp}
+use Rattle.letters.specs.declared.letter.Letter.{Letter}
+use Rattle.letters.specs.declared.letters.Letters.{Letters}
+use Rattle.letters.specs.declared.letters.Note.{Note}
+
+-- the text is noted with this letter, under some mark
+pub record Knows (letters : Letters) (text : List ℕ) (letter : Letter) : Type 0 where
+  pub mark : ℕ
+  pub note : Note
+  pub found : get nat_cmp letters.kept mark ≡ Some note
+  pub text_is : note.text ≡ text
+  pub letter_is : note.letter ≡ letter
