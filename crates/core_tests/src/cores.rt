@@ -7,8 +7,8 @@ use queue_keys::{QueueName, is_name};
 use routes::{PublishCore, Sent, publish_core};
 use std::alloc::{AllocError, Global};
 use std::test::Fail;
-use store_words::is_within_limits;
 use unacked::{Acked, EndCore, PopCore, PopEnd, end_core, pop_core};
+use wire_spelling::words_fit;
 use wire_values::{Bytes, List, Words};
 
 /// A store whose queue has this element.
@@ -18,7 +18,7 @@ fn store_with(alloc: Global, element: &str) -> Result<Store, AllocError> {
     words.push(alloc, Bytes::from_slice(alloc, b"LPUSH")?)?;
     words.push(alloc, Bytes::from_slice(alloc, b"celery")?)?;
     words.push(alloc, Bytes::from_slice(alloc, element.as_bytes())?)?;
-    if is_within_limits(&words) {
+    if words_fit(&words) {
         store.apply(alloc, 99, 1, &words)?;
     }
     Ok(store)

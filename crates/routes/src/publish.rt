@@ -1,6 +1,6 @@
 //! A publication: a message is pushed to the list of its queue.
 ghost use Rattle.std.specs.Prelude.{◌≡◌, ◌∷◌, [], ℕ, suc, true, codes, IfOk, Some, None};
-ghost use Rattle.store_model.specs.Words.{IsWithinLimits};
+ghost use Rattle.wire_grammar.specs.Fits.{IsWithinLimits};
 ghost use Rattle.command_blocks.specs.Answers.{number_of};
 ghost use Rattle.command_blocks.specs.EnvelopeTexts.{plain_setting};
 ghost use Rattle.command_blocks.specs.Scripts.{Publish, publish_script};

@@ -13,3 +13,4 @@ pub mod Fields
 pub mod Others
 pub mod Ranks
 pub mod Ranges
+pub mod KeysLimited

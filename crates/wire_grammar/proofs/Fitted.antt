@@ -1,22 +1,22 @@
 -- Values and commands that fit, by what their parts take; and what a command that fits has.
-use Rattle.std.proofs.Common.{◌≡◌, ℕ, ℤ, pos, negsuc, zero, suc, ◌+◌, ◌*◌, ◌<◌, ◌≤◌, ◌^◌, List, [], ◌∷◌, ◌++◌, length, map, false, decimal, refl, sym, ap, subst, ◌∙◌, arith, length-append, inl, inr}
+use Rattle.std.proofs.Common.{◌≡◌, ℕ, ℤ, pos, negsuc, suc, ◌+◌, ◌*◌, ◌≤◌, List, [], ◌∷◌, ◌++◌, length, map, false, decimal, refl, sym, ap, subst, ◌∙◌, arith, length-append, inl, inr}
 use Rattle.std.specs.Prelude.{All, flat_map}
 use Rattle.std.specs.Fmt.{signed_decimal}
 use Rattle.std.specs.List.{list_any}
 use Rattle.std.proofs.Math.Logic.{∥∥₁_elim}
-use Rattle.std.proofs.Math.Nat.{suc-mul, mul-le-mul_left}
+use Rattle.std.proofs.Math.Nat.{suc-mul}
 use Rattle.std.proofs.Props.{props}
 use Rattle.std.proofs.lemmas.Fmt.{length-decimal-le}
 use Rattle.std.proofs.lemmas.List.Elements.{All-nil, All-cons, All-head, All-tail}
 use Rattle.numerals.proofs.Texts.{IsWord, integer_of_text}
 use Rattle.wire_values.specs.declared.value.Value.{Value, out-Value, out-roll-Value}
-use Rattle.wire_values.specs.declared.value.Value.TheVariants.{Status, Error, Integer, Bulk, NullBulk, Array, NullArray, rolls-Array, rolls-NullArray, rolls-Bulk}
+use Rattle.wire_values.specs.declared.value.Value.TheVariants.{Status, Error, Integer, Bulk, NullBulk, Array, rolls-Array, rolls-Bulk}
 use Rattle.wire_values.specs.declared.value.Value.TheOpen.{Value-F}
 use Rattle.wire_grammar.specs.declared.kind.NumberKind.TheVariants.{Length, Count}
 use Rattle.wire_grammar.specs.Limits.{text_limit, value_limit, limit_of, is_end}
-use Rattle.wire_grammar.specs.Spells.{crlf, IsNumber, AreSpelled, IsPlain, as_status, as_error, as_integer, as_bulk, as_null_bulk, SpellsWithin, Spells}
+use Rattle.wire_grammar.specs.Spells.{crlf, IsNumber, AreSpelled, IsPlain, as_status, as_error, as_integer, as_bulk, as_null_bulk, SpellsWithin}
 use Rattle.wire_grammar.specs.Texts.{spelling, number_text}
-use Rattle.wire_grammar.specs.Fits.{HasSpelling, IsWithinLimits}
+use Rattle.wire_grammar.specs.Fits.{HasSpelling, IsShort, IsWithinLimits}
 use Rattle.wire_grammar.proofs.Writings.{status_text, error_text, integer_text, bulk_text, null_bulk_text, array_text}
 
 -- a value that is no array, and takes at most n bytes
@@ -42,7 +42,7 @@ digits_few (negsuc n) h = let x : length (decimal (suc n)) ≤ 19 = length-decim
 pub integer_small : (z : ℤ) → IsWord z → IsSmall 23 (Integer z)
 integer_small z h = (as_integer (z, number_text z, refl, (signed_decimal z, integer_of_text z h, tt, refl), integer_text z), omega (arith, ap length (integer_text z), line_length (signed_decimal z), digits_few z h))
 
-pub bulk_small : (b : List ℕ) → length b ≤ limit_of Length false → IsSmall (length b + 12) (Bulk b)
+pub bulk_small : (b : List ℕ) → IsShort b → IsSmall (length b + 12) (Bulk b)
 bulk_small b l =
     let short : length (decimal (length b)) ≤ 7 = length-decimal-le 7 (length b) (omega arith) (omega (arith, l)) (omega (arith, l)) in
     let number : IsNumber Length (pos (length b)) (number_text (pos (length b))) = (decimal (length b), integer_of_text (pos (length b)) (omega (arith, l)), l, refl) in
@@ -99,7 +99,7 @@ words_fit n words few short small all = ∣ bulks_fit n words few short small al
 
 -- what a command that fits has: few words, and each is short
 abbrev pub HasShortWords : List (List ℕ) → Type 0
-HasShortWords words = (length words ≤ limit_of Count false) × All (λ w. length w ≤ limit_of Length false) words
+HasShortWords words = (length words ≤ limit_of Count false) × All IsShort words
 
 items_in : Value-F Value → List Value
 items_in (Value-F.Array vs) = vs
@@ -122,21 +122,21 @@ content_is : (b : List ℕ) → content_of (Bulk b) ≡ b
 unfolding content_of content_in
 content_is b = ap content_of (sym (rolls-Bulk b)) ∙ ap content_in (out-roll-Value (Value-F.Bulk b))
 
-plain_short : (b bytes : List ℕ) → IsPlain (Bulk b) bytes → length b ≤ limit_of Length false
+plain_short : (b bytes : List ℕ) → IsPlain (Bulk b) bytes → IsShort b
 plain_short b bytes (as_status r) = absurd (cc (r.2))
 plain_short b bytes (as_error r) = absurd (cc (r.2))
 plain_short b bytes (as_integer r) = absurd (cc (r.2))
 plain_short b bytes (as_bulk r) = let same : b ≡ r.0 = sym (content_is b) ∙ ap content_of r.2 ∙ content_is r.0 in omega (arith, ap length same, r.3.2)
 plain_short b bytes (as_null_bulk r) = absurd (cc (r.1))
 
-bulk_short : (b bytes : List ℕ) → SpellsWithin 3 (Bulk b) bytes → length b ≤ limit_of Length false
+bulk_short : (b bytes : List ℕ) → SpellsWithin 3 (Bulk b) bytes → IsShort b
 bulk_short b bytes (inl p) = plain_short b bytes p
 bulk_short b bytes (inr (inl r)) = absurd (cc (r.3))
 bulk_short b bytes (inr (inr r)) = absurd (cc (r.1))
 
-all_short : (words : List (List ℕ)) (bytes : List ℕ) → AreSpelled (SpellsWithin 3) (map Bulk words) bytes → All (λ w. length w ≤ limit_of Length false) words
-all_short [] bytes are = All-nil (λ (w : List ℕ). length w ≤ limit_of Length false)
-all_short (w ∷ ws) bytes are = All-cons (λ (x : List ℕ). length x ≤ limit_of Length false) w ws (bulk_short w are.0 are.3) (all_short ws are.1 are.4)
+all_short : (words : List (List ℕ)) (bytes : List ℕ) → AreSpelled (SpellsWithin 3) (map Bulk words) bytes → All IsShort words
+all_short [] bytes are = All-nil IsShort
+all_short (w ∷ ws) bytes are = All-cons IsShort w ws (bulk_short w are.0 are.3) (all_short ws are.1 are.4)
 
 no_plain : (vs : List Value) (bytes : List ℕ) → IsPlain (Array vs) bytes → ⊥
 no_plain vs bytes (as_status r) = cc (r.2)

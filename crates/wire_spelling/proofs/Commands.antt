@@ -4,11 +4,10 @@ use Rattle.std.specs.Prelude.{◌↔◌, IfSome, IsTrue, is_some, decimal, if◌
 use Rattle.std.proofs.Math.Logic.{∥∥₁_elim}
 use Rattle.std.proofs.Props.{props}
 use Rattle.std.proofs.lemmas.Bool.Decides.{nat_tests}
-use Rattle.wire_values.specs.declared.value.Value.{Value}
 use Rattle.wire_values.specs.declared.value.Value.TheVariants.{Array, Bulk}
 use Rattle.wire_grammar.specs.Limits.{value_limit, limit_of}
 use Rattle.wire_grammar.specs.declared.kind.NumberKind.TheVariants.{Count}
-use Rattle.wire_grammar.specs.Fits.{HasSpelling, IsWithinLimits}
+use Rattle.wire_grammar.specs.Fits.{IsWithinLimits}
 use Rattle.wire_spelling.specs.Lengths.{joined, bulk_length, items_length, spelled_length}
 use Rattle.wire_spelling.proofs.Fitting.{array_told, bulk_told, fits_is, items_none}
 
