@@ -1,7 +1,7 @@
 //! The cores, each said to its end, and each put off at each of its commands.
 use crate::rows::{end_rows, message, pop_rows, publish_rows, urgent_message};
 use crate::talk::{is_silent, refuses, says_all};
-use envelope::{Tag, read, write};
+use envelope::{Tag, read};
 use mini_store::Store;
 use queue_keys::{QueueName, is_name};
 use routes::{PublishCore, Sent, publish_core};
@@ -39,7 +39,6 @@ fn acknowledgement() -> EndCore {
 /// The publication of the urgent message.
 fn publication(alloc: Global) -> Result<PublishCore, Fail> {
     let e = read(alloc, urgent_message().as_bytes())?;
-    let _written = write(alloc, &e)?;
     if !e.exchange().is_empty() || !is_name(e.routing_key()) {
         return Err(Fail::from("goes elsewhere"));
     }

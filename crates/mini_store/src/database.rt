@@ -10,8 +10,8 @@ ghost use Rattle.std.specs.FinMap.{insert, remove};
 ghost use Rattle.std.specs.Prelude.{◌≡◌, ◌<◌, [], ◌∷◌, ◌++◌, ℕ, IfOk, IsTrue, None, OnOk, Some, bytes_eq, codes, false, is_some, length, map as mapped, nat_lt, true};
 
 use crate::run::{fault_answer, is_queued, run};
-use sqlite_items::Items;
 use numerals::natural;
+use sqlite_items::Items;
 use std::alloc::{AllocError, Global};
 use std::marker::Model;
 use std::mem;

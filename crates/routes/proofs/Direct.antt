@@ -20,7 +20,7 @@ use Rattle.command_blocks.specs.Setting.{Way, named_or_none, named_exchange, way
 use Rattle.place_model.proofs.CommandLimits.{key_short, three_within}
 use Rattle.routes.specs.Publishes.{GoesDirectly, direct_key}
 
-module _ (d : Data) (h : GoesDirectly d) where
+module _ (d : Data) (h : GoesDirectly d) (again : envelope_at (compact_text d) ≡ Ok d) where
   abbrev text : Bytes
   text = compact_text d
 
@@ -28,7 +28,7 @@ module _ (d : Data) (h : GoesDirectly d) where
   step = step_of plain (priority_of d)
 
   way_is : way_of text ≡ Some (way_said d)
-  way_is = ap (λ r. option_map way_said (result_ok r)) h.again
+  way_is = ap (λ r. option_map way_said (result_ok r)) again
 
   keys_of : List Bytes → List Bytes
   keys_of ms = route_keys plain step [] (parts_in d).routing_key ms

@@ -73,6 +73,8 @@ pub fn publish_core(envelope: Envelope) -> PublishCore
         → plain_setting.written_tag v ≡ Some (plain_setting.tag s (suc n)) → IsLawfulPlan plain_setting s n (Publish v) }
     ensures traced { (s p : ℕ) → HasPublishing s p (compact_text (data_of envelope)) [] result }
 {
+    // The text is read again as the same envelope.
+    let _text = envelope.text();
     BlockCore::new(PublishStage { envelope })
 }
 

@@ -4,8 +4,8 @@ ghost use Rattle.store_model.specs.Seconds.{seconds_of, within_seconds};
 ghost use Rattle.store_model.specs.Words.{bare, brpop_of, command_of, connection_command, faulty, hash_command, key_command, lasting, list_command, named, range_of, select_of, expire_of, zadd_of, set_command, set_of, sorted_set_command, transaction_command, upper_byte, with_one, with_rest, with_some, with_three, with_two, zrevrangebyscore_of};
 ghost use Rattle.std.specs.Prelude.{◌≡◌, Bool, List, [], ◌∷◌, IfOk, MatchOption, None, Some, false, map as mapped, true, ℕ};
 
-use std::alloc::{AllocError, Global};
 use numerals::{integer, natural};
+use std::alloc::{AllocError, Global};
 use store_model::{Command, Fault, RANGE_LIMIT};
 use store_tables::Deque;
 use wire_values::{Bytes, Words};
