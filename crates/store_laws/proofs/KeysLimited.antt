@@ -1,10 +1,10 @@
 -- Commands keep the limits of keys and of what they hold.
-use Rattle.std.proofs.Common.{◌≡◌, ◌≢◌, ◌⊎◌, inl, inr, ℕ, zero, suc, ◌+◌, ◌-◌, ◌≤◌, ◌<◌, List, [], ◌∷◌, ◌++◌, length, Bool, true, false, refl, sym, ap, subst, ◌∙◌, arith, None, Some, Option}
-use Rattle.std.specs.Prelude.{All, ◌&&◌, ◌||◌, not, is_some, nat_le, nat_lt, ℤ, int_le, if◌then◌else◌}
+use Rattle.std.proofs.Common.{◌≡◌, ◌≢◌, ◌⊎◌, inl, inr, ℕ, zero, suc, ◌+◌, ◌-◌, ◌≤◌, List, [], ◌∷◌, ◌++◌, length, Bool, true, false, refl, sym, ap, subst, ◌∙◌, arith, None, Some, Option}
+use Rattle.std.specs.Prelude.{All, ◌&&◌, ◌||◌, not, is_some, nat_le, ℤ, int_le, if◌then◌else◌}
 use Rattle.std.specs.List.{list_any}
 use Rattle.std.proofs.lemmas.Bool.Decides.{nat_tests}
 use Rattle.std.proofs.lemmas.List.Elements.{All-nil, All-cons, All-head, All-tail, All-append}
-use Rattle.std.specs.FinMap.{FinMap, get, insert, remove, empty, len, get-empty, empty_of_len, len-remove, len-empty}
+use Rattle.std.specs.FinMap.{FinMap, get, insert, remove, empty, len, get-empty, empty_of_len, len-remove}
 use Rattle.wire_values.specs.Order.{bytes_cmp}
 use Rattle.wire_values.specs.declared.value.Value.{Value}
 use Rattle.wire_grammar.specs.Fits.{IsShort}

@@ -14,3 +14,7 @@ pub mod Others
 pub mod Ranks
 pub mod Ranges
 pub mod KeysLimited
+pub mod CommandsShort
+pub mod StepsLimited
+pub mod RepliesFit
+pub mod Waits
