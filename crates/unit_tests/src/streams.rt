@@ -26,7 +26,12 @@ fn end_text(end: &Result<Bytes, ReadEnd>) -> &'static str {
 
 #[test]
 fn reads_in_pieces_up_to_the_limit(rt: HostRuntime) -> Result<(), Fail> {
-    for (limit, failing, want) in [(5, 9, "all"), (u64::MAX, 9, "all"), (4, 9, "long"), (5, 0, "fault")] {
+    for (limit, failing, want) in [
+        (5, 9, "all"),
+        (u64::MAX, 9, "all"),
+        (4, 9, "long"),
+        (5, 0, "fault"),
+    ] {
         same(&rt, want, read_end(rt.alloc(), limit, failing)?, want);
     }
     Ok(())
