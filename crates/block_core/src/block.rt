@@ -1,6 +1,8 @@
 //! A block, said command by command.
-ghost use Rattle.std.specs.Prelude.{List as Listed, ◌≡◌, [], ◌∷◌, ◌++◌, ◌<◌, ◌^◌, ℕ, true, false, IfOk, IfSome, IsSome, Some, None, alloc_error};
-ghost use Rattle.store_model.specs.Words.{IsWithinLimits, Words as Said};
+ghost use Rattle.std.specs.Prelude.{List as Listed, ◌≡◌, [], ◌∷◌, ◌++◌, ◌<◌, ℕ, true, false, IfOk, IfSome, IsSome, Some, None, alloc_error};
+ghost use Rattle.store_model.specs.Limits.{moment_limit};
+ghost use Rattle.store_model.specs.Words.{Words as Said};
+ghost use Rattle.wire_grammar.specs.Fits.{IsWithinLimits};
 ghost use Rattle.command_blocks.specs.Calls.{Call, call};
 ghost use Rattle.command_blocks.specs.Cores.{is_off, is_saying};
 ghost use Rattle.command_blocks.specs.EnvelopeTexts.{plain_setting};
@@ -78,7 +80,7 @@ impl<S: Stage> BlockCore<S, S::End> {
     /// `Refused` with the reply exactly where the block lists no such answer there; nothing is said after it. `Memory` is
     /// want of memory, now or in an earlier call, and nothing is said after it either.
     pub fn took(&mut self, alloc: Global, at: u64, reply: &Reply) -> Result<(), ReplyFault>
-        requires moment { at < 2 ^ 40 }
+        requires moment { at < moment_limit }
         requires asked { is_spent self.old ≡ false → IsSome (next_words (core_left S.left self.old) at) }
         // It goes on, or is over with its end.
         ensures taken { HasTaken S.left self.old self.new at reply.now result }

@@ -1,6 +1,6 @@
 //! A stage of a block: its next command, and what the answer to it brings.
 ghost use Rattle.std.specs.Prelude.{List as Listed, ◌≡◌, ◌∷◌, [], ◌++◌, ℕ, true, IfOk, Some};
-ghost use Rattle.store_model.specs.Words.{IsWithinLimits};
+ghost use Rattle.wire_grammar.specs.Fits.{IsWithinLimits};
 ghost use Rattle.command_blocks.specs.Calls.{Call};
 ghost use Rattle.command_blocks.specs.Cores.{IsAnswered, is_saying};
 ghost use Rattle.command_blocks.specs.Scripts.{Plan, Script, next_words};

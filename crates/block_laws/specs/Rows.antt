@@ -1,6 +1,7 @@
 -- Rows: a block's script can always be said to its end, and what was said to its end is the block. Serves the proofs of code.
 use Rattle.std.specs.Prelude.{◌≡◌, ◌⊎◌, ℕ, ◌^◌, suc, true, ◌<◌, List, [], ◌∷◌, ◌++◌, codes, None, Some}
 use Rattle.wire_values.specs.declared.value.Value.{Value}
+use Rattle.store_model.specs.Limits.{moment_limit}
 use Rattle.store_model.specs.Words.{Words}
 use Rattle.queue_keys.specs.Names.{Bytes, is_name}
 use Rattle.queue_keys.specs.Texts.{token}
@@ -23,7 +24,7 @@ IsGood (Say w go) = ((r : Value) × IsGood (go r)) × ((r : Value) → (go r ≡
 -- each of the calls was made before the moment 2^40
 abbrev pub AreTimely : List Call → Type 0
 AreTimely [] = Unit {0}
-AreTimely (x ∷ xs) = (x.at < 2 ^ 40) × AreTimely xs
+AreTimely (x ∷ xs) = (x.at < moment_limit) × AreTimely xs
 
 -- ---- what each plan has to keep
 

@@ -1,6 +1,7 @@
 -- The blocks that pop a message into the table, and take one out of it for good.
-use Rattle.std.specs.Prelude.{◌≡◌, ℕ, ℤ, ◌^◌, true, ◌<◌, ◌≤◌, List, [], ◌∷◌, ◌++◌, codes, decimal, length, Some, None}
+use Rattle.std.specs.Prelude.{◌≡◌, ℕ, ℤ, true, ◌<◌, ◌≤◌, List, [], ◌∷◌, ◌++◌, codes, decimal, length, Some, None}
 use Rattle.wire_values.specs.declared.value.Value.TheVariants.{NullArray}
+use Rattle.store_model.specs.Limits.{moment_limit}
 use Rattle.store_model.specs.Words.{Words}
 use Rattle.store_model.specs.Replies.{done, queued, pair}
 use Rattle.queue_keys.specs.Names.{Bytes, is_name}
@@ -24,7 +25,7 @@ pub data IsPopBlock (σ : Setting) (names : List Bytes) : List Call → Type 0 w
   -- what was there is no envelope
   Unreadable : (a : ℕ) (k : Bytes) (ks : List Bytes) (q v : Bytes) → IsPop σ names (k ∷ ks) → σ.tag_of v ≡ None → IsPopBlock σ names (call a (brpop_words k ks) (pair q v) ∷ [])
   -- the message was put into the table and its index
-  Popped : (a b c d e : ℕ) (k : Bytes) (ks : List Bytes) (q v t : Bytes) (x y : ℤ) → IsPop σ names (k ∷ ks) → σ.tag_of v ≡ Some t → c < 2 ^ 40
+  Popped : (a b c d e : ℕ) (k : Bytes) (ks : List Bytes) (q v t : Bytes) (x y : ℤ) → IsPop σ names (k ∷ ks) → σ.tag_of v ≡ Some t → c < moment_limit
       → IsPopBlock σ names (
       call a (brpop_words k ks) (pair q v)
       ∷ call b (codes "MULTI" ∷ []) done

@@ -1,14 +1,14 @@
 //! The cores, each said to its end, and each put off at each of its commands.
 use crate::rows::{end_rows, message, pop_rows, publish_rows, urgent_message};
 use crate::talk::{is_silent, refuses, says_all};
-use envelope::{Tag, read, write};
+use envelope::{Tag, read};
 use mini_store::Store;
 use queue_keys::{QueueName, is_name};
 use routes::{PublishCore, Sent, publish_core};
 use std::alloc::{AllocError, Global};
 use std::test::Fail;
-use store_words::is_within_limits;
 use unacked::{Acked, EndCore, PopCore, PopEnd, end_core, pop_core};
+use wire_spelling::words_fit;
 use wire_values::{Bytes, List, Words};
 
 /// A store whose queue has this element.
@@ -18,7 +18,7 @@ fn store_with(alloc: Global, element: &str) -> Result<Store, AllocError> {
     words.push(alloc, Bytes::from_slice(alloc, b"LPUSH")?)?;
     words.push(alloc, Bytes::from_slice(alloc, b"celery")?)?;
     words.push(alloc, Bytes::from_slice(alloc, element.as_bytes())?)?;
-    if is_within_limits(&words) {
+    if words_fit(&words) {
         store.apply(alloc, 99, 1, &words)?;
     }
     Ok(store)
@@ -39,7 +39,6 @@ fn acknowledgement() -> EndCore {
 /// The publication of the urgent message.
 fn publication(alloc: Global) -> Result<PublishCore, Fail> {
     let e = read(alloc, urgent_message().as_bytes())?;
-    let _written = write(alloc, &e)?;
     if !e.exchange().is_empty() || !is_name(e.routing_key()) {
         return Err(Fail::from("goes elsewhere"));
     }

@@ -1,4 +1,3 @@
 pub mod Cuts
-pub mod Integers
 pub mod Listed
 pub mod Spelled

@@ -1,4 +1,4 @@
--- A word as a number, a moment, an integer or a tag. Each has one spelling.
+-- A word as a number, a moment or a tag. Each has one spelling; that of an integer is the one of the wire.
 use Rattle.std.specs.Prelude.{ℕ, ℤ, pos, neg_ℤ, Bool, false, List, [], ◌∷◌, Option, Some, None, if◌then◌else◌, ◌==◌, ◌^◌, ◌-◌, ◌&&◌, ◌||◌, nat_eq, nat_le, nat_lt, length, drop, min}
 use Rattle.std.specs.Char.{is_ascii_digit}
 use Rattle.std.specs.List.{list_all, list_any, before_first, after_first}
@@ -18,19 +18,6 @@ number_in low high word =
 -- the moment that a word spells; all from 2^40 on count as 2^40, which no clock shows
 abbrev pub moment_in : List ℕ → Option ℕ
 moment_in word = if is_number word then Some (min (digits_value 10 word) (2 ^ 40)) else None
-
--- whether it is a minus and a number above 0
-abbrev pub is_below_zero : List ℕ → Bool
-is_below_zero [] = false
-is_below_zero (sign ∷ []) = false
-is_below_zero (sign ∷ d ∷ ds) = sign == 45 && list_all is_ascii_digit (d ∷ ds) && nat_lt 48 d
-
--- the integer of 64 bits that a word spells
-abbrev pub integer_in : List ℕ → Option ℤ
-integer_in word =
-    if is_number word && nat_lt (digits_value 10 word) (2 ^ 63) then Some (pos (digits_value 10 word))
-    else if is_below_zero word && nat_le (digits_value 10 (drop 1 word)) (2 ^ 63)
-    then Some (neg_ℤ (pos (digits_value 10 (drop 1 word)))) else None
 
 -- both, where both are there
 abbrev pub both_parts : Option ℕ → Option ℕ → Option (ℕ × ℕ)

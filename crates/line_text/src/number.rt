@@ -1,8 +1,11 @@
 //! Numbers of a line.
-ghost use Rattle.std.specs.Prelude.{◌≡◌, ◌||◌};
+ghost use Rattle.std.specs.Prelude.{◌≡◌};
 ghost use Rattle.std.specs.Char.{is_ascii_digit};
 ghost use Rattle.std.specs.List.{list_all};
-ghost use Rattle.line_text.specs.Numbers.{integer_in, is_below_zero, is_number, moment_in, number_in, tag_in};
+ghost use Rattle.line_text.specs.Numbers.{is_number, moment_in, number_in, tag_in};
+ghost use Rattle.numerals.specs.Integers.{integer_of};
+
+use numerals::integer;
 
 /// The first moment, in seconds, that is too late for a store.
 pub const MOMENT_LIMIT: u64 = 1 << 40;
@@ -37,12 +40,9 @@ pub fn moment_in(word: &str) -> Option<u64>
 
 /// The integer of 64 bits that a word spells: a number, or a minus and a number above 0.
 pub fn integer_in(word: &str) -> Option<i64>
-    ensures { result ≡ integer_in word.now }
+    ensures { result ≡ integer_of word.now }
 {
-    if !is_integer(word.as_bytes()) {
-        return None;
-    }
-    word.parse::<i64>().ok()
+    integer(word.as_bytes())
 }
 
 /// The seed and the counter that a tag's short spelling has, as `7:1`: two numbers of 64 bits with a colon between.
@@ -62,23 +62,6 @@ fn is_number(word: &[u8]) -> bool
     match word {
         [] => false,
         [first, ..] => are_digits(word) && (word.len() == 1 || *first > b'0'),
-    }
-}
-
-/// Whether it is a number, or a minus and a number above 0.
-fn is_integer(word: &[u8]) -> bool
-    ensures { result ≡ (is_number word.now || is_below_zero word.now) }
-{
-    is_number(word) || is_below_zero(word)
-}
-
-/// Whether these are a minus and digits of which the first isn't zero.
-fn is_below_zero(word: &[u8]) -> bool
-    ensures { result ≡ is_below_zero word.now }
-{
-    match word {
-        [] | [_] => false,
-        [sign, digits @ ..] => *sign == b'-' && are_digits(digits) && digits[0] > b'0',
     }
 }
 

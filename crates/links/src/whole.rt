@@ -50,7 +50,6 @@ impl From<AllocError> for ReadEnd {
 
 /// Reads all bytes up to the end, at most `limit` of them. It takes at most one byte past the limit.
 pub fn read_to_end<S: Source>(alloc: Global, src: &mut S, limit: u64) -> Result<Bytes, ReadEnd>
-    requires { limit < 2 ^ 63 }
     ensures all { IfOk result (IsWholeInput limit
         (source_view S.left S.read_faults S.ends src.old)
         (source_view S.left S.read_faults S.ends src.new)) }
@@ -76,8 +75,7 @@ fn read_pieces<S: Source>(
     limit: u64,
     buffer: &mut [u8],
 ) -> Result<Bytes, ReadEnd>
-    requires limit { limit < 2 ^ 63 }
-    requires room { 1 ≤ length buffer.old }
+    requires { 1 ≤ length buffer.old }
     ensures all { IfOk result (IsWholeInput limit
         (source_view S.left S.read_faults S.ends src.old)
         (source_view S.left S.read_faults S.ends src.new)) }
@@ -87,7 +85,7 @@ fn read_pieces<S: Source>(
 {
     let mut all = Bytes::new();
     'more: while all.len() as u64 <= limit {
-        let want = (limit as usize + 1 - all.len()).min(buffer.len());
+        let want = (limit - all.len() as u64).min(buffer.len() as u64 - 1) as usize + 1;
         let Ok(count) = src.read(&mut buffer[..want]) else {
             return Err(ReadEnd::Fault);
         };

@@ -4,6 +4,7 @@ use Rattle.std.specs.Str.Parse.{digits_value}
 use Rattle.wire_values.specs.Layer.{layer}
 use Rattle.wire_values.specs.declared.value.Value.{Value}
 use Rattle.wire_values.specs.declared.value.Value.TheOpen.{Value-F}
+use Rattle.store_model.specs.Limits.{moment_limit}
 use Rattle.store_model.specs.Words.{Words, front}
 use Rattle.queue_keys.specs.Names.{Bytes, is_name}
 use Rattle.queue_keys.specs.QueueKeys.{Each}
@@ -178,7 +179,7 @@ ask_at σ exchange_at s (Free n p) a words = start_ask σ exchange_at s n p word
 ask_at σ exchange_at s (Listed n p e ms) a words = or_ask (first_push_ask σ s n p e words (second words) (third words) (σ.keys_for (third words) ms)) (start_ask σ exchange_at s (suc n) p words)
 ask_at σ exchange_at s (Pushing n p v k ks) a words = if_said (codes "LPUSH" ∷ k ∷ v ∷ []) words (Count (pushing n p v ks))
 ask_at σ exchange_at s (Popped n p v t) a words = if_said (codes "MULTI" ∷ []) words (Consent (Pop_begun n p v t))
-ask_at σ exchange_at s (Pop_begun n p v t) a words = only_if (nat_lt a (2 ^ 40)) (if_said (codes "ZADD" ∷ σ.index ∷ decimal a ∷ t ∷ []) words (Queueing (Pop_indexed n p v t)))
+ask_at σ exchange_at s (Pop_begun n p v t) a words = only_if (nat_lt a moment_limit) (if_said (codes "ZADD" ∷ σ.index ∷ decimal a ∷ t ∷ []) words (Queueing (Pop_indexed n p v t)))
 ask_at σ exchange_at s (Pop_indexed n p v t) a words = if_said (codes "HSET" ∷ σ.unacked ∷ t ∷ σ.entry_of v ∷ []) words (Queueing (Filled n p))
 ask_at σ exchange_at s (End_begun n p) a words = only_if (σ.is_tag (third words)) (if_said (codes "ZREM" ∷ σ.index ∷ third words ∷ []) words (Queueing (End_removed n p (third words))))
 ask_at σ exchange_at s (End_removed n p t) a words = if_said (codes "HDEL" ∷ σ.unacked ∷ t ∷ []) words (Queueing (Filled n p))

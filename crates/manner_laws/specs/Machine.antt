@@ -2,6 +2,7 @@
 use Rattle.std.specs.Prelude.{◌≡◌, ℕ, ℤ, ◌^◌, suc, true, false, ◌<◌, List, [], ◌∷◌, ◌++◌, codes, decimal, Some, None}
 use Rattle.wire_values.specs.declared.value.Value.{Value}
 use Rattle.wire_values.specs.declared.value.Value.TheVariants.{Integer, Bulk, NullBulk, Array, NullArray}
+use Rattle.store_model.specs.Limits.{moment_limit}
 use Rattle.store_model.specs.Words.{Words}
 use Rattle.store_model.specs.Replies.{done, queued, pair, bulks}
 use Rattle.queue_keys.specs.Names.{Bytes, is_name}
@@ -40,7 +41,7 @@ pub data Asks (σ : Setting) (s : ℕ) : Spot → ℕ → Words → Ask → Type
       → Asks σ s (Listed n p e ms) a (codes "LPUSH" ∷ k ∷ v ∷ []) (Count (pushing n p v ks))
   Pushes : (n p a : ℕ) (v k : Bytes) (ks : List Bytes) → Asks σ s (Pushing n p v k ks) a (codes "LPUSH" ∷ k ∷ v ∷ []) (Count (pushing n p v ks))
   Pop_begins : (n p a : ℕ) (v t : Bytes) → Asks σ s (Popped n p v t) a (codes "MULTI" ∷ []) (Consent (Pop_begun n p v t))
-  Pop_indexes : (n p a : ℕ) (v t : Bytes) → a < 2 ^ 40 → Asks σ s (Pop_begun n p v t) a (codes "ZADD" ∷ σ.index ∷ decimal a ∷ t ∷ []) (Queueing (Pop_indexed n p v t))
+  Pop_indexes : (n p a : ℕ) (v t : Bytes) → a < moment_limit → Asks σ s (Pop_begun n p v t) a (codes "ZADD" ∷ σ.index ∷ decimal a ∷ t ∷ []) (Queueing (Pop_indexed n p v t))
   Pop_sets : (n p a : ℕ) (v t : Bytes) → Asks σ s (Pop_indexed n p v t) a (codes "HSET" ∷ σ.unacked ∷ t ∷ σ.entry_of v ∷ []) (Queueing (Filled n p))
   End_removes : (n p a : ℕ) (t : Bytes) → σ.is_tag t ≡ true → Asks σ s (End_begun n p) a (codes "ZREM" ∷ σ.index ∷ t ∷ []) (Queueing (End_removed n p t))
   End_deletes : (n p a : ℕ) (t : Bytes) → Asks σ s (End_removed n p t) a (codes "HDEL" ∷ σ.unacked ∷ t ∷ []) (Queueing (Filled n p))

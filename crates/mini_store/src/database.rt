@@ -2,22 +2,23 @@
 ghost use Rattle.store_model.specs.Commands.{is_queued, run};
 ghost use Rattle.store_model.specs.Connections.{Conns, around, cleared, conn, joined, posted, touched, with_queue, without};
 ghost use Rattle.store_model.specs.Keys.{Keys};
+ghost use Rattle.store_model.specs.Limits.{moment_limit, queue_limit};
 ghost use Rattle.store_model.specs.Replies.{aborted, channel_answer, done, full, not_inside, number, queued};
 ghost use Rattle.store_model.specs.Store.{State, answer_to, apply_of, discard, empty_state, executed, finds, gone_of, heard_plain, inside, is_heard, multi, outside_transaction, quiet, ready_of, refused, run_all, run_one, run_queue, serve, settled, set_conn, spoken, subscribe, to_queue, unsubscribe, unwatch, watch};
 ghost use Rattle.store_model.specs.Words.{brpop_of, command_of, upper_byte};
 ghost use Rattle.std.specs.FinMap.{insert, remove};
-ghost use Rattle.std.specs.Prelude.{◌≡◌, ◌<◌, ◌^◌, [], ◌∷◌, ◌++◌, ℕ, IfOk, IsTrue, None, OnOk, Some, bytes_eq, codes, false, is_some, length, map as mapped, nat_lt, true};
+ghost use Rattle.std.specs.Prelude.{◌≡◌, ◌<◌, [], ◌∷◌, ◌++◌, ℕ, IfOk, IsTrue, None, OnOk, Some, bytes_eq, codes, false, is_some, length, map as mapped, nat_lt, true};
 
 use crate::run::{fault_answer, is_queued, run};
+use numerals::natural;
 use sqlite_items::Items;
 use std::alloc::{AllocError, Global};
 use std::marker::Model;
 use std::mem;
 use store_conns::Connections;
-use store_integers::natural;
 use store_keys::Keyspace;
 use store_keys::effect::{error, number, pair, push_bulk, status};
-use store_model::{Command, Conn, Queue, Reply};
+use store_model::{Command, Conn, QUEUE_LIMIT, Queue, Reply};
 use store_tables::Deque;
 use store_words::{command_of, upper_byte};
 use wire_values::{Bytes, Value, Values, Words};
@@ -47,7 +48,7 @@ fn run_all(
     at: u64,
     mut commands: Deque<Command>,
 ) -> Result<(Deque<Bytes>, Values), AllocError>
-    requires { at < 2 ^ 40 }
+    requires { at < moment_limit }
     ensures { IfOk result (λ r. record { keys = keys.new; conns = conns.new; altered = r.0; answers = r.1 } ≡ run_all at keys.old conns.old commands) }
 {
     let mut altered = Deque::new(alloc);
@@ -68,7 +69,7 @@ fn run_next(
     altered: &mut Deque<Bytes>,
     answers: &mut Values,
 ) -> Result<(), AllocError>
-    requires { at < 2 ^ 40 }
+    requires { at < moment_limit }
     ensures keys { OnOk result (keys.new ≡ (run (around at conns.old) keys.old command).keys) }
     ensures altered { OnOk result (altered.new ≡ altered.old ++ (run (around at conns.old) keys.old command).altered) }
     ensures answers { OnOk result (answers.new ≡ answers.old ++ (run (around at conns.old) keys.old command).answer ∷ []) }
@@ -130,7 +131,7 @@ impl Database {
 
     // A command that runs at once.
     fn run_one(&mut self, alloc: Global, at: u64, command: Command) -> Result<Value, AllocError>
-        requires { at < 2 ^ 40 }
+        requires { at < moment_limit }
         ensures { IfOk result (λ v. (self.new, v) ≡ run_one at self.old command) }
     {
         let effect = run(&mut self.keys, &mut self.conns, alloc, at, command)?;
@@ -145,7 +146,7 @@ impl Database {
         at: u64,
         commands: Deque<Command>,
     ) -> Result<Value, AllocError>
-        requires { at < 2 ^ 40 }
+        requires { at < moment_limit }
         ensures { IfOk result (λ v. (self.new, v) ≡ run_queue at self.old commands) }
     {
         let (altered, answers) = run_all(&mut self.keys, &mut self.conns, alloc, at, commands)?;
@@ -254,7 +255,7 @@ impl Database {
         number: u32,
         command: Command,
     ) -> Result<Value, AllocError>
-        requires { at < 2 ^ 40 }
+        requires { at < moment_limit }
         ensures { IfOk result (λ v. (self.new, v) ≡ outside_transaction at self.old number (conn self.old.conns number) command) }
     {
         match command {
@@ -294,14 +295,14 @@ impl Database {
     // A command to be queued.
     fn enqueue(&mut self, alloc: Global, number: u32, command: Command) -> Result<Value, AllocError>
         ensures { IfOk result (λ v. (q : Queue) → (conn self.old.conns number).queue ≡ Some q
-            → (self.new, v) ≡ to_queue self.old number (conn self.old.conns number) q command (is_queued command) (nat_lt (length q.commands) 4096)) }
+            → (self.new, v) ≡ to_queue self.old number (conn self.old.conns number) q command (is_queued command) (nat_lt (length q.commands) queue_limit)) }
     {
         if !is_queued(&command) {
             mem::drop(command);
             let answer = error(alloc, b"ERR inside".as_slice())?;
             return self.refuse(alloc, number, answer);
         }
-        if self.conns.queue_len(number) >= 4096 {
+        if self.conns.queue_len(number) >= QUEUE_LIMIT {
             mem::drop(command);
             let answer = error(alloc, b"ERR full".as_slice())?;
             return self.refuse(alloc, number, answer);
@@ -313,7 +314,7 @@ impl Database {
 
     // EXEC.
     fn execute(&mut self, alloc: Global, at: u64, number: u32) -> Result<Value, AllocError>
-        requires { at < 2 ^ 40 }
+        requires { at < moment_limit }
         ensures { IfOk result (λ v. (q : Queue) → (conn self.old.conns number).queue ≡ Some q → (self.new, v) ≡ executed at self.old number (conn self.old.conns number) q.commands q.broken) }
     {
         let marked = self.conns.is_marked(number);
@@ -386,7 +387,7 @@ impl Database {
         number: u32,
         command: Command,
     ) -> Result<Value, AllocError>
-        requires { at < 2 ^ 40 }
+        requires { at < moment_limit }
         ensures { IfOk result (λ v. (q : Queue) → (conn self.old.conns number).queue ≡ Some q → (self.new, v) ≡ inside at self.old number (conn self.old.conns number) q command) }
     {
         match command {
@@ -410,7 +411,7 @@ impl Database {
         number: u32,
         command: Command,
     ) -> Result<Value, AllocError>
-        requires { at < 2 ^ 40 }
+        requires { at < moment_limit }
         ensures { IfOk result (λ v. (self.new, v) ≡ heard_plain at self.old number (conn self.old.conns number) command) }
     {
         match command {
@@ -431,7 +432,7 @@ impl Database {
         number: u32,
         command: Command,
     ) -> Result<Value, AllocError>
-        requires { at < 2 ^ 40 }
+        requires { at < moment_limit }
         ensures { IfOk result (λ v. (self.new, v) ≡ spoken at self.old number (conn self.old.conns number) command (conn self.old.conns number).queue (is_heard command)) }
     {
         if !is_heard(&command) {
@@ -453,7 +454,7 @@ impl Database {
         number: u32,
         command: Command,
     ) -> Result<Value, AllocError>
-        requires { at < 2 ^ 40 }
+        requires { at < moment_limit }
         ensures { IfOk result (λ v. (self.new, v) ≡ serve at self.old number command (conn self.old.conns number)) }
     {
         if self.conns.channel_count(number) > 0 {
@@ -486,7 +487,7 @@ impl Database {
         number: u32,
         words: &Words,
     ) -> Result<Reply, AllocError>
-        requires { at < 2 ^ 40 }
+        requires { at < moment_limit }
         ensures { IfOk result (λ r. (self.new, r) ≡ answer_to at self.old number words.now) }
     {
         let pushed = self.collect(alloc, number)?;
@@ -503,7 +504,7 @@ impl Database {
         number: u32,
         words: &Words,
     ) -> Result<Reply, AllocError>
-        requires { at < 2 ^ 40 }
+        requires { at < moment_limit }
         ensures { IfOk result (λ r. (self.new, r) ≡ apply_of self.old at number words.now) }
     {
         self.settle(at);

@@ -2,11 +2,12 @@
 ghost use Rattle.store_model.specs.Commands.{Around, is_queued, run, select_answer};
 ghost use Rattle.store_model.specs.Connections.{around, delivered, hearing, posted};
 ghost use Rattle.store_model.specs.Keys.{out};
+ghost use Rattle.store_model.specs.Limits.{moment_limit};
 ghost use Rattle.store_model.specs.Replies.{fault_text, number};
 ghost use Rattle.store_model.specs.Texts.{until};
 ghost use Rattle.mini_store.specs.RunParts.{is_on_tables, only_looks};
 ghost use Rattle.std.specs.FinMap.{entries};
-ghost use Rattle.std.specs.Prelude.{◌≡◌, ◌<◌, ◌^◌, [], IfOk, OnOk, true};
+ghost use Rattle.std.specs.Prelude.{◌≡◌, ◌<◌, [], IfOk, OnOk, true};
 
 use std::alloc::{AllocError, Global};
 use std::mem;
@@ -41,7 +42,7 @@ fn select_answer(alloc: Global, number: i64) -> Result<Value, AllocError>
 
 // The moment so many seconds later.
 fn until(at: u64, life: Option<u32>) -> Option<u64>
-    requires { at < 2 ^ 40 }
+    requires { at < moment_limit }
     ensures { result ≡ until at life }
 {
     let Some(seconds) = life else {
@@ -97,7 +98,7 @@ pub fn run(
     at: u64,
     command: Command,
 ) -> Result<Effect, AllocError>
-    requires { at < 2 ^ 40 }
+    requires { at < moment_limit }
     ensures run { IfOk result (λ e. out keys.new e.altered e.answer ≡ run (around at conns.old) keys.old command) }
     ensures posted { OnOk result (conns.new ≡ posted command conns.old) }
 {

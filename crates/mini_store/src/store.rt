@@ -1,7 +1,8 @@
 //! The store that clients share.
 ghost use Rattle.store_model.specs.Store.{apply_of, empty_state, gone_of, ready_of};
-ghost use Rattle.store_model.specs.Words.{IsWithinLimits};
-ghost use Rattle.std.specs.Prelude.{◌≡◌, ◌<◌, ◌^◌, IfOk, IsErr, IsTrue, OnErr, OnOk, false, true};
+ghost use Rattle.store_model.specs.Limits.{moment_limit};
+ghost use Rattle.wire_grammar.specs.Fits.{IsWithinLimits};
+ghost use Rattle.std.specs.Prelude.{◌≡◌, ◌<◌, IfOk, IsErr, IsTrue, OnErr, OnOk, false, true};
 
 use crate::database::Database;
 use std::alloc::{AllocError, Global};
@@ -52,7 +53,7 @@ impl Store {
         conn: u32,
         words: &Words,
     ) -> Result<Reply, AllocError>
-        requires moment { at < 2 ^ 40 }
+        requires moment { at < moment_limit }
         requires words { IsWithinLimits words.now }
         ensures reply { IfOk result (λ reply. (self.new.state, reply) ≡ apply_of self.old.state at conn words.now) }
         ensures whole { OnOk result (self.new.spent ≡ false) }

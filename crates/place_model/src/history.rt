@@ -66,7 +66,8 @@ impl History {
     }
 
     /// Adds an entry of a client that isn't gone; without memory nothing changes. The moment of a call is below 2^40
-    /// seconds, and its words are within the limits of RESP2 here: 4,096 words, of 1,048,576 bytes each.
+    /// seconds, and the array of its words, as bulk strings, fits: at most 4,096 words, each of at most 1,048,576 bytes, and
+    /// all of it within 8,388,608 bytes as RESP2 writes it.
     pub fn add(&mut self, alloc: Global, entry: Entry<Heard>) -> Result<(), AllocError>
         requires running { IsRunning (history_of self.old) (conn_of entry) }
         requires takable { IsTakable entry }

@@ -2,7 +2,8 @@
 use Rattle.std.proofs.Common.{◌++◌, List, None, Option, Some, [], ap, append-nil, append_assoc, arith, codes, decimal, false, inl, inr, pos, refl, subst, suc, sym, true, ℕ, ℤ, ◌∙◌, ◌∷◌, ◌≡◌, ◌≤◌, ◌⊎◌}
 use Rattle.wire_values.specs.declared.value.Value.{Value}
 use Rattle.wire_values.specs.declared.value.Value.TheVariants.{Integer, NullArray}
-use Rattle.store_model.specs.Integers.{integer_of, natural_of, seconds_of}
+use Rattle.numerals.specs.Integers.{integer_of, natural_of}
+use Rattle.store_model.specs.Seconds.{seconds_of}
 use Rattle.store_model.specs.Replies.{queued}
 use Rattle.store_model.specs.Store.{quiet}
 use Rattle.store_model.specs.Words.{Words, brpop_until, command_of, expire_of, named, range_of, zadd_of}

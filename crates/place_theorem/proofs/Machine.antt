@@ -4,7 +4,8 @@ use Rattle.std.specs.Prelude.{ℤ, pos}
 use Rattle.std.proofs.lemmas.List.{append-nil}
 use Rattle.wire_values.specs.declared.value.Value.{Value}
 use Rattle.wire_values.specs.declared.value.Value.TheVariants.{Integer, Bulk, Array, NullArray}
-use Rattle.store_model.specs.Integers.{integer_of, natural_of, seconds_of}
+use Rattle.numerals.specs.Integers.{integer_of, natural_of}
+use Rattle.store_model.specs.Seconds.{seconds_of}
 use Rattle.store_model.specs.Words.{Words, command_of, front, final, brpop_of, brpop_until, expire_of, range_of, zadd_of}
 use Rattle.store_model.specs.Replies.{done, queued, pair, bulks}
 use Rattle.store_model.specs.Commands.{is_queued}

@@ -3,7 +3,7 @@ use Rattle.std.proofs.Common.{◌≡◌, ◌≢◌, ℕ, zero, suc, ◌+◌, ◌
 use Rattle.std.specs.Prelude.{pos, negsuc}
 use Rattle.std.proofs.lemmas.Bool.Decides.{nat_tests, Decides-eqb}
 use Rattle.std.proofs.lemmas.Fmt.{decimal_by_steps, decimal_digit}
-use Rattle.store_model.specs.Integers.{digits_onto, magnitude_of, plain_integer, negative_integer, integer_of}
+use Rattle.numerals.specs.Integers.{digits_onto, magnitude_of, plain_integer, negative_integer, integer_of}
 use Rattle.queue_keys.specs.Texts.{difference}
 use Rattle.place_model.specs.Passes.{less}
 

@@ -8,7 +8,8 @@ use Rattle.serde_json.specs.Written.{compact_text}
 use Rattle.envelope.specs.Envelopes.{envelope_at, parts_in, priority_of}
 use Rattle.envelope.proofs.EnvelopeTags.{read_said}
 use Rattle.envelope.proofs.Said.{said_is}
-use Rattle.store_model.specs.Words.{IsWithinLimits, Words}
+use Rattle.store_model.specs.Words.{Words}
+use Rattle.wire_grammar.specs.Fits.{IsShort, IsWithinLimits}
 use Rattle.command_blocks.specs.EnvelopeTexts.{plain_setting, way_of, way_said}
 use Rattle.queue_keys.specs.Layouts.{plain, step_of}
 use Rattle.queue_keys.specs.Lookup.{route_keys}
@@ -16,10 +17,10 @@ use Rattle.queue_keys.specs.Names.{Bytes, is_name}
 use Rattle.queue_keys.specs.QueueKeys.{keys_at, queue_key}
 use Rattle.command_blocks.specs.Scripts.{asking_script, publish_script, pushes}
 use Rattle.command_blocks.specs.Setting.{Way, named_or_none, named_exchange, way_keys}
-use Rattle.place_model.proofs.CommandLimits.{IsShort, key_short, three_within}
+use Rattle.place_model.proofs.CommandLimits.{key_short, three_within}
 use Rattle.routes.specs.Publishes.{GoesDirectly, direct_key}
 
-module _ (d : Data) (h : GoesDirectly d) where
+module _ (d : Data) (h : GoesDirectly d) (again : envelope_at (compact_text d) ≡ Ok d) where
   abbrev text : Bytes
   text = compact_text d
 
@@ -27,7 +28,7 @@ module _ (d : Data) (h : GoesDirectly d) where
   step = step_of plain (priority_of d)
 
   way_is : way_of text ≡ Some (way_said d)
-  way_is = ap (λ r. option_map way_said (result_ok r)) h.again
+  way_is = ap (λ r. option_map way_said (result_ok r)) again
 
   keys_of : List Bytes → List Bytes
   keys_of ms = route_keys plain step [] (parts_in d).routing_key ms

@@ -1,9 +1,9 @@
 -- What the push of a publication brings and tells.
-use Rattle.std.proofs.Common.{◌≡◌, ℕ, ℤ, suc, List, [], ◌∷◌, ◌++◌, length, Option, None, Some, refl, sym, ap}
+use Rattle.std.proofs.Common.{◌≡◌, ℕ, ℤ, suc, List, [], ◌∷◌, ◌++◌, length, Option, None, Some, Ok, refl, sym, ap}
 use Rattle.serde_json.specs.Data.{Data}
 use Rattle.serde_json.specs.View.{view as data_of}
 use Rattle.serde_json.specs.Written.{compact_text}
-use Rattle.envelope.specs.Envelopes.{parts_in}
+use Rattle.envelope.specs.Envelopes.{parts_in, envelope_at}
 use Rattle.delivery_tags.specs.declared.tag.Tag.{Tag}
 use Rattle.command_blocks.specs.Calls.{Call}
 use Rattle.command_blocks.specs.EnvelopeTexts.{plain_setting}
@@ -32,5 +32,5 @@ pushed_tells (Return side t) calls last stage tag (Some z) is h = absurd h
 pushed_tells (Pass v) calls last stage tag (Some z) is h = absurd h
 
 -- an envelope that goes directly is published lawfully under the next tag
-pub lawful_push : (d : Data) → GoesDirectly d → (s n : ℕ) → plain_setting.written_tag (compact_text d) ≡ Some (plain_setting.tag s (suc n)) → IsPublication plain_setting s n (compact_text d)
-lawful_push d h s n tag = record { tag = tag; key = λ none. (direct_key d, direct_keys d h) }
+pub lawful_push : (d : Data) → GoesDirectly d → envelope_at (compact_text d) ≡ Ok d → (s n : ℕ) → plain_setting.written_tag (compact_text d) ≡ Some (plain_setting.tag s (suc n)) → IsPublication plain_setting s n (compact_text d)
+lawful_push d h again s n tag = record { tag = tag; key = λ none. (direct_key d, direct_keys d h again) }

@@ -17,11 +17,10 @@ use Rattle.block_core.specs.declared.stage.Progress.TheVariants.{Over, Refused}
 use Rattle.routes.specs.declared.stage.PublishStage.{PublishStage}
 use Rattle.routes.specs.declared.publish.Sent.{Sent}
 
--- the tree is that of an envelope that goes to a queue directly, and its text is read again as the same tree
+-- the tree is that of an envelope that goes to a queue directly
 pub record GoesDirectly (d : Data) : Type 0 where
   pub exchange : (parts_in d).exchange ≡ []
   pub queue : is_name (parts_in d).routing_key ≡ true
-  pub again : envelope_at (compact_text d) ≡ Ok d
 
 -- the key of the list to which such an envelope is pushed
 abbrev pub direct_key : Data → Bytes

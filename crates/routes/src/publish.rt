@@ -1,6 +1,6 @@
 //! A publication: a message is pushed to the list of its queue.
 ghost use Rattle.std.specs.Prelude.{◌≡◌, ◌∷◌, [], ℕ, suc, true, codes, IfOk, Some, None};
-ghost use Rattle.store_model.specs.Words.{IsWithinLimits};
+ghost use Rattle.wire_grammar.specs.Fits.{IsWithinLimits};
 ghost use Rattle.command_blocks.specs.Answers.{number_of};
 ghost use Rattle.command_blocks.specs.EnvelopeTexts.{plain_setting};
 ghost use Rattle.command_blocks.specs.Scripts.{Publish, publish_script};
@@ -68,6 +68,8 @@ pub fn publish_core(envelope: Envelope) -> PublishCore
         → plain_setting.written_tag v ≡ Some (plain_setting.tag s (suc n)) → IsLawfulPlan plain_setting s n (Publish v) }
     ensures traced { (s p : ℕ) → HasPublishing s p (compact_text (data_of envelope)) [] result }
 {
+    // The text is read again as the same envelope.
+    let _text = envelope.text();
     BlockCore::new(PublishStage { envelope })
 }
 

@@ -1,5 +1,6 @@
 -- Soundness of what a schedule determines.
 use Rattle.std.specs.Prelude.{◌≡◌, ℕ, ◌^◌, ◌<◌, ◌≤◌, true, List, [], ◌∷◌, length, min, Option, Some}
+use Rattle.store_model.specs.Limits.{moment_limit}
 use Rattle.queue_keys.specs.Names.{Bytes, is_name}
 use Rattle.queue_keys.specs.Layouts.{Layout, is_layout}
 use Rattle.command_blocks.specs.Setting.{Setting, Texts, IsTexts, IsLawful, named_or_none, setting_of}
@@ -40,7 +41,7 @@ pub record IsSoundDesk (σ : Setting) (d : ScheduleReader) : Type 0 where
   pub history : IsSound σ (reader_history d)
   pub store : (after (reader_history d)).store ≡ d.store
   pub moments : RisesTo 0 d.entries d.moment
-  pub present : d.moment < 2 ^ 40
+  pub present : d.moment < moment_limit
 
 -- a whole history is sound, and so is one that was full, which has these many entries and this cost
 abbrev pub IsSoundlyDetermined : Setting → Determined → Type 0

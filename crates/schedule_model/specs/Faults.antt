@@ -1,5 +1,6 @@
 -- Why a line of a schedule is bad: its tests in their order.
-use Rattle.std.specs.Prelude.{ℕ, suc, ◌^◌, Bool, true, false, not, ◌&&◌, ◌||◌, nat_le, nat_lt, nat_eq, is_none, if◌then◌else◌, List, [], ◌∷◌, ◌++◌, Option, None, Some}
+use Rattle.std.specs.Prelude.{ℕ, suc, Bool, true, false, not, ◌&&◌, ◌||◌, nat_le, nat_lt, nat_eq, is_none, if◌then◌else◌, List, [], ◌∷◌, ◌++◌, Option, None, Some}
+use Rattle.store_model.specs.Limits.{moment_limit}
 use Rattle.std.specs.List.{list_any}
 use Rattle.std.specs.FinMap.{get}
 use Rattle.line_text.specs.declared.reason.Reason.{Reason}
@@ -100,7 +101,7 @@ has_seed s clients = list_any (λ e. nat_eq e.1 s) clients
 -- those of a line, in their order
 abbrev pub tests : Craft → ScheduleReader → Line → List Test
 tests κ d (Client c s) = (is_gone (get d.books c), Stopped) ∷ (has_number c d.clients || has_seed s d.clients, Repeated) ∷ []
-tests κ d (At m) = (nat_le (2 ^ 40) m || nat_lt m d.moment, Moment) ∷ []
+tests κ d (At m) = (nat_le moment_limit m || nat_lt m d.moment, Moment) ∷ []
 tests κ d (Begin c a) = let b = get d.books c in present_tests b ++ (is_busy b, Busy) ∷ asked_tests κ (client_seed b) (counter_of b) a
 tests κ d (Step c) = let b = get d.books c in present_tests b ++ (not (is_busy b), Idle) ∷ []
 tests κ d (Run c) = let b = get d.books c in present_tests b ++ (not (is_busy b), Idle) ∷ []

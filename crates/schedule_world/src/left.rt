@@ -9,7 +9,7 @@ ghost use Rattle.schedule_world.specs.Blocks.{script_left};
 ghost use Rattle.schedule_world.specs.Lefts.{after_answer, heard_by};
 ghost use Rattle.serde_json.specs.View.{view as data_of};
 ghost use Rattle.serde_json.specs.Written.{compact_text};
-ghost use Rattle.store_model.specs.Words.{IsWithinLimits};
+ghost use Rattle.wire_grammar.specs.Fits.{IsWithinLimits};
 
 use block_core::ReplyFault;
 use envelope::{Envelope, Tag};

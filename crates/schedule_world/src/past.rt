@@ -38,7 +38,7 @@ impl Past {
     ghost use Rattle.std.specs.Ordering.{nat_cmp};
     ghost use Rattle.std.specs.Prelude.{OnErr, ◌||◌, ◌∷◌, [], ◌++◌, length, false};
     ghost use Rattle.store_model.specs.Store.{apply_of};
-    ghost use Rattle.store_model.specs.Words.{IsWithinLimits};
+    ghost use Rattle.wire_grammar.specs.Fits.{IsWithinLimits};
     ghost use Rattle.command_blocks.specs.Scripts.{next_words};
     ghost use Rattle.schedule_model.specs.Costs.{is_full};
     ghost use Rattle.schedule_model.specs.Desk.{ClientBook, first_desk, said_all, said_one, with_call};

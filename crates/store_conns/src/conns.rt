@@ -14,7 +14,7 @@ use std::marker::Model;
 use std::mem;
 use store_keys::Keyspace;
 use store_keys::effect::push_bulk;
-use store_model::{Command, Conn, Queue};
+use store_model::{Command, Conn, PENDING_LIMIT, Queue};
 use store_tables::Deque;
 use wire_values::{Bytes, Value, Values};
 
@@ -234,7 +234,7 @@ fn unknown(alloc: Global) -> Conn
 fn hears(known: &Conn, channel: &Bytes) -> bool
     ensures { result ≡ hears channel.now known.now }
 {
-    known.channels.has(channel) && known.pending.len() < 1024
+    known.channels.has(channel) && known.pending.len() < PENDING_LIMIT
 }
 
 fn hearing_in(kept: &BTreeMap<u32, Conn>, channel: &Bytes) -> usize

@@ -7,15 +7,15 @@ use crate::effect::{Effect, counted};
 use crate::keyspace::Keyspace;
 use crate::puts::{put_at, put_same};
 use std::alloc::{AllocError, Global};
-use store_model::Stored;
+use store_model::{MEMBER_LIMIT, Stored};
 use store_tables::{Deque, Table};
 use wire_values::Bytes;
 
-/// Whether a member or field has more than 1,024 bytes.
+/// Whether a member or field has more than `MEMBER_LIMIT` bytes.
 pub fn is_long(name: &Bytes) -> bool
     ensures { result ≡ is_long name.now }
 {
-    name.len() > 1024
+    name.len() > MEMBER_LIMIT
 }
 
 /// Takes out these members or fields, and counts those that were there.

@@ -13,3 +13,8 @@ pub mod Fields
 pub mod Others
 pub mod Ranks
 pub mod Ranges
+pub mod KeysLimited
+pub mod CommandsShort
+pub mod StepsLimited
+pub mod RepliesFit
+pub mod Waits

@@ -1,6 +1,6 @@
 -- The walk over a sorted set finds its one range.
-use Rattle.std.proofs.Common.{◌≡◌, ◌≢◌, ◌⊎◌, inl, inr, ℕ, ◌<◌, List, [], ◌∷◌, Bool, true, false, cond, refl, sym, ap, subst, ◌∙◌, None, Some, Option, Ordering, Less, Equal, Greater, arith, ltb, leb}
-use Rattle.std.specs.Prelude.{◌&&◌, T, ℤ, pos, negsuc, int_le, int_lt, map, take, drop, if◌then◌else◌}
+use Rattle.std.proofs.Common.{◌≡◌, ◌≢◌, ◌⊎◌, inl, inr, ℕ, List, [], ◌∷◌, Bool, true, false, cond, refl, sym, ap, subst, ◌∙◌, Some, Ordering, Less, Equal, Greater, arith, ltb}
+use Rattle.std.specs.Prelude.{◌&&◌, T, ℤ, pos, negsuc, int_le, int_lt, if◌then◌else◌}
 use Rattle.std.specs.Ordering.{eq_by_cmp, is_eq, is_lt}
 use Rattle.std.proofs.lemmas.Bool.{and_from, and_parts}
 use Rattle.std.proofs.lemmas.Bool.Decides.{nat_tests}

@@ -1,3 +1,4 @@
 pub mod Laws
 pub mod Rankings
 pub mod Ranges
+pub mod StoreLimits

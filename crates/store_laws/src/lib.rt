@@ -5,16 +5,18 @@
 #![tactic(auto)]
 
 ghost use Rattle.std.specs.FinMap.{FinMap};
-ghost use Rattle.std.specs.Prelude.{List, ℕ, ℤ};
+ghost use Rattle.std.specs.Prelude.{◌≡◌, ◌↔◌, List, false, true, ℕ, ℤ};
 ghost use Rattle.wire_values.specs.Order.{bytes_cmp};
+ghost use Rattle.wire_grammar.specs.Fits.{IsWithinLimits};
 ghost use Rattle.store_model.specs.Commands.{Around};
 ghost use Rattle.store_model.specs.Connections.{Conns};
 ghost use Rattle.store_model.specs.Keys.{Keys};
-ghost use Rattle.store_model.specs.Store.{State, apply_of, gone_of};
+ghost use Rattle.store_model.specs.Store.{State, apply_of, empty_state, gone_of, ready_of};
 ghost use Rattle.store_model.specs.Words.{Bytes, Words};
 ghost use Rattle.store_model.specs.declared.command.Command.{Command};
 ghost use Rattle.store_laws.specs.Laws.{DropsDue, IsElsewhere, IsGone, KeepsOthers, MarksDue, QueueKeepsOthers};
 ghost use Rattle.store_laws.specs.Ranges.{GivesRange};
+ghost use Rattle.store_laws.specs.StoreLimits.{HasLimits, ReplyFits, WouldWait, has_counts};
 
 /// One law for every command: a key that isn't among those that it altered holds what it held.
 pub fn one_law()
@@ -51,4 +53,26 @@ pub fn gone_law()
 /// in byte order; there is one, and its members are what ZREVRANGEBYSCORE gives, less those that are passed over.
 pub fn range_law()
     ensures { (high low : ℤ) (h : FinMap bytes_cmp ℤ) (skip most : ℕ) → GivesRange high low skip most h }
+{}
+
+/// A store stays within its limits: the empty one is, each command whose words fit leaves it so, whatever the command,
+/// and so does a connection that goes. So no key, text, element, member, field or message that it holds is too long for
+/// the wire, no list, set, hash or sorted set is empty, a queue has at most 4,096 commands, all of which may be queued, and
+/// stands beside no channels, and at most 1,024 messages of a connection are pending.
+pub fn limits_stay()
+    ensures begun { HasLimits empty_state }
+    ensures kept { (s : State) (at c : ℕ) (words : Words) → HasLimits s → IsWithinLimits words → HasLimits (apply_of s at c words).0 }
+    ensures gone { (s : State) (c : ℕ) → HasLimits s → HasLimits (gone_of s c) }
+{}
+
+/// Each value that a store within its limits answers to words that fit can be written, as far as its integers are of 64
+/// bits; those of the code always are.
+pub fn replies_fit()
+    ensures { (s : State) (at c : ℕ) (words : Words) → HasLimits s → IsWithinLimits words
+        → has_counts (apply_of s at c words).1.answer ≡ true → ReplyFits (apply_of s at c words).1 }
+{}
+
+/// A command isn't ready exactly where its words are a lawful BRPOP that would answer the null array at this moment.
+pub fn ready_law()
+    ensures { (s : State) (at : ℕ) (words : Words) → HasLimits s → (ready_of s at words ≡ false) ↔ WouldWait s at words }
 {}

@@ -1,6 +1,6 @@
 -- Lists at their ends.
 use Rattle.std.proofs.Common.{◌≡◌, List, [], ◌∷◌, ◌++◌, refl, sym, ap, ◌∙◌, length}
-use Rattle.store_model.specs.Integers.{natural_of}
+use Rattle.numerals.specs.Integers.{natural_of}
 use Rattle.store_model.specs.Words.{Bytes, front, final, brpop_of, brpop_until}
 
 pub not_empty : {A : Type 0} (ys : List A) (l : A) → [] ≡ ys ++ l ∷ [] → ⊥

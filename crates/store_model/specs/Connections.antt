@@ -4,6 +4,7 @@ use Rattle.std.specs.List.{list_any}
 use Rattle.std.specs.Ordering.{nat_cmp}
 use Rattle.std.specs.FinMap.{FinMap, get, entries, from_entries}
 use Rattle.store_model.specs.Words.{Bytes}
+use Rattle.store_model.specs.Limits.{pending_limit}
 use Rattle.store_model.specs.Replies.{message}
 use Rattle.store_model.specs.Keys.{Keys, is_expired}
 use Rattle.store_model.specs.Commands.{Around}
@@ -51,7 +52,7 @@ touch_due at m c = record c { marked = c.marked || list_any (λ k. is_expired at
 
 -- a message on this channel reaches the connection: it is subscribed, and has fewer than 1,024 pending messages
 abbrev pub hears : Bytes → Conn → Bool
-hears channel c = list_any (bytes_eq channel) c.channels && nat_lt (length c.pending) 1024
+hears channel c = list_any (bytes_eq channel) c.channels && nat_lt (length c.pending) pending_limit
 
 -- how many connections a message on this channel reaches
 abbrev pub hearing : Bytes → List (ℕ × Conn) → ℕ

@@ -4,6 +4,7 @@ use Rattle.std.specs.FinMap.{FinMap, get, insert, remove, retain_keys}
 use Rattle.wire_values.specs.Order.{bytes_cmp}
 use Rattle.wire_values.specs.declared.value.Value.{Value}
 use Rattle.store_model.specs.Words.{Bytes}
+use Rattle.store_model.specs.Limits.{member_limit}
 use Rattle.store_model.specs.Replies.{number}
 use Rattle.store_model.specs.declared.held.Stored.{Stored}
 use Rattle.store_model.specs.declared.held.Held.{Held}
@@ -42,7 +43,7 @@ out m ks a = record { keys = m; altered = ks; answer = a }
 
 -- a member or a field has at most 1,024 bytes
 abbrev pub is_long : Bytes → Bool
-is_long x = nat_lt 1024 (length x)
+is_long x = nat_lt member_limit (length x)
 
 -- without these members or fields, and how many of them were there
 abbrev pub taken_out : {X : Type 0} → FinMap bytes_cmp X → List Bytes → FinMap bytes_cmp X × ℕ

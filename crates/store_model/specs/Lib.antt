@@ -1,10 +1,11 @@
 pub mod Commands
 pub mod Connections
 pub mod Hashes
-pub mod Integers
 pub mod Keys
+pub mod Limits
 pub mod Lists
 pub mod Replies
+pub mod Seconds
 pub mod Sets
 pub mod SortedSets
 pub mod Store

@@ -5,6 +5,7 @@ use Rattle.std.specs.FinMap.{FinMap, get, insert, empty, len, keys}
 use Rattle.wire_values.specs.Order.{bytes_cmp}
 use Rattle.wire_values.specs.declared.value.Value.{Value}
 use Rattle.store_model.specs.Words.{Bytes}
+use Rattle.store_model.specs.Limits.{set_limit}
 use Rattle.store_model.specs.Replies.{number, wrong_type, full, bulks}
 use Rattle.store_model.specs.Keys.{Keys, put, CommandOutcome, out, is_long, taken_out, after_taking}
 use Rattle.store_model.specs.declared.held.Stored.{Stored}
@@ -29,7 +30,7 @@ after_adding m k h (suc p) true = out (put m k (Members h)) (k ∷ []) (number (
 
 -- a set has at most 1,024 members, each of at most 1,024 bytes
 abbrev pub sadd_to : Keys → Bytes → List Bytes → FinMap bytes_cmp (Unit {0}) → CommandOutcome
-sadd_to m k xs h = let r = put_in h xs in after_adding m k r.0 r.1 (not (list_any is_long xs) && nat_le (len r.0) 1024)
+sadd_to m k xs h = let r = put_in h xs in after_adding m k r.0 r.1 (not (list_any is_long xs) && nat_le (len r.0) set_limit)
 
 -- SADD, by what the key holds
 abbrev pub sadd : Keys → Bytes → List Bytes → Option Stored → CommandOutcome

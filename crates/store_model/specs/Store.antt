@@ -6,6 +6,7 @@ use Rattle.std.specs.FinMap.{get, empty, insert, remove, code, entries}
 use Rattle.wire_values.specs.declared.value.Value.{Value}
 use Rattle.wire_values.specs.declared.value.Value.TheVariants.{Error, Array, NullArray}
 use Rattle.store_model.specs.Words.{Bytes, Words, brpop_of, command_of, upper_byte}
+use Rattle.store_model.specs.Limits.{queue_limit}
 use Rattle.store_model.specs.Replies.{done, queued, fault_text, subscribed, not_inside, full, aborted, pair, channel_answer}
 use Rattle.store_model.specs.Keys.{Keys, due_keys, is_expired, live_at}
 use Rattle.store_model.specs.Commands.{run, is_queued}
@@ -110,7 +111,7 @@ abbrev pub inside : ℕ → State → ℕ → Conn → Queue → Command → Sta
 inside at s c cn q Exec = executed at s c cn q.commands q.broken
 inside at s c cn q Discard = discard s c cn
 inside at s c cn q (Faulty fault heard) = refused s c cn (Some q) (Error (fault_text fault))
-inside at s c cn q command = to_queue s c cn q command (is_queued command) (nat_lt (length q.commands) 4096)
+inside at s c cn q command = to_queue s c cn q command (is_queued command) (nat_lt (length q.commands) queue_limit)
 
 -- SUBSCRIBE
 abbrev pub subscribe : State → ℕ → Conn → Bytes → State × Value

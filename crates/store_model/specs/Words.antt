@@ -1,6 +1,8 @@
 -- How commands are spelled as words: the first is the name, read without regard to ASCII case.
-use Rattle.std.specs.Prelude.{ℕ, ◌-◌, Bool, true, false, ◌&&◌, List, [], ◌∷◌, map, nat_le, codes, bytes_eq, Option, None, Some, ℤ, if◌then◌else◌, ◌≤◌, length, All}
-use Rattle.store_model.specs.Integers.{integer_of, natural_of, seconds_of}
+use Rattle.std.specs.Prelude.{ℕ, ◌-◌, Bool, true, false, ◌&&◌, List, [], ◌∷◌, map, nat_le, codes, bytes_eq, Option, None, Some, ℤ, if◌then◌else◌}
+use Rattle.numerals.specs.Integers.{integer_of, natural_of}
+use Rattle.store_model.specs.Limits.{range_limit}
+use Rattle.store_model.specs.Seconds.{seconds_of}
 use Rattle.store_model.specs.declared.command.Command.{Command}
 use Rattle.store_model.specs.declared.command.Command.TheVariants.{Ping, Select, Get, Set, Del, Expire, Lpush, Rpush, Rpop, Brpop, Llen, Hlen, Zcard, Sadd, Srem, Smembers, Hset, Hget, Hdel, Zadd, Zrem, Zrevrangebyscore, Watch, Unwatch, Multi, Exec, Discard, Publish, Subscribe, Unsubscribe, Faulty}
 use Rattle.store_model.specs.declared.command.Fault.{Fault}
@@ -13,10 +15,6 @@ Bytes = List ℕ
 -- the words of a command
 abbrev pub Words : Type 0
 Words = List Bytes
-
--- a command has at most 4,096 words, each of at most 1,048,576 bytes, as RESP2 in this store's limits carries them
-abbrev pub IsWithinLimits : Words → Type 0
-IsWithinLimits words = (length words ≤ 4096) × All (λ w. length w ≤ 1048576) words
 
 -- the byte as a capital letter
 abbrev pub upper_byte : ℕ → ℕ
@@ -111,7 +109,7 @@ range_of k high low skip most = faulty Integer
 
 -- ZREVRANGEBYSCORE with a key, the highest score, the lowest, and LIMIT with an offset and a count; at most 4,096 members are given
 abbrev pub zrevrangebyscore_of : Words → Command
-zrevrangebyscore_of (k ∷ high ∷ low ∷ []) = range_of k (integer_of high) (integer_of low) (Some 0) (Some 4096)
+zrevrangebyscore_of (k ∷ high ∷ low ∷ []) = range_of k (integer_of high) (integer_of low) (Some 0) (Some range_limit)
 zrevrangebyscore_of (k ∷ high ∷ low ∷ l ∷ o ∷ n ∷ []) =
     if bytes_eq l (codes "LIMIT") then range_of k (integer_of high) (integer_of low) (natural_of o) (natural_of n) else faulty Syntax
 zrevrangebyscore_of other = faulty Arity

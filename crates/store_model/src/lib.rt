@@ -8,9 +8,11 @@
 mod command;
 mod connection;
 mod held;
+mod limits;
 mod reply;
 
 pub use command::{Command, Fault};
 pub use connection::{Conn, Queue};
 pub use held::{Held, Stored};
+pub use limits::{MEMBER_LIMIT, MOMENT_LIMIT, PENDING_LIMIT, QUEUE_LIMIT, RANGE_LIMIT, SET_LIMIT};
 pub use reply::Reply;

@@ -10,7 +10,7 @@ use store_keys::Keyspace;
 use store_keys::effect::{Effect, bulks, error, wrong_type};
 use store_keys::members::{finish, take_out};
 use store_keys::puts::{put_counted, put_full, put_same};
-use store_model::{Held, Stored};
+use store_model::{Held, MEMBER_LIMIT, SET_LIMIT, Stored};
 use store_tables::{Deque, Table};
 use wire_values::{Bytes, Value};
 
@@ -109,9 +109,9 @@ fn add(
     ensures { IfOk result (λ e. (m : Keys) → ((v : Stored) → put keys.old key v ≡ put m key v) → (if nat_eq (len members) 0 then keys.old else put keys.old key (Stored.Members members)) ≡ m
         → out keys.new e.altered e.answer ≡ sadd_to m key names members) }
 {
-    let long = names.has_longer(1024);
+    let long = names.has_longer(MEMBER_LIMIT);
     let (members, new) = put_in(alloc, members, names)?;
-    if long || members.len() > 1024 {
+    if long || members.len() > SET_LIMIT {
         let (members, _) = take_out(members, new);
         let left = members.len();
         return put_full(keys, alloc, key, Stored::Members(members), left);

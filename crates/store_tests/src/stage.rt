@@ -1,5 +1,6 @@
 //! A store and the history of what its clients called, played row by row.
-ghost use Rattle.std.specs.Prelude.{◌<◌, ◌^◌};
+ghost use Rattle.store_model.specs.Limits.{moment_limit};
+ghost use Rattle.std.specs.Prelude.{◌<◌};
 
 use crate::glossary::{Glossary, key_text, keys_text};
 use crate::lawful::{is_new, is_running};
@@ -11,7 +12,7 @@ use place_index::{place_of, places};
 use place_model::{Entry, History};
 use std::alloc::{AllocError, Global};
 use std::process::Abort;
-use store_words::is_within_limits;
+use wire_spelling::words_fit;
 use wire_values::Words;
 
 /// A store, the history of its clients, and the names that rows have for byte strings.
@@ -133,9 +134,9 @@ impl PlayedStore {
         conn: u32,
         words: Words,
     ) -> Result<Vec<u8>, AllocError>
-        requires { at < 2 ^ 40 }
+        requires { at < moment_limit }
     {
-        assert!(rt; is_within_limits(&words));
+        assert!(rt; words_fit(&words));
         assert!(rt; is_running(&self.history, conn));
         let reply = self.store.apply(alloc, at, conn, &words)?;
         let shown = self.glossary.reply_text(alloc, &reply)?;

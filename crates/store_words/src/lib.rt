@@ -1,6 +1,6 @@
-//! How commands are spelled as words: the command that a list of words is, and which lists a store takes.
+//! How commands are spelled as words: the command that a list of words is.
 #![tactic(auto)]
 
 mod words;
 
-pub use words::{command_of, is_within_limits, upper_byte};
+pub use words::{command_of, upper_byte};

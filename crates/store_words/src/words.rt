@@ -1,26 +1,14 @@
 //! How commands are spelled as words.
-ghost use Rattle.store_model.specs.Integers.{integer_of, natural_of, seconds_of};
-ghost use Rattle.store_model.specs.Words.{IsWithinLimits, bare, brpop_of, command_of, connection_command, faulty, hash_command, key_command, lasting, list_command, named, range_of, select_of, expire_of, zadd_of, set_command, set_of, sorted_set_command, transaction_command, upper_byte, with_one, with_rest, with_some, with_three, with_two, zrevrangebyscore_of};
-ghost use Rattle.std.specs.Prelude.{All, ◌≡◌, ◌≤◌, ◌↔◌, length, Bool, IsTrue, List, [], ◌∷◌, IfOk, MatchOption, None, Some, false, map as mapped, true, ℕ};
+ghost use Rattle.numerals.specs.Integers.{integer_of, natural_of};
+ghost use Rattle.store_model.specs.Seconds.{seconds_of, within_seconds};
+ghost use Rattle.store_model.specs.Words.{bare, brpop_of, command_of, connection_command, faulty, hash_command, key_command, lasting, list_command, named, range_of, select_of, expire_of, zadd_of, set_command, set_of, sorted_set_command, transaction_command, upper_byte, with_one, with_rest, with_some, with_three, with_two, zrevrangebyscore_of};
+ghost use Rattle.std.specs.Prelude.{◌≡◌, Bool, List, [], ◌∷◌, IfOk, MatchOption, None, Some, false, map as mapped, true, ℕ};
 
+use numerals::{integer, natural};
 use std::alloc::{AllocError, Global};
-use store_integers::{integer, natural, seconds};
-use store_model::{Command, Fault};
+use store_model::{Command, Fault, RANGE_LIMIT};
 use store_tables::Deque;
 use wire_values::{Bytes, Words};
-
-/// Whether a store takes these words: at most 4,096, each of at most 1,048,576 bytes.
-pub fn is_within_limits(words: &Words) -> bool
-    ensures { IsTrue result ↔ IsWithinLimits words.now }
-{
-    words.as_slice().len() <= 4096 && are_short(words.as_slice())
-}
-
-fn are_short(words: &[Bytes]) -> bool
-    ensures { IsTrue result ↔ All (λ word. length word ≤ 1048576) words.now }
-{
-    words.iter().all(|word| word.len() <= 1_048_576)
-}
 
 /// The byte as a capital letter.
 pub fn upper_byte(byte: u8) -> u8
@@ -82,6 +70,25 @@ fn rest(alloc: Global, args: &[Bytes]) -> Result<Option<(Bytes, Deque<Bytes>)>, 
         return Ok(None);
     }
     Ok(Some((first, words)))
+}
+
+// The seconds that a key lives, 1 to 4,294,967,295, that the word spells.
+fn seconds(word: &[u8]) -> Option<u32>
+    ensures { result ≡ seconds_of word.now }
+{
+    in_range(natural(word))
+}
+
+fn in_range(number: Option<u64>) -> Option<u32>
+    ensures { result ≡ within_seconds number }
+{
+    let Some(number) = number else {
+        return None;
+    };
+    if number == 0 || number > 4_294_967_295 {
+        return None;
+    }
+    Some(number as u32)
 }
 
 // SET of a copied key and text.
@@ -253,7 +260,7 @@ fn zrevrangebyscore_of(alloc: Global, args: &[Bytes]) -> Result<Command, AllocEr
         [key, high, low] => {
             let key = key.copy(alloc)?;
             let (high, low) = (integer(high.as_slice()), integer(low.as_slice()));
-            Ok(range_of(key, high, low, Some(0), Some(4096)))
+            Ok(range_of(key, high, low, Some(0), Some(RANGE_LIMIT)))
         }
         [key, high, low, word, skip, most] => {
             if word.as_slice() != b"LIMIT".as_slice() {

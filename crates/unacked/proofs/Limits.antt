@@ -11,11 +11,13 @@ use Rattle.delivery_tags.specs.Tags.{tag_text}
 use Rattle.envelope_trees.specs.declared.fault.EnvelopeFault.TheVariants.{TooLong}
 use Rattle.envelope_trees.specs.Reading.{wanted}
 use Rattle.envelope.proofs.Said.{bind_ok, wanted_is}
-use Rattle.store_model.specs.Words.{IsWithinLimits, Words}
+use Rattle.store_model.specs.Words.{Words}
+use Rattle.wire_grammar.specs.Fits.{IsShort, IsWithinLimits}
+use Rattle.wire_grammar.proofs.Fitted.{words_fit}
 use Rattle.queue_keys.specs.Layouts.{plain}
 use Rattle.queue_keys.specs.Names.{Bytes, is_name}
 use Rattle.queue_keys.specs.QueueKeys.{keys_at, keys_by, pop_keys, queue_key}
-use Rattle.place_model.proofs.CommandLimits.{IsShort, four_within, key_short}
+use Rattle.place_model.proofs.CommandLimits.{four_within, key_few}
 use Rattle.key_laws.proofs.Lists.{length-pop_keys}
 use Rattle.unacked.specs.Queues.{are_names}
 use Rattle.unacked.proofs.Names.{and_is}
@@ -40,20 +42,25 @@ entry_short u e is =
 
 -- ---- the keys of a pop
 
-at_short : (s : ℕ) (qs : List Bytes) → are_names qs ≡ true → All IsShort (keys_at plain s qs)
-at_short s [] e = All-nil IsShort
-at_short s (q ∷ qs) e = let h = and_is (is_name q) (are_names qs) e in All-cons IsShort (queue_key plain q s) (keys_at plain s qs) (key_short s q h.0) (at_short s qs h.1)
+-- a key of a lawful name has few bytes
+abbrev IsKeyLong : Bytes → Type 0
+IsKeyLong k = length k ≤ 258
 
-by_short : (ss : List ℕ) (qs : List Bytes) → are_names qs ≡ true → All IsShort (keys_by plain ss qs)
-by_short [] qs e = All-nil IsShort
-by_short (s ∷ ss) qs e = All-append IsShort (keys_at plain s qs) (keys_by plain ss qs) (at_short s qs e) (by_short ss qs e)
+at_few : (s : ℕ) (qs : List Bytes) → are_names qs ≡ true → All IsKeyLong (keys_at plain s qs)
+at_few s [] e = All-nil IsKeyLong
+at_few s (q ∷ qs) e = let h = and_is (is_name q) (are_names qs) e in All-cons IsKeyLong (queue_key plain q s) (keys_at plain s qs) (key_few s q h.0) (at_few s qs h.1)
+
+by_few : (ss : List ℕ) (qs : List Bytes) → are_names qs ≡ true → All IsKeyLong (keys_by plain ss qs)
+by_few [] qs e = All-nil IsKeyLong
+by_few (s ∷ ss) qs e = All-append IsKeyLong (keys_at plain s qs) (keys_by plain ss qs) (at_few s qs e) (by_few ss qs e)
 
 -- BRPOP of the keys of at most 1,023 lawful names
 pub pop_within : (qs : List Bytes) → are_names qs ≡ true → length qs ≤ 1023 → IsWithinLimits (codes "BRPOP" ∷ pop_keys plain qs ++ codes "1" ∷ [])
 pop_within qs e few =
     let n : length (pop_keys plain qs) ≡ 4 * length qs = length-pop_keys plain qs in
     let m = length-append (pop_keys plain qs) (codes "1" ∷ []) in
-    (omega (arith, n, m, few), All-cons IsShort (codes "BRPOP") (pop_keys plain qs ++ codes "1" ∷ []) (omega arith) (All-append IsShort (pop_keys plain qs) (codes "1" ∷ []) (by_short plain.steps qs e) (All-cons IsShort (codes "1") [] (omega arith) (All-nil IsShort))))
+    words_fit 258 (codes "BRPOP" ∷ pop_keys plain qs ++ codes "1" ∷ []) (omega (arith, n, m, few)) (omega arith) (omega (arith, n, m, few))
+    (All-cons IsKeyLong (codes "BRPOP") (pop_keys plain qs ++ codes "1" ∷ []) (omega arith) (All-append IsKeyLong (pop_keys plain qs) (codes "1" ∷ []) (by_few plain.steps qs e) (All-cons IsKeyLong (codes "1") [] (omega arith) (All-nil IsKeyLong))))
 
 -- ---- what a call that makes words answers
 

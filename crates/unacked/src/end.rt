@@ -1,7 +1,7 @@
 //! An acknowledgement: a message is taken out of the table of messages that are not acknowledged, for good.
 ghost use Rattle.std.specs.Prelude.{◌≡◌, [], ℕ, IfOk, Some, None};
 ghost use Rattle.delivery_tags.specs.Tags.{tag_text};
-ghost use Rattle.store_model.specs.Words.{IsWithinLimits};
+ghost use Rattle.wire_grammar.specs.Fits.{IsWithinLimits};
 ghost use Rattle.command_blocks.specs.EnvelopeTexts.{plain_setting};
 ghost use Rattle.command_blocks.specs.Scripts.{End, end_script, next_words};
 ghost use Rattle.block_core.specs.Cores.{core_end};

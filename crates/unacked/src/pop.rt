@@ -2,7 +2,7 @@
 ghost use Rattle.std.specs.Prelude.{◌≡◌, ◌≤◌, [], ℕ, length, IfOk, Some, None};
 ghost use Rattle.envelope.specs.Bodies.{tag_of_bytes};
 ghost use Rattle.store_model.specs.Replies.{pair};
-ghost use Rattle.store_model.specs.Words.{IsWithinLimits};
+ghost use Rattle.wire_grammar.specs.Fits.{IsWithinLimits};
 ghost use Rattle.command_blocks.specs.EnvelopeTexts.{plain_setting};
 ghost use Rattle.command_blocks.specs.Scripts.{Pop, kept_by, next_words, on_popped, pop_script};
 ghost use Rattle.serde_json.specs.View.{view as data_of};

@@ -3,4 +3,5 @@ pub mod Parts
 pub mod Readings
 pub mod Limited
 pub mod Writings
+pub mod Fitted
 pub mod StreamLaws

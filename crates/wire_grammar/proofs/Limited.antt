@@ -1,5 +1,5 @@
 -- What is read within the limit of a value.
-use Rattle.std.proofs.Common.{◌≡◌, ℕ, zero, suc, ◌+◌, ◌-◌, ◌<◌, ◌≤◌, List, [], ◌∷◌, ◌++◌, length, take, drop, Bool, true, false, nat_lt, refl, sym, ap, subst, ◌∙◌, arith, append_assoc, append-nil, length-append, length-take, inl, inr}
+use Rattle.std.proofs.Common.{◌≡◌, ℕ, zero, suc, ◌+◌, ◌-◌, ◌≤◌, List, [], ◌∷◌, ◌++◌, length, take, drop, Bool, true, false, nat_lt, refl, sym, ap, subst, ◌∙◌, arith, append_assoc, append-nil, length-append, length-take, inl, inr}
 use Rattle.std.specs.Prelude.{◌⊎◌, Option, Some, None, if◌then◌else◌}
 use Rattle.std.proofs.lemmas.Bool.Decides.{nat_tests}
 use Rattle.std.proofs.lemmas.List.{take_all}
@@ -7,9 +7,9 @@ use Rattle.wire_values.specs.declared.value.Value.{Value}
 use Rattle.wire_grammar.specs.declared.kind.WireKind.{WireKind}
 use Rattle.wire_grammar.specs.declared.kind.WireKind.TheVariants.{TooLong}
 use Rattle.wire_grammar.specs.Limits.{depth_limit, value_limit}
-use Rattle.wire_grammar.specs.Spells.{SpellsWithin, Spells, GoesOn, BeginsNone, IsFront}
+use Rattle.wire_grammar.specs.Spells.{SpellsWithin, Spells, BeginsNone, IsFront}
 use Rattle.wire_grammar.specs.Reads.{Reading, Got, Front, Wrong, value_at, read_on, limited, read, fault_of, wire_fault}
-use Rattle.wire_grammar.specs.Faults.{IsStuckAt, IsPastLimit, IsWrongAt, Begins, HasFault, OneHolds}
+use Rattle.wire_grammar.specs.Faults.{IsWrongAt, Begins, HasFault, OneHolds}
 use Rattle.wire_grammar.proofs.Readers.{Tells, AtFront, Within, AtByte}
 use Rattle.wire_grammar.proofs.Readings.{value_reader, reads_spelled}
 

@@ -1,12 +1,12 @@
 -- The readers of the parts of a value.
-use Rattle.std.proofs.Common.{◌≡◌, ℕ, ℤ, pos, negsuc, zero, suc, ◌+◌, ◌-◌, ◌*◌, ◌^◌, ◌<◌, ◌≤◌, ◌≢◌, List, [], ◌∷◌, ◌++◌, length, Bool, true, false, ◌==◌, nat_le, nat_lt, nat_eq, refl, sym, ap, subst, ◌∙◌, arith, append_assoc, append-nil, length-append, inl, inr}
-use Rattle.std.specs.Prelude.{◌⊎◌, ◌&&◌, ◌||◌, Some, None}
+use Rattle.std.proofs.Common.{◌≡◌, ℕ, ℤ, pos, negsuc, zero, suc, ◌+◌, ◌-◌, ◌*◌, ◌^◌, ◌<◌, ◌≤◌, ◌≢◌, List, [], ◌∷◌, ◌++◌, length, Bool, true, false, ◌==◌, nat_le, nat_lt, refl, sym, ap, subst, ◌∙◌, arith, append_assoc, append-nil, length-append, inl, inr}
+use Rattle.std.specs.Prelude.{◌⊎◌, ◌||◌, Some}
 use Rattle.std.specs.List.{list_any}
 use Rattle.std.proofs.lemmas.Bool.Decides.{nat_tests}
-use Rattle.numerals.specs.Integers.{digits_onto, magnitude_of, integer_of}
+use Rattle.numerals.specs.Integers.{digits_onto}
 use Rattle.numerals.proofs.Texts.{digit_on, digit_in, some_same, onto_bound, magnitude_first, magnitude_is, MagnitudeIs, IsZero, IsDigits, plain_spelled, negative_spelled, integer_is, IsMagnitude}
 use Rattle.wire_values.specs.declared.value.Value.{Value}
-use Rattle.wire_values.specs.declared.value.Value.TheVariants.{Status, Error, Integer, Bulk, NullBulk, Array, NullArray}
+use Rattle.wire_values.specs.declared.value.Value.TheVariants.{Integer, Bulk, NullBulk, Array, NullArray}
 use Rattle.wire_grammar.specs.declared.kind.WireKind.{WireKind}
 use Rattle.wire_grammar.specs.declared.kind.WireKind.TheVariants.{BadInteger, NoCrLf, TooLong}
 use Rattle.wire_grammar.specs.declared.kind.NumberKind.{NumberKind}

@@ -1,16 +1,15 @@
 -- What is read of a list, and what is spelled at its front, go together.
-use Rattle.std.proofs.Common.{◌≡◌, ℕ, ℤ, pos, negsuc, zero, suc, ◌+◌, ◌-◌, ◌<◌, ◌≤◌, List, [], ◌∷◌, ◌++◌, length, take, drop, Bool, true, false, ◌==◌, nat_lt, refl, sym, ap, subst, ◌∙◌, arith, append_assoc, append-nil, length-append, inl, inr}
-use Rattle.std.specs.Prelude.{◌⊎◌, Option, Some, None, if◌then◌else◌}
+use Rattle.std.proofs.Common.{◌≡◌, ℕ, ℤ, zero, suc, ◌+◌, List, [], ◌∷◌, ◌++◌, length, Bool, true, false, ◌==◌, refl, sym, ap, subst, arith, inl, inr}
+use Rattle.std.specs.Prelude.{◌⊎◌}
 use Rattle.std.proofs.lemmas.Bool.Decides.{nat_tests}
 use Rattle.wire_values.specs.declared.value.Value.{Value}
-use Rattle.wire_values.specs.declared.value.Value.TheVariants.{Status, Error, Integer, Bulk, NullBulk, Array, NullArray}
-use Rattle.wire_grammar.specs.declared.kind.WireKind.{WireKind}
+use Rattle.wire_values.specs.declared.value.Value.TheVariants.{Status, Error, Integer, NullBulk, NullArray}
 use Rattle.wire_grammar.specs.declared.kind.WireKind.TheVariants.{BadKind, TooDeep}
 use Rattle.wire_grammar.specs.declared.kind.NumberKind.TheVariants.{Whole, Length, Count}
-use Rattle.wire_grammar.specs.Limits.{depth_limit, value_limit}
-use Rattle.wire_grammar.specs.Spells.{crlf, IsNumber, IsText, IsStatus, IsError, IsInteger, IsBulk, IsNullBulk, IsPlain, as_status, as_error, as_integer, as_bulk, as_null_bulk, SpellsWithin, Spells}
-use Rattle.wire_grammar.specs.Reads.{Reading, Got, Front, Wrong, Next, text_at, number_at, content_at, values_at, integer_for, bulk_for, array_for, head_at, value_at, read_on}
-use Rattle.wire_grammar.proofs.Readers.{Tells, AtFront, Within, AtByte, IsReader, byte_tells, byte_whole, stuck_tells}
+use Rattle.wire_grammar.specs.Limits.{depth_limit}
+use Rattle.wire_grammar.specs.Spells.{crlf, IsNumber, IsText, IsPlain, as_status, as_error, as_integer, as_bulk, as_null_bulk, SpellsWithin}
+use Rattle.wire_grammar.specs.Reads.{Reading, Got, Wrong, Next, text_at, number_at, integer_for, bulk_for, array_for, head_at, value_at, read_on}
+use Rattle.wire_grammar.proofs.Readers.{Tells, Within, IsReader, byte_tells, byte_whole, stuck_tells}
 use Rattle.wire_grammar.proofs.Parts.{text_rest, integer_rest, bulk_rest, array_rest, IsBulkRest, IsNullRest, IsArrayRest}
 
 abbrev AfterStar : Type 0

@@ -1,5 +1,5 @@
 -- Streams go on.
-use Rattle.std.proofs.Common.{◌≡◌, ℕ, ◌+◌, List, [], ◌∷◌, ◌++◌, length, refl, sym, ap, ◌∙◌, arith, append_assoc, length-append}
+use Rattle.std.proofs.Common.{◌≡◌, ℕ, ◌+◌, List, [], ◌∷◌, ◌++◌, length, refl, ap, ◌∙◌, arith, append_assoc, length-append}
 use Rattle.wire_values.specs.declared.value.Value.{Value}
 use Rattle.wire_grammar.specs.Spells.{Spells}
 use Rattle.wire_grammar.specs.Streams.{Leads}

@@ -3,4 +3,5 @@ pub mod Spells
 pub mod Reads
 pub mod Texts
 pub mod Faults
+pub mod Fits
 pub mod Streams

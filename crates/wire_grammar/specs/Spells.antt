@@ -1,5 +1,5 @@
 -- How RESP2 values are written.
-use Rattle.std.specs.Prelude.{ℕ, zero, suc, ℤ, pos, negsuc, ◌≤◌, ◌≡◌, List, [], ◌∷◌, ◌++◌, length, Bool, false, Some, ◌⊎◌}
+use Rattle.std.specs.Prelude.{ℕ, zero, suc, ℤ, pos, negsuc, ◌≤◌, ◌≡◌, List, [], ◌∷◌, ◌++◌, length, false, Some, ◌⊎◌}
 use Rattle.std.specs.List.{list_any}
 use Rattle.numerals.specs.Integers.{integer_of}
 use Rattle.wire_values.specs.declared.value.Value.{Value}

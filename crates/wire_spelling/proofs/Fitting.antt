@@ -15,7 +15,7 @@ use Rattle.wire_grammar.specs.Limits.{text_limit, value_limit, depth_limit, limi
 use Rattle.wire_grammar.specs.Spells.{crlf, IsNumber, IsText, AreSpelled, IsPlain, as_status, as_error, as_integer, as_bulk, as_null_bulk, SpellsWithin, Spells}
 use Rattle.wire_grammar.specs.Texts.{spelling, number_text}
 use Rattle.wire_grammar.proofs.Writings.{status_text, error_text, integer_text, bulk_text, null_bulk_text, array_text, null_array_text, one_spelling}
-use Rattle.wire_spelling.specs.Spellings.{HasSpelling}
+use Rattle.wire_grammar.specs.Fits.{HasSpelling}
 use Rattle.wire_spelling.specs.Lengths.{joined, text_length, is_word, integer_length, bulk_length, items_length, length_step, spelled_length}
 
 -- a value by its form

@@ -3,7 +3,7 @@ ghost use Rattle.std.specs.Prelude.{◌≡◌, ◌+◌, ◌++◌, ◌∷◌, ℕ
 ghost use Rattle.wire_grammar.specs.Reads.{Got, read};
 ghost use Rattle.wire_grammar.specs.Spells.{Spells, crlf};
 ghost use Rattle.wire_grammar.specs.Texts.{number_text, spelling};
-ghost use Rattle.wire_spelling.specs.Spellings.{HasSpelling};
+ghost use Rattle.wire_grammar.specs.Fits.{HasSpelling};
 
 use std::alloc::{AllocError, Global};
 use wire_values::{Bytes, Value};

@@ -1,12 +1,12 @@
 //! Which values fit on the wire.
-ghost use Rattle.std.specs.Prelude.{◌≡◌, ◌≤◌, ◌↔◌, IsTrue, IfSome, Some, decimal, length};
+ghost use Rattle.std.specs.Prelude.{◌≡◌, ◌≤◌, ◌↔◌, IsTrue, IfSome, Some, decimal, length, map};
 ghost use Rattle.std.specs.List.{list_any};
 ghost use Rattle.wire_grammar.specs.Limits.{is_end, value_limit};
-ghost use Rattle.wire_spelling.specs.Spellings.{HasSpelling};
+ghost use Rattle.wire_grammar.specs.Fits.{HasSpelling, IsWithinLimits};
 ghost use Rattle.wire_spelling.specs.Lengths.{bulk_length, integer_length, joined, spelled_length, text_length};
 
 use wire_grammar::{COUNT_LIMIT, LENGTH_LIMIT, TEXT_LIMIT, VALUE_LIMIT};
-use wire_values::Value;
+use wire_values::{Value, Words};
 
 /// Whether a value can be written: its texts have no end of a line in them and at most `TEXT_LIMIT` bytes, its bulk
 /// strings at most `LENGTH_LIMIT`, its arrays at most `COUNT_LIMIT` items; arrays stand inside at most three others;
@@ -15,6 +15,30 @@ pub fn fits(value: &Value) -> bool
     ensures { IsTrue result ↔ HasSpelling value.now }
 {
     spelled_length(value, 4).is_some()
+}
+
+/// Whether a command of these words can be written, as the array of its words as bulk strings: at most `COUNT_LIMIT`
+/// words, each of at most `LENGTH_LIMIT` bytes, and all of it within `VALUE_LIMIT` bytes. It takes no memory.
+pub fn words_fit(words: &Words) -> bool
+    ensures { IsTrue result ↔ IsWithinLimits words.now }
+{
+    command_length(words).is_some()
+}
+
+/// The length of a command's spelling, where it has one.
+fn command_length(words: &Words) -> Option<u64>
+    ensures is { result ≡ spelled_length (Value.Array (map Value.Bulk words.now)) 4 }
+    ensures within { IfSome result (λ n. n ≤ value_limit) }
+{
+    let count = words.as_slice().len() as u64;
+    if count > COUNT_LIMIT {
+        return None;
+    }
+    let mut length = decimal_length(count) + 3;
+    'words: for word in words.as_slice() {
+        length = joined(length, bulk_length(word.len() as u64))?;
+    }
+    Some(length)
 }
 
 /// The length of a value's spelling, where it has one with so many arrays inside each other at most.

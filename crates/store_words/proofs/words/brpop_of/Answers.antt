@@ -1,5 +1,5 @@
 use Rattle.std.proofs.Common.{◌≡◌, true, sym, ap, ◌∙◌}
-use Rattle.store_model.specs.Integers.{natural_of}
+use Rattle.numerals.specs.Integers.{natural_of}
 use Rattle.store_model.specs.Words.{brpop_until}
 use Rattle.store_model.proofs.Ends.{brpop_split}
 use Rattle.store_words.proofs.words.brpop_of.Goals as goal

@@ -3,7 +3,7 @@ use Rattle.std.proofs.Common.{◌∙◌, ap, arith, codes, sym, subst}
 use Rattle.serde_json.specs.View.{view as data_of}
 use Rattle.delivery_tags.specs.Tags.{tag_text}
 use Rattle.unacked.proofs.Kept.{index_said, table_said}
-use Rattle.place_model.proofs.CommandLimits.{IsShort}
+use Rattle.wire_grammar.specs.Fits.{IsShort}
 use Rattle.unacked.proofs.Limits.{decimal_short, entry_short, four_made, tag_short}
 use Rattle.unacked.proofs.pop.keep_words.Goals as goal
 

@@ -1,6 +1,7 @@
 -- The words are BRPOP, the keys of all the queues, and how long to wait.
 use Rattle.std.proofs.Common.{◌≡◌, ◌∙◌, ◌∷◌, ◌++◌, [], sym, subst, ap, codes, Some}
-use Rattle.store_model.specs.Words.{IsWithinLimits, Words}
+use Rattle.store_model.specs.Words.{Words}
+use Rattle.wire_grammar.specs.Fits.{IsWithinLimits}
 use Rattle.queue_keys.specs.Layouts.{plain}
 use Rattle.queue_keys.specs.QueueKeys.{pop_keys}
 use Rattle.unacked.proofs.Kept.{asked_words, asks}

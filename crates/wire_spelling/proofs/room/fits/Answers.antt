@@ -1,6 +1,6 @@
 use Rattle.std.proofs.Common.{sym, subst}
 use Rattle.std.specs.Prelude.{Bool, IsTrue, ◌↔◌}
-use Rattle.wire_spelling.specs.Spellings.{HasSpelling}
+use Rattle.wire_grammar.specs.Fits.{HasSpelling}
 use Rattle.wire_spelling.proofs.Fitting.{fits_is}
 use Rattle.wire_spelling.proofs.room.fits.Goals as goal
 

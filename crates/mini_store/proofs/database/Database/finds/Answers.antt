@@ -1,6 +1,6 @@
 use Rattle.std.proofs.Common.{◌≡◌, true, false, sym, ap, ◌∙◌, length}
 use Rattle.std.specs.Cmp.{unsigned_Decides}
-use Rattle.store_model.specs.Integers.{natural_of}
+use Rattle.numerals.specs.Integers.{natural_of}
 use Rattle.store_model.specs.Words.{brpop_until}
 use Rattle.store_model.specs.Store.{State, finds}
 use Rattle.store_model.specs.declared.command.Command.TheVariants.{Brpop}
