@@ -5,7 +5,11 @@ use Rattle.std.specs.FinMap.{empty, entries, get}
 use Rattle.envelope.specs.Tags.{tag_text}
 use Rattle.envelope.specs.declared.tag.Tag.{Tag}
 use Rattle.command_blocks.specs.EnvelopeTexts.{plain_setting}
-use Rattle.place_index.specs.Gathered.{first_of, gathered, has, hands, listed_place, place_by, single_place, times, standing_in}
+use Rattle.message_acts.specs.Numbers.{has, times}
+use Rattle.place_walk.specs.Seats.{hands}
+use Rattle.place_walk.specs.Walks.{gathered}
+use Rattle.place_index.specs.Standing.{standing_in}
+use Rattle.place_index.specs.Places.{first_of, listed_place, place_by, single_place}
 use Rattle.place_model.specs.Histories.{History, after}
 use Rattle.place_index.specs.Indexed.{IsIndexOf, by_tally, place_in, single_in}
 use Rattle.place_index.specs.Kept.{is_kept}
@@ -17,7 +21,7 @@ use Rattle.place_model.specs.declared.heard.Heard.{Heard}
 use Rattle.place_index.specs.declared.index.Index.{Index}
 use Rattle.place_model.specs.declared.place.Place.{Place}
 use Rattle.place_model.specs.declared.place.Place.TheVariants.{Unacked, Hand, Ended, Lost, Never}
-use Rattle.place_index.proofs.Gathers.{positive, positive-times}
+use Rattle.place_walk.proofs.Gathers.{positive, positive-times}
 use Rattle.place_index.proofs.Numbers.{places_are}
 
 by_tally_is : (n : ℕ) (b : Bool) (p : Place) → by_tally (tally n) b p ≡ by_counts n (if b then 1 else 0) p

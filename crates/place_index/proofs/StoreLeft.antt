@@ -4,13 +4,13 @@ use Rattle.std.specs.Ordering.{nat_cmp}
 use Rattle.std.specs.FinMap.{FinMap, empty, get, get-empty, insert}
 use Rattle.store_model.specs.Store.{empty_state}
 use Rattle.command_blocks.specs.Calls.{call}
-use Rattle.place_index.specs.Gathered.{new_seat, seated, walk_start}
+use Rattle.place_walk.specs.Walks.{new_seat, seated, walk_start}
 use Rattle.place_model.specs.Histories.{Client, SystemState, after_entries, conn_of, new_client, next, next_of, start_from, table}
 use Rattle.place_index.specs.Stored.{store_after, store_next}
 use Rattle.place_model.specs.declared.heard.Heard.{Heard}
 use Rattle.place_model.specs.declared.history.Entry.{Entry}
 use Rattle.place_model.specs.declared.history.Entry.TheVariants.{Call as Called, Heard as Noted, Stop}
-use Rattle.place_index.specs.declared.seat.Seat.{Seat}
+use Rattle.place_walk.specs.declared.seat.ClientSeat.{ClientSeat}
 use Rattle.queue_keys.proofs.Basics.{eqb_true}
 use Rattle.place_index.proofs.Tellings.{get_put}
 
@@ -49,7 +49,7 @@ among : ℕ → List (ℕ × ℕ) → Bool
 among q [] = false
 among q (c ∷ cs) = (c.0 == q) || among q cs
 
-seated_some : (cs : List (ℕ × ℕ)) (m : FinMap nat_cmp Seat) (q : ℕ) → is_some (get (seated m cs) q) ≡ (among q cs || is_some (get m q))
+seated_some : (cs : List (ℕ × ℕ)) (m : FinMap nat_cmp ClientSeat) (q : ℕ) → is_some (get (seated m cs) q) ≡ (among q cs || is_some (get m q))
 unfolding among
 seated_some [] m q = refl
 seated_some (c ∷ cs) m q = seated_some cs (insert m c.0 new_seat) q ∙ ap (λ o. among q cs || is_some o) (get_put m c.0 new_seat q) ∙ both (among q cs) (c.0 == q)

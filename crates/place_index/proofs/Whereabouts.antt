@@ -12,7 +12,11 @@ use Rattle.store_model.specs.declared.held.Stored.{Stored}
 use Rattle.store_model.specs.declared.held.Stored.TheVariants.{Items}
 use Rattle.envelope.specs.Tags.{tag_of_text}
 use Rattle.place_model.specs.Counts.{copy_weight, direct_pushes, end_weight, has_field, hand_weight, in_held, in_value, is_field, is_member, loss_weight, over_clients, push_weight, start_count, tagged, total}
-use Rattle.place_index.specs.Gathered.{first_of, gathered, hands, has, listed, listed_place, new_seat, number_told, place_by, seat_of, seated, single_place, told_at, standing_in, told_in, told_under, times, walk_start}
+use Rattle.message_acts.specs.Numbers.{has, listed, number_told, times}
+use Rattle.place_walk.specs.Seats.{hands, seat_of}
+use Rattle.place_walk.specs.Walks.{gathered, new_seat, seated, walk_start}
+use Rattle.place_index.specs.Standing.{standing_in, told_at, told_in, told_under}
+use Rattle.place_index.specs.Places.{first_of, listed_place, place_by, single_place}
 use Rattle.place_model.specs.Histories.{Client, History, SystemState, after, new_client, start_from, table}
 use Rattle.queue_keys.specs.Names.{Bytes, same}
 use Rattle.place_model.specs.PlaceOf.{by_counts, first_place, first_with, if_any, list_place, or_place, pick, place_of}
@@ -21,11 +25,11 @@ use Rattle.command_blocks.specs.Setting.{Setting}
 use Rattle.place_model.specs.declared.heard.Heard.{Heard}
 use Rattle.place_model.specs.declared.place.Place.{Place}
 use Rattle.place_model.specs.declared.place.Place.TheVariants.{Unacked, Hand, Ended, Lost, Never}
-use Rattle.place_index.specs.declared.seat.Seat.{Seat}
-use Rattle.place_index.specs.declared.walk.Walk.{Walk}
-use Rattle.place_index.proofs.Gathers.{is_number, positive, positive-plus, positive-times}
-use Rattle.place_index.proofs.Walks.{Follows, steps, still_none, total_none}
-use Rattle.place_index.proofs.Weighs.{weight_is}
+use Rattle.place_walk.specs.declared.seat.ClientSeat.{ClientSeat}
+use Rattle.place_walk.specs.declared.walk.HistoryWalk.{HistoryWalk}
+use Rattle.place_walk.proofs.Gathers.{is_number, positive, positive-plus, positive-times}
+use Rattle.place_walk.proofs.Walks.{Follows, steps, still_none, total_none}
+use Rattle.place_walk.proofs.Weighs.{weight_is}
 
 -- ---- choices
 
@@ -49,7 +53,7 @@ positive_one false = refl
 
 -- ---- the entries of the seats
 
-seat_entry : Setting → ℕ × Client → ℕ × Seat
+seat_entry : Setting → ℕ × Client → ℕ × ClientSeat
 seat_entry σ e = (e.0, seat_of σ e.1)
 
 below-map : (σ : Setting) (k : ℕ) (es : List (ℕ × Client)) → below_all nat_cmp k (map (seat_entry σ) es) ≡ below_all nat_cmp k es
@@ -71,7 +75,7 @@ find-map σ q (e ∷ es) = go (eq_by_cmp nat_cmp q e.0) (find-map σ q es)
     go true i = refl
     go false i = i
 
-seats_listed : (σ : Setting) (m : FinMap nat_cmp Seat) (w : FinMap nat_cmp Client) → ((c : ℕ) → get m c ≡ option_map (seat_of σ) (get w c)) → entries m ≡ map (seat_entry σ) (entries w)
+seats_listed : (σ : Setting) (m : FinMap nat_cmp ClientSeat) (w : FinMap nat_cmp Client) → ((c : ℕ) → get m c ≡ option_map (seat_of σ) (get w c)) → entries m ≡ map (seat_entry σ) (entries w)
 seats_listed σ m w h =
     let es = map (seat_entry σ) (entries w) in
     let s : T (is_sorted nat_cmp es) = subst (λ b. T b) (sym (sorted-map σ (entries w))) (entries_sorted w) in
@@ -170,7 +174,7 @@ module _ (σ : Setting) (t : ℕ) (x : Bytes) (tells : (u : Bytes) → same u x 
 
   -- ---- the first place
 
-  first_is : (w : SystemState) (k : Walk) → Follows σ t x w k → first_place σ w x ≡ single_place t k (standing_in σ (entries w.store.keys)) (is_field σ w.store.keys x && is_member σ w.store.keys x)
+  first_is : (w : SystemState) (k : HistoryWalk) → Follows σ t x w k → first_place σ w x ≡ single_place t k (standing_in σ (entries w.store.keys)) (is_field σ w.store.keys x && is_member σ w.store.keys x)
   first_is w k f =
       let told = standing_in σ (entries w.store.keys) in
       let kept = is_field σ w.store.keys x && is_member σ w.store.keys x in
@@ -189,60 +193,6 @@ module _ (σ : Setting) (t : ℕ) (x : Bytes) (tells : (u : Bytes) → same u x 
       ∙ ap (λ q. if kept then Unacked else q)
       (ap (λ q. or_place Hand q (if_any ended Ended (or_place Lost (first_with (loss_weight σ x) (entries w.clients)) Never))) h
       ∙ ap (or_place Hand (first_of t (hands false (entries k.seats)))) end_or_lost))
-
-  -- ---- the start
-
-  among : ℕ → List (ℕ × ℕ) → Bool
-  among q [] = false
-  among q (c ∷ cs) = eq_by_cmp nat_cmp q c.0 || among q cs
-
-  seated_get : (cs : List (ℕ × ℕ)) (m : FinMap nat_cmp Seat) (q : ℕ) → get (seated m cs) q ≡ (if among q cs then Some new_seat else get m q)
-  unfolding among
-  seated_get [] m q = refl
-  seated_get (c ∷ cs) m q = seated_get cs (insert m c.0 new_seat) q ∙ ap (λ o. if among q cs then Some new_seat else o) (get-insert nat_cmp_total m c.0 new_seat q) ∙ both (among q cs) (eq_by_cmp nat_cmp q c.0)
-    where
-      both : (a b : Bool) → (if a then Some new_seat else cond b (Some new_seat) (get m q)) ≡ (if (b || a) then Some new_seat else get m q)
-      both true true = refl
-      both true false = refl
-      both false true = refl
-      both false false = refl
-
-  seat_new : (s : ℕ) → seat_of σ (new_client s) ≡ new_seat
-  unfolding seen
-  seat_new s = refl
-
-  table_seats : (cs : List (ℕ × ℕ)) (q : ℕ) → option_map (seat_of σ) (get (table cs) q) ≡ (if among q cs then Some new_seat else None)
-  unfolding among
-  table_seats [] q = ap (option_map (seat_of σ)) (get-empty nat_cmp q)
-  table_seats (c ∷ cs) q = ap (option_map (seat_of σ)) (get-insert nat_cmp_total (table cs) c.0 (new_client c.1) q) ∙ both (eq_by_cmp nat_cmp q c.0) (table_seats cs q)
-    where
-      both : (b : Bool) → option_map (seat_of σ) (get (table cs) q) ≡ (if among q cs then Some new_seat else None) → option_map (seat_of σ) (cond b (Some (new_client c.1)) (get (table cs) q)) ≡ (if (b || among q cs) then Some new_seat else None)
-      both true i = ap (λ (s : Seat). Some s) (seat_new c.1)
-      both false i = i
-
-  table_none : (f : ℕ → Client → ℕ) → ((c s : ℕ) → f c (new_client s) ≡ 0) → (cs : List (ℕ × ℕ)) → total f (entries (table cs)) ≡ 0
-  table_none f z [] = total_none f
-  table_none f z (c ∷ cs) = still_none f (table cs) c.0 (new_client c.1) (table_none f z cs) (z c.0 c.1)
-
-  pushes_none : (c s : ℕ) → push_weight σ x c (new_client s) ≡ 0
-  unfolding seen
-  pushes_none c s = refl
-
-  ends_none : (c s : ℕ) → end_weight σ x c (new_client s) ≡ 0
-  unfolding seen
-  ends_none c s = refl
-
-  copies_none : (c s : ℕ) → copy_weight σ x c (new_client s) ≡ 0
-  unfolding seen
-  copies_none c s = refl
-
-  start_follows : (m : Keys) (cs : List (ℕ × ℕ)) → Follows σ t x (start_from m cs) (walk_start cs)
-  start_follows m cs = record {
-    seats = λ q. seated_get cs empty q ∙ ap (λ o. if among q cs then Some new_seat else o) (get-empty nat_cmp q) ∙ sym (table_seats cs q);
-    pushes = table_none (push_weight σ x) pushes_none cs;
-    ended = ap positive (table_none (end_weight σ x) ends_none cs);
-    copied = ap positive (table_none (copy_weight σ x) copies_none cs);
-  }
 
   -- ---- the place
 

@@ -2,7 +2,11 @@
 use Rattle.std.specs.Prelude.{◌≡◌, ℕ, Bool, true, false, if◌then◌else◌, Option, None, Some, is_some}
 use Rattle.std.specs.FinMap.{entries, get}
 use Rattle.command_blocks.specs.EnvelopeTexts.{plain_setting}
-use Rattle.place_index.specs.Gathered.{first_of, gathered, hands, listed_place, times, standing_in}
+use Rattle.message_acts.specs.Numbers.{times}
+use Rattle.place_walk.specs.Seats.{hands}
+use Rattle.place_walk.specs.Walks.{gathered}
+use Rattle.place_index.specs.Standing.{standing_in}
+use Rattle.place_index.specs.Places.{first_of, listed_place}
 use Rattle.place_model.specs.Histories.{History, after}
 use Rattle.place_index.specs.Kept.{is_kept}
 use Rattle.place_model.specs.PlaceOf.{or_place}

@@ -4,15 +4,18 @@ ghost use Rattle.std.specs.FinMap.{entries, get};
 ghost use Rattle.command_blocks.specs.EnvelopeTexts.{plain_setting};
 ghost use Rattle.place_model.specs.Histories.{after};
 ghost use Rattle.place_model.specs.Shown.{history_of};
-ghost use Rattle.place_index.specs.Gathered.{first_of, hands, times, standing_in};
+ghost use Rattle.message_acts.specs.Numbers.{times};
+ghost use Rattle.place_walk.specs.Seats.{hands};
+ghost use Rattle.place_index.specs.Standing.{standing_in};
+ghost use Rattle.place_index.specs.Places.{first_of};
 ghost use Rattle.place_index.specs.Tallies.{tally};
 
 use crate::kept::is_kept;
 use crate::numbered::Numbered;
-use crate::seat::Seat;
+use crate::seat::ClientSeat;
 use crate::standing::{Standing, told_by};
 use crate::tagged::{Tagged, first_told, tallied};
-use crate::walk::{Walk, gathered};
+use crate::walk::{HistoryWalk, gathered};
 use letters::Letters;
 use mini_store::Store;
 use place_model::{History, Place};
@@ -43,7 +46,7 @@ pub(crate) struct Index {
 /// The messages that were pushed, ended and copied, each with whether it was so more than once.
 fn tallies(
     alloc: Global,
-    walk: &Walk,
+    walk: &HistoryWalk,
 ) -> Result<(Tagged<bool>, Tagged<bool>, Tagged<bool>), AllocError>
     ensures pushes { IfOk result (λ r. (t : ℕ) → get r.0 t ≡ tally (times t walk.now.pushes)) }
     ensures ended { IfOk result (λ r. (t : ℕ) → get r.1 t ≡ tally (times t walk.now.ended)) }
@@ -56,7 +59,7 @@ fn tallies(
 }
 
 /// The messages in the hands of clients, and those in the hands of clients that are gone.
-fn held(alloc: Global, seats: &Numbered<Seat>) -> Result<(Tagged<u32>, Tagged<u32>), AllocError>
+fn held(alloc: Global, seats: &Numbered<ClientSeat>) -> Result<(Tagged<u32>, Tagged<u32>), AllocError>
     ensures there { IfOk result (λ r. (t : ℕ) → get r.0 t ≡ first_of t (hands false (entries seats.now))) }
     ensures gone { IfOk result (λ r. (t : ℕ) → get r.1 t ≡ first_of t (hands true (entries seats.now))) }
 {

@@ -2,7 +2,8 @@
 ghost use Rattle.std.specs.Prelude.{◌≡◌, ◌++◌, IfOk, OnOk, map as mapped};
 ghost use Rattle.std.specs.FinMap.{entries};
 ghost use Rattle.command_blocks.specs.EnvelopeTexts.{plain_setting};
-ghost use Rattle.place_index.specs.Gathered.{listed, number_told, told_at, standing_in, told_under};
+ghost use Rattle.message_acts.specs.Numbers.{listed, number_told};
+ghost use Rattle.place_index.specs.Standing.{standing_in, told_at, told_under};
 
 use crate::told::message_of;
 use letters::Letters;

@@ -8,7 +8,7 @@ ghost use Rattle.place_index.specs.Stored.{store_after, store_next};
 ghost use Rattle.place_model.specs.Takable.{AreTakable, IsTakable};
 
 use crate::numbered::Numbered;
-use crate::seat::Seat;
+use crate::seat::ClientSeat;
 use crate::walk::seated;
 use mini_store::Store;
 use place_model::{Entry, Heard, History};
@@ -26,7 +26,7 @@ pub fn store_after(alloc: Global, history: &History) -> Result<Store, AllocError
 /// The store that takes the entries of known clients.
 fn taken(
     alloc: Global,
-    known: &Numbered<Seat>,
+    known: &Numbered<ClientSeat>,
     entries: &[Entry<Heard>],
 ) -> Result<Store, AllocError>
     requires { AreTakable entries.now }
@@ -43,7 +43,7 @@ fn taken(
 fn take(
     alloc: Global,
     store: &mut Store,
-    known: &Numbered<Seat>,
+    known: &Numbered<ClientSeat>,
     entry: &Entry<Heard>,
 ) -> Result<(), AllocError>
     requires { IsTakable entry.now }

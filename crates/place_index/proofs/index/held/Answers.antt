@@ -1,5 +1,5 @@
 use Rattle.std.proofs.Common.{ap, ◌∙◌}
-use Rattle.place_index.specs.Gathered.{first_of}
+use Rattle.place_index.specs.Places.{first_of}
 use Rattle.place_index.proofs.index.held.Goals as goal
 
 pub returns-clause-there : goal.returns-clause-there

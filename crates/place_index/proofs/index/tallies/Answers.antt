@@ -1,5 +1,5 @@
 use Rattle.std.proofs.Common.{ap, ◌∙◌}
-use Rattle.place_index.specs.Gathered.{times}
+use Rattle.message_acts.specs.Numbers.{times}
 use Rattle.place_index.specs.Tallies.{tally}
 use Rattle.place_index.proofs.index.tallies.Goals as goal
 

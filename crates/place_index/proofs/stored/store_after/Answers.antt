@@ -1,6 +1,6 @@
 use Rattle.std.proofs.Common.{◌≡◌, IfOk, ap, ◌∙◌, subst}
 use Rattle.store_model.specs.Store.{empty_state}
-use Rattle.place_index.specs.Gathered.{walk_start}
+use Rattle.place_walk.specs.Walks.{walk_start}
 use Rattle.place_index.specs.Stored.{store_after}
 use Rattle.place_index.proofs.StoreLeft.{store_is}
 use Rattle.place_index.proofs.stored.store_after.Goals as goal
