@@ -1,7 +1,7 @@
 pub mod Acceptances
 pub mod Gathers
 pub mod Numbers
-pub mod Seats
+pub mod PutBack
 pub mod Starts
 pub mod Told
 pub mod Walks

@@ -18,10 +18,7 @@ use wire_values::{List, Value};
 /// The clients of a table, none of which has called anything.
 ///
 /// `AllocError` is want of memory.
-pub fn seated(
-    alloc: Global,
-    clients: &[(u32, u64)],
-) -> Result<Numbered<ClientSeat>, AllocError>
+pub fn seated(alloc: Global, clients: &[(u32, u64)]) -> Result<Numbered<ClientSeat>, AllocError>
     ensures { IfOk result (λ seats. (c : ℕ) → get seats c ≡ option_map (seat_of plain_setting) (get (table clients.now) c)) }
 {
     seats_of(alloc, clients)

@@ -1,4 +1,4 @@
-use Rattle.place_walk.proofs.Seats.{on_ok, stopped_none, stopped_some}
+use Rattle.place_walk.proofs.PutBack.{on_ok, stopped_none, stopped_some}
 use Rattle.place_walk.proofs.walk.HistoryWalk.stopped.Goals as goal
 
 pub returns-in-None : goal.returns-in-None
