@@ -1,5 +1,5 @@
 -- The place that is read off what was gathered is the defined one.
-use Rattle.std.proofs.Common.{◌≡◌, ℕ, zero, suc, ◌+◌, List, [], ◌∷◌, ◌++◌, Bool, true, false, cond, ◌&&◌, ◌||◌, ◌==◌, if◌then◌else◌, refl, sym, ap, subst, ◌∙◌, arith, map, Option, None, Some, option_map, is_some, T, append_assoc}
+use Rattle.std.proofs.Common.{◌≡◌, ℕ, zero, suc, ◌+◌, ◌<◌, ◌^◌, List, [], ◌∷◌, ◌++◌, Bool, true, false, cond, ◌&&◌, ◌||◌, ◌==◌, if◌then◌else◌, refl, sym, ap, subst, ◌∙◌, arith, map, Option, None, Some, option_map, is_some, T, append_assoc}
 use Rattle.std.proofs.lemmas.Cmp.{nat_cmp_total}
 use Rattle.std.specs.Ordering.{nat_cmp, eq_by_cmp, is_eq}
 use Rattle.std.specs.FinMap.{FinMap, empty, entries, entries-from_sorted, entries_sorted, from_sorted, get, get-empty, get-entries, get-from_sorted, get-insert, insert, nat_cmp-IsAntisymmetric, same_map}
@@ -10,11 +10,12 @@ use Rattle.store_model.specs.Keys.{Keys, value_of}
 use Rattle.store_model.specs.declared.held.Held.{Held}
 use Rattle.store_model.specs.declared.held.Stored.{Stored}
 use Rattle.store_model.specs.declared.held.Stored.TheVariants.{Items}
-use Rattle.envelope.specs.Tags.{tag_of_text}
+use Rattle.envelope.specs.Tags.{tag_of_text, tag_text}
 use Rattle.place_model.specs.Counts.{copy_weight, direct_pushes, end_weight, has_field, hand_weight, in_held, in_value, is_field, is_member, loss_weight, over_clients, push_weight, start_count, tagged, total}
 use Rattle.message_acts.specs.Numbers.{has, listed, number_told, times}
 use Rattle.place_walk.specs.Seats.{hands, seat_of}
-use Rattle.place_walk.specs.Walks.{gathered, new_seat, seated, walk_start}
+use Rattle.command_blocks.specs.EnvelopeTexts.{plain_setting}
+use Rattle.place_index.specs.Kept.{is_kept}
 use Rattle.place_index.specs.Standing.{standing_in, told_at, told_in, told_under}
 use Rattle.place_index.specs.Places.{first_of, listed_place, place_by, single_place}
 use Rattle.place_model.specs.Histories.{Client, History, SystemState, after, new_client, start_from, table}
@@ -27,8 +28,10 @@ use Rattle.place_model.specs.declared.place.Place.{Place}
 use Rattle.place_model.specs.declared.place.Place.TheVariants.{Unacked, Hand, Ended, Lost, Never}
 use Rattle.place_walk.specs.declared.seat.ClientSeat.{ClientSeat}
 use Rattle.place_walk.specs.declared.walk.HistoryWalk.{HistoryWalk}
-use Rattle.place_walk.proofs.Gathers.{is_number, positive, positive-plus, positive-times}
-use Rattle.place_walk.proofs.Walks.{Follows, steps, still_none, total_none}
+use Rattle.place_walk.specs.Gathered.{IsWalkOf, positive}
+use Rattle.place_walk.proofs.Gathers.{is_number, positive-plus, positive-times}
+use Rattle.place_walk.proofs.Numbers.{text_tells}
+use Rattle.place_walk.proofs.Walks.{Follows}
 use Rattle.place_walk.proofs.Weighs.{weight_is}
 
 -- ---- choices
@@ -205,11 +208,9 @@ module _ (σ : Setting) (t : ℕ) (x : Bytes) (tells : (u : Bytes) → same u x 
   no_start : start_count σ empty x ≡ 0
   no_start = ap (λ n. n + (if is_field σ empty x then 1 else 0)) nothing_listed ∙ ap (λ o. 0 + (if has_field (value_of o) x then 1 else 0)) (get-empty bytes_cmp σ.unacked)
 
-  pub place_is : (h : History Heard) → h.start ≡ empty → place_of σ h x ≡ place_by t (gathered σ h) (standing_in σ (entries (after h).store.keys)) (is_field σ (after h).store.keys x && is_member σ (after h).store.keys x)
-  place_is h e =
-      let f = steps σ t x tells h.entries (start_from h.start h.clients) (walk_start h.clients) (start_follows h.start h.clients) in
+  pub place_is : (h : History Heard) (k : HistoryWalk) → h.start ≡ empty → Follows σ t x (after h) k → place_of σ h x ≡ place_by t k (standing_in σ (entries (after h).store.keys)) (is_field σ (after h).store.keys x && is_member σ (after h).store.keys x)
+  place_is h k e f =
       let w = after h in
-      let k = gathered σ h in
       let told = standing_in σ (entries w.store.keys) in
       let kept = is_field σ w.store.keys x && is_member σ w.store.keys x in
       let copied = over_clients w (copy_weight σ x) in
@@ -222,3 +223,14 @@ module _ (σ : Setting) (t : ℕ) (x : Bytes) (tells : (u : Bytes) → same u x 
     where
       zero_plus : (n : ℕ) → 0 + n ≡ n
       zero_plus n = omega arith
+
+-- the place of a tag after a history that begins with no key is read off the walk, the lists of queues and the table
+pub places_are : (h : History Heard) (k : HistoryWalk) (t : ℕ) → IsWalkOf h k → t < 2 ^ 128 → h.start ≡ empty
+    → place_of plain_setting h (tag_text t) ≡ place_by t k (standing_in plain_setting (entries (after h).store.keys)) (is_kept (after h).store.keys t)
+places_are h k t i fits e =
+    place_is plain_setting t (tag_text t) (text_tells t fits) h k e (record {
+      seats = i.seats;
+      pushes = sym (i.pushes t fits);
+      ended = sym (i.ended t fits);
+      copied = sym (i.copied t fits);
+    })

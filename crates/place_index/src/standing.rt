@@ -5,8 +5,8 @@ ghost use Rattle.command_blocks.specs.EnvelopeTexts.{plain_setting};
 ghost use Rattle.message_acts.specs.Numbers.{listed, number_told};
 ghost use Rattle.place_index.specs.Standing.{standing_in, told_at, told_under};
 
-use crate::told::message_of;
 use letters::Letters;
+use message_acts::message_of;
 use queue_keys::split_key;
 use std::alloc::{AllocError, Global};
 use store_keys::Keyspace;

@@ -7,11 +7,9 @@ ghost use Rattle.place_model.specs.Shown.{history_of};
 ghost use Rattle.place_index.specs.Stored.{store_after, store_next};
 ghost use Rattle.place_model.specs.Takable.{AreTakable, IsTakable};
 
-use crate::numbered::Numbered;
-use crate::seat::ClientSeat;
-use crate::walk::seated;
 use mini_store::Store;
 use place_model::{Entry, Heard, History};
+use place_walk::{ClientSeat, Numbered, seated};
 use std::alloc::{AllocError, Global};
 
 /// The store after a history: each call of a client of the table is taken, and each stop of one leaves nothing of its

@@ -1,7 +1,7 @@
 use Rattle.std.proofs.Common.{ap, ◌∙◌}
 use Rattle.message_acts.specs.Numbers.{times}
 use Rattle.place_index.specs.Tallies.{tally}
-use Rattle.place_index.proofs.index.tallies.Goals as goal
+use Rattle.place_index.proofs.tables.MessageTallies.of.Goals as goal
 
 pub returns-clause-pushes : goal.returns-clause-pushes
 returns-clause-pushes c t = c.in_ok-pushes.ensures t ∙ ap (λ ns. tally (times t ns)) c.as_slice.ensures
