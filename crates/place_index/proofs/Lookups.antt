@@ -55,17 +55,17 @@ module _ (h : History Heard) (x : Index) (i : IsIndexOf h x) (m : Keys) (same : 
       e
       ∙ ap (λ s. single s (is_kept m t) (get x.walked.hands.there t) (is_some (get x.walked.tallies.ended t)) (get x.walked.hands.gone t)) (i.standing t)
       ∙ ap (λ s. single (first_of t told) (is_kept s t) (get x.walked.hands.there t) (is_some (get x.walked.tallies.ended t)) (get x.walked.hands.gone t)) same
-      ∙ ap (λ o. single (first_of t told) kept o (is_some (get x.walked.tallies.ended t)) (get x.walked.hands.gone t)) (r.in_hands t)
-      ∙ ap (λ b. single (first_of t told) kept (first_of t (hands false (entries k.seats))) b (get x.walked.hands.gone t)) (has_is t k.ended (get x.walked.tallies.ended t) (r.ended t))
-      ∙ ap (λ o. single (first_of t told) kept (first_of t (hands false (entries k.seats))) (has t k.ended) o) (r.lost t)
+      ∙ ap (λ o. single (first_of t told) kept o (is_some (get x.walked.tallies.ended t)) (get x.walked.hands.gone t)) (r.hands.there t)
+      ∙ ap (λ b. single (first_of t told) kept (first_of t (hands false (entries k.seats))) b (get x.walked.hands.gone t)) (has_is t k.ended (get x.walked.tallies.ended t) (r.tallies.ended t))
+      ∙ ap (λ o. single (first_of t told) kept (first_of t (hands false (entries k.seats))) (has t k.ended) o) (r.hands.gone t)
 
   place_by_is : place_in x m t ≡ place_by t i.walked.0 (standing_in plain_setting (entries (after h).store.keys)) (is_kept (after h).store.keys t)
   place_by_is =
       let k = i.walked.0 in
       let r = i.walked.2 in
       let p = single_place t k (standing_in plain_setting (entries (after h).store.keys)) (is_kept (after h).store.keys t) in
-      ap (λ o. by_tally o (is_some (get x.walked.tallies.copied t)) (single_in x m t)) (r.pushes t)
-      ∙ ap (λ b. by_tally (tally (times t k.pushes)) b (single_in x m t)) (has_is t k.copied (get x.walked.tallies.copied t) (r.copied t))
+      ap (λ o. by_tally o (is_some (get x.walked.tallies.copied t)) (single_in x m t)) (r.tallies.pushes t)
+      ∙ ap (λ b. by_tally (tally (times t k.pushes)) b (single_in x m t)) (has_is t k.copied (get x.walked.tallies.copied t) (r.tallies.copied t))
       ∙ ap (λ q. by_tally (tally (times t k.pushes)) (has t k.copied) q) single_is
       ∙ by_tally_is (times t k.pushes) (has t k.copied) p
 

@@ -1,10 +1,10 @@
 -- The store that a walk of the code leaves is that of the world after a history.
-use Rattle.std.proofs.Common.{◌≡◌, ℕ, List, [], ◌∷◌, ◌++◌, Bool, true, false, ◌||◌, ◌==◌, if◌then◌else◌, refl, sym, ap, subst, ◌∙◌, Option, None, Some, is_some, option_map}
+use Rattle.std.proofs.Common.{◌≡◌, ℕ, List, [], ◌∷◌, ◌++◌, Bool, true, false, ◌==◌, if◌then◌else◌, refl, sym, ap, subst, ◌∙◌, Option, None, Some, is_some, option_map}
 use Rattle.std.specs.Ordering.{nat_cmp}
-use Rattle.std.specs.FinMap.{FinMap, empty, get, get-empty, insert}
+use Rattle.std.specs.FinMap.{FinMap, empty, get, insert}
 use Rattle.store_model.specs.Store.{empty_state}
 use Rattle.command_blocks.specs.Calls.{call}
-use Rattle.place_model.specs.Histories.{Client, SystemState, after_entries, conn_of, new_client, next, next_of, start_from, table}
+use Rattle.place_model.specs.Histories.{Client, SystemState, after_entries, conn_of, next, next_of, start_from, table}
 use Rattle.place_index.specs.Stored.{store_after, store_next}
 use Rattle.place_model.specs.declared.heard.Heard.{Heard}
 use Rattle.place_model.specs.declared.history.Entry.{Entry}

@@ -1,24 +1,24 @@
 -- The place that is read off what was gathered is the defined one.
 use Rattle.std.proofs.Common.{◌≡◌, ℕ, zero, suc, ◌+◌, ◌<◌, ◌^◌, List, [], ◌∷◌, ◌++◌, Bool, true, false, cond, ◌&&◌, ◌||◌, ◌==◌, if◌then◌else◌, refl, sym, ap, subst, ◌∙◌, arith, map, Option, None, Some, option_map, is_some, T, append_assoc}
 use Rattle.std.proofs.lemmas.Cmp.{nat_cmp_total}
-use Rattle.std.specs.Ordering.{nat_cmp, eq_by_cmp, is_eq}
-use Rattle.std.specs.FinMap.{FinMap, empty, entries, entries-from_sorted, entries_sorted, from_sorted, get, get-empty, get-entries, get-from_sorted, get-insert, insert, nat_cmp-IsAntisymmetric, same_map}
+use Rattle.std.specs.Ordering.{nat_cmp, eq_by_cmp}
+use Rattle.std.specs.FinMap.{FinMap, empty, entries, entries-from_sorted, entries_sorted, from_sorted, get, get-empty, get-entries, get-from_sorted, nat_cmp-IsAntisymmetric, same_map}
 use Rattle.std.specs.FinMap.Entries.{below_all, find, is_sorted}
 use Rattle.store_tables.proofs.Maps.{bytes_total, bytes_anti}
 use Rattle.wire_values.specs.Order.{bytes_cmp}
-use Rattle.store_model.specs.Keys.{Keys, value_of}
+use Rattle.store_model.specs.Keys.{value_of}
 use Rattle.store_model.specs.declared.held.Held.{Held}
 use Rattle.store_model.specs.declared.held.Stored.{Stored}
 use Rattle.store_model.specs.declared.held.Stored.TheVariants.{Items}
 use Rattle.envelope.specs.Tags.{tag_of_text, tag_text}
-use Rattle.place_model.specs.Counts.{copy_weight, direct_pushes, end_weight, has_field, hand_weight, in_held, in_value, is_field, is_member, loss_weight, over_clients, push_weight, start_count, tagged, total}
+use Rattle.place_model.specs.Counts.{copy_weight, direct_pushes, end_weight, has_field, hand_weight, in_held, in_value, is_field, is_member, loss_weight, over_clients, start_count, tagged, total}
 use Rattle.message_acts.specs.Numbers.{has, listed, number_told, times}
 use Rattle.place_walk.specs.Seats.{hands, seat_of}
 use Rattle.command_blocks.specs.EnvelopeTexts.{plain_setting}
 use Rattle.place_index.specs.Kept.{is_kept}
 use Rattle.place_index.specs.Standing.{standing_in, told_at, told_in, told_under}
 use Rattle.place_index.specs.Places.{first_of, listed_place, place_by, single_place}
-use Rattle.place_model.specs.Histories.{Client, History, SystemState, after, new_client, start_from, table}
+use Rattle.place_model.specs.Histories.{Client, History, SystemState, after}
 use Rattle.queue_keys.specs.Names.{Bytes, same}
 use Rattle.place_model.specs.PlaceOf.{by_counts, first_place, first_with, if_any, list_place, or_place, pick, place_of}
 use Rattle.place_model.specs.Seen.{seen, tag_weight}

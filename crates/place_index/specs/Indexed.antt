@@ -17,16 +17,26 @@ use Rattle.place_index.specs.Places.{first_of, listed_place}
 use Rattle.place_index.specs.Standing.{standing_in}
 use Rattle.place_index.specs.Tallies.{tally}
 use Rattle.place_index.specs.declared.index.Index.{Index}
+use Rattle.place_index.specs.declared.tables.MessageHands.{MessageHands}
+use Rattle.place_index.specs.declared.tables.MessageTallies.{MessageTallies}
 use Rattle.place_index.specs.declared.tables.WalkTables.{WalkTables}
+
+-- of each message whether it was pushed, ended and copied, and whether more than once
+pub record AreTalliesOf (w : HistoryWalk) (x : MessageTallies) : Type 0 where
+  pub pushes : (t : ℕ) → get x.pushes t ≡ tally (times t w.pushes)
+  pub ended : (t : ℕ) → get x.ended t ≡ tally (times t w.ended)
+  pub copied : (t : ℕ) → get x.copied t ≡ tally (times t w.copied)
+
+-- of each message the first client that has it in hand, and the first that is gone with it
+pub record AreHandsOf (w : HistoryWalk) (x : MessageHands) : Type 0 where
+  pub there : (t : ℕ) → get x.there t ≡ first_of t (hands false (entries w.seats))
+  pub gone : (t : ℕ) → get x.gone t ≡ first_of t (hands true (entries w.seats))
 
 -- the tables have of each message what a walk gathered of it
 pub record AreTablesOf (w : HistoryWalk) (x : WalkTables) : Type 0 where
   pub accepted : x.accepted ≡ w.accepted
-  pub pushes : (t : ℕ) → get x.tallies.pushes t ≡ tally (times t w.pushes)
-  pub ended : (t : ℕ) → get x.tallies.ended t ≡ tally (times t w.ended)
-  pub copied : (t : ℕ) → get x.tallies.copied t ≡ tally (times t w.copied)
-  pub in_hands : (t : ℕ) → get x.hands.there t ≡ first_of t (hands false (entries w.seats))
-  pub lost : (t : ℕ) → get x.hands.gone t ≡ first_of t (hands true (entries w.seats))
+  pub tallies : AreTalliesOf w x.tallies
+  pub hands : AreHandsOf w x.hands
 
 -- the tables have of each message what a walk over the history gathers
 abbrev pub HasTables : History Heard → WalkTables → Type 0

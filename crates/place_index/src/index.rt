@@ -5,9 +5,9 @@ ghost use Rattle.place_model.specs.Shown.{history_of};
 ghost use Rattle.place_index.specs.Indexed.{IsIndexOf, elsewhere_in, place_in, single_in};
 
 use crate::kept::is_kept;
-use crate::standing::{Standing, told_by};
+use crate::standing::{Standing, standing};
 use crate::tables::WalkTables;
-use crate::tagged::{Tagged, first_told};
+use crate::tagged::Tagged;
 use letters::Letters;
 use place_model::{History, Place};
 use std::alloc::{AllocError, Global};
@@ -33,7 +33,7 @@ impl Index {
         ensures { IfOk result (λ index. IsIndexOf (history_of history.now) index) }
     {
         let walked = WalkTables::of(alloc, letters, history)?;
-        let standing = first_told(alloc, told_by(alloc, letters, keys)?)?;
+        let standing = standing(alloc, letters, keys)?;
         Ok(Index { walked, standing })
     }
 

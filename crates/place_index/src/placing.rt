@@ -81,8 +81,20 @@ fn places_over(
     ensures { IfOk result (λ found. all_placed found.items ≡ places plain_setting (history_of history.now)) }
 {
     let index = Index::of(alloc, letters, history, keys)?;
+    placed_once(alloc, &index, keys)
+}
+
+/// The accepted messages, each where it was pushed first, with their places, beside the keys that the history leaves.
+fn placed_once(
+    alloc: Global,
+    index: &Index,
+    keys: &Keyspace,
+) -> Result<Vec<(Tag, Place)>, AllocError>
+    ensures { IfOk result (λ found. (h : Told Heard) → IsIndexOf h index.now → keys.now ≡ (after h).store.keys → h.start ≡ empty
+        → all_placed found.items ≡ places plain_setting h) }
+{
     let numbers = first_numbers(alloc, index.walked.accepted.as_slice())?;
-    placed(alloc, &index, keys, numbers.as_slice())
+    placed(alloc, index, keys, numbers.as_slice())
 }
 
 /// The messages with their places, beside the keys that the history leaves.

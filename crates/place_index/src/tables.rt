@@ -1,17 +1,12 @@
 //! What a walk over a history gathered of its messages, to be looked up by the numbers of their tags.
-ghost use Rattle.std.specs.Prelude.{◌≡◌, ℕ, IfOk, false, true};
-ghost use Rattle.std.specs.FinMap.{entries, get};
-ghost use Rattle.message_acts.specs.Numbers.{times};
+ghost use Rattle.std.specs.Prelude.{IfOk};
 ghost use Rattle.place_model.specs.Shown.{history_of};
-ghost use Rattle.place_walk.specs.Seats.{hands};
-ghost use Rattle.place_index.specs.Indexed.{AreTablesOf, HasTables};
-ghost use Rattle.place_index.specs.Places.{first_of};
-ghost use Rattle.place_index.specs.Tallies.{tally};
+ghost use Rattle.place_index.specs.Indexed.{AreHandsOf, AreTablesOf, AreTalliesOf, HasTables};
 
 use crate::tagged::{Tagged, first_told, tallied};
 use letters::Letters;
 use place_model::History;
-use place_walk::{ClientSeat, HistoryWalk, Numbered, gathered};
+use place_walk::{HistoryWalk, gathered};
 use std::alloc::{AllocError, Global};
 use wire_values::List;
 
@@ -47,9 +42,7 @@ pub(crate) struct WalkTables {
 impl MessageTallies {
     /// The messages that were pushed, ended and copied.
     fn of(alloc: Global, walk: &HistoryWalk) -> Result<MessageTallies, AllocError>
-        ensures pushes { IfOk result (λ r. (t : ℕ) → get r.pushes t ≡ tally (times t walk.now.pushes)) }
-        ensures ended { IfOk result (λ r. (t : ℕ) → get r.ended t ≡ tally (times t walk.now.ended)) }
-        ensures copied { IfOk result (λ r. (t : ℕ) → get r.copied t ≡ tally (times t walk.now.copied)) }
+        ensures { IfOk result (λ r. AreTalliesOf walk.now r) }
     {
         let pushes = tallied(alloc, walk.pushes.as_slice())?;
         let ended = tallied(alloc, walk.ended.as_slice())?;
@@ -64,12 +57,11 @@ impl MessageTallies {
 
 impl MessageHands {
     /// The messages in the hands of clients.
-    fn of(alloc: Global, seats: &Numbered<ClientSeat>) -> Result<MessageHands, AllocError>
-        ensures there { IfOk result (λ r. (t : ℕ) → get r.there t ≡ first_of t (hands false (entries seats.now))) }
-        ensures gone { IfOk result (λ r. (t : ℕ) → get r.gone t ≡ first_of t (hands true (entries seats.now))) }
+    fn of(alloc: Global, walk: &HistoryWalk) -> Result<MessageHands, AllocError>
+        ensures { IfOk result (λ r. AreHandsOf walk.now r) }
     {
-        let there = first_told(alloc, seats.hands(alloc, false)?)?;
-        let gone = first_told(alloc, seats.hands(alloc, true)?)?;
+        let there = first_told(alloc, walk.seats.hands(alloc, false)?)?;
+        let gone = first_told(alloc, walk.seats.hands(alloc, true)?)?;
         Ok(MessageHands { there, gone })
     }
 }
@@ -91,12 +83,24 @@ impl WalkTables {
     fn of_walk(alloc: Global, walk: HistoryWalk) -> Result<WalkTables, AllocError>
         ensures { IfOk result (λ tables. AreTablesOf walk tables) }
     {
-        let tallies = MessageTallies::of(alloc, &walk)?;
-        let hands = MessageHands::of(alloc, &walk.seats)?;
+        let (tallies, hands) = told_by_walk(alloc, &walk)?;
         Ok(WalkTables {
             accepted: walk.accepted,
             tallies,
             hands,
         })
     }
+}
+
+/// What a walk tells, but for the order in which messages were pushed.
+fn told_by_walk(
+    alloc: Global,
+    walk: &HistoryWalk,
+) -> Result<(MessageTallies, MessageHands), AllocError>
+    ensures tallies { IfOk result (λ r. AreTalliesOf walk.now r.0) }
+    ensures hands { IfOk result (λ r. AreHandsOf walk.now r.1) }
+{
+    let tallies = MessageTallies::of(alloc, walk)?;
+    let hands = MessageHands::of(alloc, walk)?;
+    Ok((tallies, hands))
 }

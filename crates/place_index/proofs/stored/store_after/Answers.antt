@@ -1,10 +1,8 @@
 use Rattle.std.proofs.Common.{◌≡◌, IfOk, ap, ◌∙◌, subst}
 use Rattle.std.specs.FinMap.{empty}
-use Rattle.store_model.specs.Store.{empty_state}
 use Rattle.command_blocks.specs.EnvelopeTexts.{plain_setting}
 use Rattle.place_model.specs.Histories.{after_entries, start_from}
 use Rattle.place_walk.specs.Seats.{seat_of}
-use Rattle.place_index.specs.Stored.{store_after}
 use Rattle.place_index.proofs.StoreLeft.{store_is}
 use Rattle.place_index.proofs.stored.store_after.Goals as goal
 

@@ -8,5 +8,5 @@ use Rattle.place_index.proofs.index.Index.of.Goals as goal
 pub returns : goal.returns
 returns c = record {
   walked = c.in_ok-walked.ensures;
-  standing = λ t. c.in_ok-standing.ensures t ∙ ap (first_of t) (c.in_ok-told_by.ensures ∙ ap (λ m. standing_in plain_setting (entries m)) c.requires);
+  standing = λ t. c.in_ok-standing.ensures t ∙ ap (λ m. first_of t (standing_in plain_setting (entries m))) c.requires;
 }

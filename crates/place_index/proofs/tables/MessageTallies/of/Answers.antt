@@ -3,11 +3,9 @@ use Rattle.message_acts.specs.Numbers.{times}
 use Rattle.place_index.specs.Tallies.{tally}
 use Rattle.place_index.proofs.tables.MessageTallies.of.Goals as goal
 
-pub returns-clause-pushes : goal.returns-clause-pushes
-returns-clause-pushes c t = c.in_ok-pushes.ensures t ∙ ap (λ ns. tally (times t ns)) c.as_slice.ensures
-
-pub returns-clause-ended : goal.returns-clause-ended
-returns-clause-ended c t = c.in_ok-ended.ensures t ∙ ap (λ ns. tally (times t ns)) c.as_slice-2.ensures
-
-pub returns-clause-copied : goal.returns-clause-copied
-returns-clause-copied c t = c.in_ok-copied.ensures t ∙ ap (λ ns. tally (times t ns)) c.as_slice-3.ensures
+pub returns : goal.returns
+returns c = record {
+  pushes = λ t. c.in_ok-pushes.ensures t ∙ ap (λ ns. tally (times t ns)) c.as_slice.ensures;
+  ended = λ t. c.in_ok-ended.ensures t ∙ ap (λ ns. tally (times t ns)) c.as_slice-2.ensures;
+  copied = λ t. c.in_ok-copied.ensures t ∙ ap (λ ns. tally (times t ns)) c.as_slice-3.ensures;
+}
