@@ -1,11 +1,5 @@
 pub mod Acceptance
-pub mod Gathers
 pub mod Lookups
-pub mod Messages
-pub mod Numbers
-pub mod Seats
 pub mod StoreLeft
 pub mod Tellings
-pub mod Walks
-pub mod Weighs
 pub mod Whereabouts

@@ -1,16 +1,14 @@
 -- The store that a walk of the code leaves is that of the world after a history.
-use Rattle.std.proofs.Common.{◌≡◌, ℕ, List, [], ◌∷◌, ◌++◌, Bool, true, false, ◌||◌, ◌==◌, if◌then◌else◌, refl, sym, ap, subst, ◌∙◌, Option, None, Some, is_some}
+use Rattle.std.proofs.Common.{◌≡◌, ℕ, List, [], ◌∷◌, ◌++◌, Bool, true, false, ◌==◌, if◌then◌else◌, refl, sym, ap, subst, ◌∙◌, Option, None, Some, is_some, option_map}
 use Rattle.std.specs.Ordering.{nat_cmp}
-use Rattle.std.specs.FinMap.{FinMap, empty, get, get-empty, insert}
+use Rattle.std.specs.FinMap.{FinMap, empty, get, insert}
 use Rattle.store_model.specs.Store.{empty_state}
 use Rattle.command_blocks.specs.Calls.{call}
-use Rattle.place_index.specs.Gathered.{new_seat, seated, walk_start}
-use Rattle.place_model.specs.Histories.{Client, SystemState, after_entries, conn_of, new_client, next, next_of, start_from, table}
+use Rattle.place_model.specs.Histories.{Client, SystemState, after_entries, conn_of, next, next_of, start_from, table}
 use Rattle.place_index.specs.Stored.{store_after, store_next}
 use Rattle.place_model.specs.declared.heard.Heard.{Heard}
 use Rattle.place_model.specs.declared.history.Entry.{Entry}
 use Rattle.place_model.specs.declared.history.Entry.TheVariants.{Call as Called, Heard as Noted, Stop}
-use Rattle.place_index.specs.declared.seat.Seat.{Seat}
 use Rattle.queue_keys.proofs.Basics.{eqb_true}
 use Rattle.place_index.proofs.Tellings.{get_put}
 
@@ -45,38 +43,12 @@ steps known (e ∷ es) w h =
 
 -- ---- the clients of a table
 
-among : ℕ → List (ℕ × ℕ) → Bool
-among q [] = false
-among q (c ∷ cs) = (c.0 == q) || among q cs
-
-seated_some : (cs : List (ℕ × ℕ)) (m : FinMap nat_cmp Seat) (q : ℕ) → is_some (get (seated m cs) q) ≡ (among q cs || is_some (get m q))
-unfolding among
-seated_some [] m q = refl
-seated_some (c ∷ cs) m q = seated_some cs (insert m c.0 new_seat) q ∙ ap (λ o. among q cs || is_some o) (get_put m c.0 new_seat q) ∙ both (among q cs) (c.0 == q)
-  where
-    both : (a b : Bool) → (a || is_some (if b then Some new_seat else get m q)) ≡ ((b || a) || is_some (get m q))
-    both true true = refl
-    both true false = refl
-    both false true = refl
-    both false false = refl
-
-table_some : (cs : List (ℕ × ℕ)) (q : ℕ) → is_some (get (table cs) q) ≡ among q cs
-unfolding among
-table_some [] q = ap is_some (get-empty nat_cmp q)
-table_some (c ∷ cs) q = ap is_some (get_put (table cs) c.0 (new_client c.1) q) ∙ both (c.0 == q) (table_some cs q)
-  where
-    both : (b : Bool) → is_some (get (table cs) q) ≡ among q cs → is_some (if b then Some (new_client c.1) else get (table cs) q) ≡ (b || among q cs)
-    both true i = refl
-    both false i = i
-
-or_false : (b : Bool) → (b || false) ≡ b
-or_false true = refl
-or_false false = refl
-
--- the code's table knows the same connections
-known_is : (cs : List (ℕ × ℕ)) (q : ℕ) → is_some (get (walk_start cs).seats q) ≡ is_some (get (table cs) q)
-known_is cs q = seated_some cs empty q ∙ ap (λ o. among q cs || is_some o) (get-empty nat_cmp q) ∙ or_false (among q cs) ∙ sym (table_some cs q)
+-- a table that has something of each client knows the same connections
+some_same : {X : Type 0} (o : Option X) (r : Option Client) (f : Client → X) → o ≡ option_map f r → is_some o ≡ is_some r
+some_same o None f e = ap is_some e
+some_same o (Some cl) f e = ap is_some e
 
 -- the store after a history that begins with no key
-pub store_is : (cs : List (ℕ × ℕ)) (es : List (Entry Heard)) → store_after (walk_start cs).seats empty_state es ≡ (after_entries (start_from empty cs) es).store
-store_is cs es = steps (walk_start cs).seats es (start_from empty cs) (known_is cs)
+pub store_is : {X : Type 0} (f : Client → X) (known : FinMap nat_cmp X) (cs : List (ℕ × ℕ)) (es : List (Entry Heard)) → ((c : ℕ) → get known c ≡ option_map f (get (table cs) c))
+    → store_after known empty_state es ≡ (after_entries (start_from empty cs) es).store
+store_is f known cs es h = steps known es (start_from empty cs) (λ c. some_same (get known c) (get (table cs) c) f (h c))

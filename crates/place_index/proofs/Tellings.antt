@@ -5,7 +5,8 @@ use Rattle.std.proofs.lemmas.Cmp.{nat_cmp_total}
 use Rattle.std.specs.Ordering.{nat_cmp, eq_by_cmp}
 use Rattle.std.specs.FinMap.{FinMap, empty, get, get-empty, get-insert, insert, nat_cmp-IsAntisymmetric}
 use Rattle.store_tables.proofs.Lookups.{decided, tied_itself, untied}
-use Rattle.place_index.specs.Gathered.{first_of, times}
+use Rattle.message_acts.specs.Numbers.{times}
+use Rattle.place_index.specs.Places.{first_of}
 use Rattle.place_index.specs.Tallies.{first_numbers, tally}
 use Rattle.queue_keys.proofs.Basics.{eqb-refl, eqb_true}
 

@@ -1,19 +1,25 @@
 -- The place that is read off what was gathered is the defined one.
-use Rattle.std.proofs.Common.{◌≡◌, ℕ, zero, suc, ◌+◌, List, [], ◌∷◌, ◌++◌, Bool, true, false, cond, ◌&&◌, ◌||◌, ◌==◌, if◌then◌else◌, refl, sym, ap, subst, ◌∙◌, arith, map, Option, None, Some, option_map, is_some, T, append_assoc}
+use Rattle.std.proofs.Common.{◌≡◌, ℕ, zero, suc, ◌+◌, ◌<◌, ◌^◌, List, [], ◌∷◌, ◌++◌, Bool, true, false, cond, ◌&&◌, ◌||◌, ◌==◌, if◌then◌else◌, refl, sym, ap, subst, ◌∙◌, arith, map, Option, None, Some, option_map, is_some, T, append_assoc}
 use Rattle.std.proofs.lemmas.Cmp.{nat_cmp_total}
-use Rattle.std.specs.Ordering.{nat_cmp, eq_by_cmp, is_eq}
-use Rattle.std.specs.FinMap.{FinMap, empty, entries, entries-from_sorted, entries_sorted, from_sorted, get, get-empty, get-entries, get-from_sorted, get-insert, insert, nat_cmp-IsAntisymmetric, same_map}
+use Rattle.std.specs.Ordering.{nat_cmp, eq_by_cmp}
+use Rattle.std.specs.FinMap.{FinMap, empty, entries, entries-from_sorted, entries_sorted, from_sorted, get, get-empty, get-entries, get-from_sorted, nat_cmp-IsAntisymmetric, same_map}
 use Rattle.std.specs.FinMap.Entries.{below_all, find, is_sorted}
 use Rattle.store_tables.proofs.Maps.{bytes_total, bytes_anti}
 use Rattle.wire_values.specs.Order.{bytes_cmp}
-use Rattle.store_model.specs.Keys.{Keys, value_of}
+use Rattle.store_model.specs.Keys.{value_of}
 use Rattle.store_model.specs.declared.held.Held.{Held}
 use Rattle.store_model.specs.declared.held.Stored.{Stored}
 use Rattle.store_model.specs.declared.held.Stored.TheVariants.{Items}
 use Rattle.delivery_tags.specs.Tags.{tag_of_text}
-use Rattle.place_model.specs.Counts.{copy_weight, direct_pushes, end_weight, has_field, hand_weight, in_held, in_value, is_field, is_member, loss_weight, over_clients, push_weight, start_count, tagged, total}
-use Rattle.place_index.specs.Gathered.{first_of, gathered, hands, has, listed, listed_place, new_seat, number_told, place_by, seat_of, seated, single_place, told_at, standing_in, told_in, told_under, times, walk_start}
-use Rattle.place_model.specs.Histories.{Client, History, SystemState, after, new_client, start_from, table}
+use Rattle.place_model.specs.Counts.{copy_weight, direct_pushes, end_weight, has_field, hand_weight, in_held, in_value, is_field, is_member, loss_weight, over_clients, start_count, tagged, total}
+use Rattle.place_model.specs.Histories.{Client, History, SystemState, after}
+use Rattle.envelope.specs.Tags.{tag_text}
+use Rattle.message_acts.specs.Numbers.{has, listed, number_told, times}
+use Rattle.place_walk.specs.Seats.{hands, seat_of}
+use Rattle.command_blocks.specs.EnvelopeTexts.{plain_setting}
+use Rattle.place_index.specs.Kept.{is_kept}
+use Rattle.place_index.specs.Standing.{standing_in, told_at, told_in, told_under}
+use Rattle.place_index.specs.Places.{first_of, listed_place, place_by, single_place}
 use Rattle.queue_keys.specs.Names.{Bytes, same}
 use Rattle.place_model.specs.PlaceOf.{by_counts, first_place, first_with, if_any, list_place, or_place, pick, place_of}
 use Rattle.place_model.specs.Seen.{seen, tag_weight}
@@ -21,11 +27,13 @@ use Rattle.command_blocks.specs.Setting.{Setting}
 use Rattle.place_model.specs.declared.heard.Heard.{Heard}
 use Rattle.place_model.specs.declared.place.Place.{Place}
 use Rattle.place_model.specs.declared.place.Place.TheVariants.{Unacked, Hand, Ended, Lost, Never}
-use Rattle.place_index.specs.declared.seat.Seat.{Seat}
-use Rattle.place_index.specs.declared.walk.Walk.{Walk}
-use Rattle.place_index.proofs.Gathers.{is_number, positive, positive-plus, positive-times}
-use Rattle.place_index.proofs.Walks.{Follows, steps, still_none, total_none}
-use Rattle.place_index.proofs.Weighs.{weight_is}
+use Rattle.place_walk.specs.declared.seat.ClientSeat.{ClientSeat}
+use Rattle.place_walk.specs.declared.walk.HistoryWalk.{HistoryWalk}
+use Rattle.place_walk.specs.Gathered.{IsWalkOf, positive}
+use Rattle.place_walk.proofs.Gathers.{is_number, positive-plus, positive-times}
+use Rattle.place_walk.proofs.Numbers.{text_tells}
+use Rattle.place_walk.proofs.Walks.{Follows}
+use Rattle.place_walk.proofs.Weighs.{weight_is}
 
 -- ---- choices
 
@@ -49,7 +57,7 @@ positive_one false = refl
 
 -- ---- the entries of the seats
 
-seat_entry : Setting → ℕ × Client → ℕ × Seat
+seat_entry : Setting → ℕ × Client → ℕ × ClientSeat
 seat_entry σ e = (e.0, seat_of σ e.1)
 
 below-map : (σ : Setting) (k : ℕ) (es : List (ℕ × Client)) → below_all nat_cmp k (map (seat_entry σ) es) ≡ below_all nat_cmp k es
@@ -71,7 +79,7 @@ find-map σ q (e ∷ es) = go (eq_by_cmp nat_cmp q e.0) (find-map σ q es)
     go true i = refl
     go false i = i
 
-seats_listed : (σ : Setting) (m : FinMap nat_cmp Seat) (w : FinMap nat_cmp Client) → ((c : ℕ) → get m c ≡ option_map (seat_of σ) (get w c)) → entries m ≡ map (seat_entry σ) (entries w)
+seats_listed : (σ : Setting) (m : FinMap nat_cmp ClientSeat) (w : FinMap nat_cmp Client) → ((c : ℕ) → get m c ≡ option_map (seat_of σ) (get w c)) → entries m ≡ map (seat_entry σ) (entries w)
 seats_listed σ m w h =
     let es = map (seat_entry σ) (entries w) in
     let s : T (is_sorted nat_cmp es) = subst (λ b. T b) (sym (sorted-map σ (entries w))) (entries_sorted w) in
@@ -170,7 +178,7 @@ module _ (σ : Setting) (t : ℕ) (x : Bytes) (tells : (u : Bytes) → same u x 
 
   -- ---- the first place
 
-  first_is : (w : SystemState) (k : Walk) → Follows σ t x w k → first_place σ w x ≡ single_place t k (standing_in σ (entries w.store.keys)) (is_field σ w.store.keys x && is_member σ w.store.keys x)
+  first_is : (w : SystemState) (k : HistoryWalk) → Follows σ t x w k → first_place σ w x ≡ single_place t k (standing_in σ (entries w.store.keys)) (is_field σ w.store.keys x && is_member σ w.store.keys x)
   first_is w k f =
       let told = standing_in σ (entries w.store.keys) in
       let kept = is_field σ w.store.keys x && is_member σ w.store.keys x in
@@ -190,60 +198,6 @@ module _ (σ : Setting) (t : ℕ) (x : Bytes) (tells : (u : Bytes) → same u x 
       (ap (λ q. or_place Hand q (if_any ended Ended (or_place Lost (first_with (loss_weight σ x) (entries w.clients)) Never))) h
       ∙ ap (or_place Hand (first_of t (hands false (entries k.seats)))) end_or_lost))
 
-  -- ---- the start
-
-  among : ℕ → List (ℕ × ℕ) → Bool
-  among q [] = false
-  among q (c ∷ cs) = eq_by_cmp nat_cmp q c.0 || among q cs
-
-  seated_get : (cs : List (ℕ × ℕ)) (m : FinMap nat_cmp Seat) (q : ℕ) → get (seated m cs) q ≡ (if among q cs then Some new_seat else get m q)
-  unfolding among
-  seated_get [] m q = refl
-  seated_get (c ∷ cs) m q = seated_get cs (insert m c.0 new_seat) q ∙ ap (λ o. if among q cs then Some new_seat else o) (get-insert nat_cmp_total m c.0 new_seat q) ∙ both (among q cs) (eq_by_cmp nat_cmp q c.0)
-    where
-      both : (a b : Bool) → (if a then Some new_seat else cond b (Some new_seat) (get m q)) ≡ (if (b || a) then Some new_seat else get m q)
-      both true true = refl
-      both true false = refl
-      both false true = refl
-      both false false = refl
-
-  seat_new : (s : ℕ) → seat_of σ (new_client s) ≡ new_seat
-  unfolding seen
-  seat_new s = refl
-
-  table_seats : (cs : List (ℕ × ℕ)) (q : ℕ) → option_map (seat_of σ) (get (table cs) q) ≡ (if among q cs then Some new_seat else None)
-  unfolding among
-  table_seats [] q = ap (option_map (seat_of σ)) (get-empty nat_cmp q)
-  table_seats (c ∷ cs) q = ap (option_map (seat_of σ)) (get-insert nat_cmp_total (table cs) c.0 (new_client c.1) q) ∙ both (eq_by_cmp nat_cmp q c.0) (table_seats cs q)
-    where
-      both : (b : Bool) → option_map (seat_of σ) (get (table cs) q) ≡ (if among q cs then Some new_seat else None) → option_map (seat_of σ) (cond b (Some (new_client c.1)) (get (table cs) q)) ≡ (if (b || among q cs) then Some new_seat else None)
-      both true i = ap (λ (s : Seat). Some s) (seat_new c.1)
-      both false i = i
-
-  table_none : (f : ℕ → Client → ℕ) → ((c s : ℕ) → f c (new_client s) ≡ 0) → (cs : List (ℕ × ℕ)) → total f (entries (table cs)) ≡ 0
-  table_none f z [] = total_none f
-  table_none f z (c ∷ cs) = still_none f (table cs) c.0 (new_client c.1) (table_none f z cs) (z c.0 c.1)
-
-  pushes_none : (c s : ℕ) → push_weight σ x c (new_client s) ≡ 0
-  unfolding seen
-  pushes_none c s = refl
-
-  ends_none : (c s : ℕ) → end_weight σ x c (new_client s) ≡ 0
-  unfolding seen
-  ends_none c s = refl
-
-  copies_none : (c s : ℕ) → copy_weight σ x c (new_client s) ≡ 0
-  unfolding seen
-  copies_none c s = refl
-
-  start_follows : (m : Keys) (cs : List (ℕ × ℕ)) → Follows σ t x (start_from m cs) (walk_start cs)
-  start_follows m cs = record {
-    seats = λ q. seated_get cs empty q ∙ ap (λ o. if among q cs then Some new_seat else o) (get-empty nat_cmp q) ∙ sym (table_seats cs q);
-    pushes = table_none (push_weight σ x) pushes_none cs;
-    ended = ap positive (table_none (end_weight σ x) ends_none cs);
-    copied = ap positive (table_none (copy_weight σ x) copies_none cs);
-  }
-
   -- ---- the place
 
   nothing_listed : total (in_held σ x) (entries (empty {X = Held} {R = bytes_cmp})) ≡ 0
@@ -255,11 +209,9 @@ module _ (σ : Setting) (t : ℕ) (x : Bytes) (tells : (u : Bytes) → same u x 
   no_start : start_count σ empty x ≡ 0
   no_start = ap (λ n. n + (if is_field σ empty x then 1 else 0)) nothing_listed ∙ ap (λ o. 0 + (if has_field (value_of o) x then 1 else 0)) (get-empty bytes_cmp σ.unacked)
 
-  pub place_is : (h : History Heard) → h.start ≡ empty → place_of σ h x ≡ place_by t (gathered σ h) (standing_in σ (entries (after h).store.keys)) (is_field σ (after h).store.keys x && is_member σ (after h).store.keys x)
-  place_is h e =
-      let f = steps σ t x tells h.entries (start_from h.start h.clients) (walk_start h.clients) (start_follows h.start h.clients) in
+  pub place_is : (h : History Heard) (k : HistoryWalk) → h.start ≡ empty → Follows σ t x (after h) k → place_of σ h x ≡ place_by t k (standing_in σ (entries (after h).store.keys)) (is_field σ (after h).store.keys x && is_member σ (after h).store.keys x)
+  place_is h k e f =
       let w = after h in
-      let k = gathered σ h in
       let told = standing_in σ (entries w.store.keys) in
       let kept = is_field σ w.store.keys x && is_member σ w.store.keys x in
       let copied = over_clients w (copy_weight σ x) in
@@ -272,3 +224,14 @@ module _ (σ : Setting) (t : ℕ) (x : Bytes) (tells : (u : Bytes) → same u x 
     where
       zero_plus : (n : ℕ) → 0 + n ≡ n
       zero_plus n = omega arith
+
+-- the place of a tag after a history that begins with no key is read off the walk, the lists of queues and the table
+pub places_are : (h : History Heard) (k : HistoryWalk) (t : ℕ) → IsWalkOf h k → t < 2 ^ 128 → h.start ≡ empty
+    → place_of plain_setting h (tag_text t) ≡ place_by t k (standing_in plain_setting (entries (after h).store.keys)) (is_kept (after h).store.keys t)
+places_are h k t i fits e =
+    place_is plain_setting t (tag_text t) (text_tells t fits) h k e (record {
+      seats = i.seats;
+      pushes = sym (i.pushes t fits);
+      ended = sym (i.ended t fits);
+      copied = sym (i.copied t fits);
+    })

@@ -1,118 +1,65 @@
 //! What a history tells of its messages, to be looked up by the numbers of their tags.
-ghost use Rattle.std.specs.Prelude.{◌≡◌, ℕ, IfOk, false, true};
-ghost use Rattle.std.specs.FinMap.{entries, get};
-ghost use Rattle.command_blocks.specs.EnvelopeTexts.{plain_setting};
+ghost use Rattle.std.specs.Prelude.{◌≡◌, IfOk};
 ghost use Rattle.place_model.specs.Histories.{after};
 ghost use Rattle.place_model.specs.Shown.{history_of};
-ghost use Rattle.place_index.specs.Gathered.{first_of, hands, times, standing_in};
-ghost use Rattle.place_index.specs.Tallies.{tally};
+ghost use Rattle.place_index.specs.Indexed.{IsIndexOf, elsewhere_in, place_in, single_in};
 
 use crate::kept::is_kept;
-use crate::numbered::Numbered;
-use crate::seat::Seat;
-use crate::standing::{Standing, told_by};
-use crate::tagged::{Tagged, first_told, tallied};
-use crate::walk::{Walk, gathered};
+use crate::standing::{Standing, standing};
+use crate::tables::WalkTables;
+use crate::tagged::Tagged;
 use letters::Letters;
-use mini_store::Store;
 use place_model::{History, Place};
 use std::alloc::{AllocError, Global};
-use wire_values::List;
+use store_keys::Keyspace;
 
-/// What a history tells of its messages.
+/// What a history tells of its messages, beside the table in its store.
 #[derive(Drop)]
 pub(crate) struct Index {
-    /// The messages that were pushed directly, in order.
-    pub(crate) accepted: List<u128>,
-    /// Those that a client of the table pushed directly, each with whether it was pushed more than once.
-    pub(crate) pushes: Tagged<bool>,
-    /// Those that a transaction took out of the table and pushed nowhere.
-    pub(crate) ended: Tagged<bool>,
-    /// Those that a transaction pushed more than once.
-    pub(crate) copied: Tagged<bool>,
-    /// Those in the lists of queues.
+    pub(crate) walked: WalkTables,
+    /// The messages in the lists of queues.
     pub(crate) standing: Tagged<Standing>,
-    /// Those in the hands of clients.
-    pub(crate) hands: Tagged<u32>,
-    /// Those in the hands of clients that are gone.
-    pub(crate) losses: Tagged<u32>,
-    /// The store after the history.
-    pub(crate) store: Store,
-}
-
-/// The messages that were pushed, ended and copied, each with whether it was so more than once.
-fn tallies(
-    alloc: Global,
-    walk: &Walk,
-) -> Result<(Tagged<bool>, Tagged<bool>, Tagged<bool>), AllocError>
-    ensures pushes { IfOk result (λ r. (t : ℕ) → get r.0 t ≡ tally (times t walk.now.pushes)) }
-    ensures ended { IfOk result (λ r. (t : ℕ) → get r.1 t ≡ tally (times t walk.now.ended)) }
-    ensures copied { IfOk result (λ r. (t : ℕ) → get r.2 t ≡ tally (times t walk.now.copied)) }
-{
-    let pushes = tallied(alloc, walk.pushes.as_slice())?;
-    let ended = tallied(alloc, walk.ended.as_slice())?;
-    let copied = tallied(alloc, walk.copied.as_slice())?;
-    Ok((pushes, ended, copied))
-}
-
-/// The messages in the hands of clients, and those in the hands of clients that are gone.
-fn held(alloc: Global, seats: &Numbered<Seat>) -> Result<(Tagged<u32>, Tagged<u32>), AllocError>
-    ensures there { IfOk result (λ r. (t : ℕ) → get r.0 t ≡ first_of t (hands false (entries seats.now))) }
-    ensures gone { IfOk result (λ r. (t : ℕ) → get r.1 t ≡ first_of t (hands true (entries seats.now))) }
-{
-    let there = first_told(alloc, seats.hands(alloc, false)?)?;
-    let gone = first_told(alloc, seats.hands(alloc, true)?)?;
-    Ok((there, gone))
 }
 
 impl Index {
-    ghost use Rattle.place_model.specs.Histories.{after};
-    ghost use Rattle.place_index.specs.Indexed.{IsIndexOf, place_in, single_in};
-
-    /// What a history tells that leaves this store.
+    /// What a history tells that leaves these keys.
     pub(crate) fn of(
         alloc: Global,
         letters: &mut Letters,
         history: &History,
-        store: Store,
+        keys: &Keyspace,
     ) -> Result<Index, AllocError>
-        requires { store.state ≡ (after (history_of history.now)).store }
+        requires { keys.now ≡ (after (history_of history.now)).store.keys }
         ensures { IfOk result (λ index. IsIndexOf (history_of history.now) index) }
     {
-        let walk = gathered(alloc, letters, history)?;
-        let (pushes, ended, copied) = tallies(alloc, &walk)?;
-        let (hands, losses) = held(alloc, &walk.seats)?;
-        let standing = first_told(alloc, told_by(alloc, letters, store.keys())?)?;
-        Ok(Index {
-            accepted: walk.accepted,
-            pushes,
-            ended,
-            copied,
-            standing,
-            hands,
-            losses,
-            store,
-        })
+        let walked = WalkTables::of(alloc, letters, history)?;
+        let standing = standing(alloc, letters, keys)?;
+        Ok(Index { walked, standing })
     }
 
-    /// The place of a message.
-    pub(crate) fn place(&self, alloc: Global, number: u128) -> Result<Place, AllocError>
-        ensures { IfOk result (λ place. place ≡ place_in self.now number) }
+    /// The place of a message, beside the keys that the history leaves.
+    pub(crate) fn place(
+        &self,
+        alloc: Global,
+        keys: &Keyspace,
+        number: u128,
+    ) -> Result<Place, AllocError>
+        ensures { IfOk result (λ place. place ≡ place_in self.now keys.now number) }
     {
-        match self.pushes.get(number) {
+        match self.walked.tallies.pushes.get(number) {
             None => Ok(Place::Never),
             Some(twice) => {
-                if *twice || self.copied.has(number) {
+                if *twice || self.walked.tallies.copied.has(number) {
                     return Ok(Place::Copies);
                 }
-                self.single(alloc, number)
+                self.single(alloc, keys, number)
             }
         }
     }
 
     /// The place of a message of which nothing is pushed twice.
-    fn single(&self, alloc: Global, number: u128) -> Result<Place, AllocError>
-        ensures { IfOk result (λ place. place ≡ single_in self.now number) }
+    fn single(&self, alloc: Global, keys: &Keyspace, number: u128) -> Result<Place, AllocError>
+        ensures { IfOk result (λ place. place ≡ single_in self.now keys.now number) }
     {
         if let Some((queue, step)) = self.standing.get(number) {
             return Ok(Place::List {
@@ -120,18 +67,25 @@ impl Index {
                 step: *step,
             });
         }
-        if is_kept(alloc, self.store.keys(), number)? {
+        if is_kept(alloc, keys, number)? {
             return Ok(Place::Unacked);
         }
-        if let Some(conn) = self.hands.get(number) {
-            return Ok(Place::Hand(*conn));
+        Ok(self.elsewhere(number))
+    }
+
+    /// The place of a message that is in no list and not in the table.
+    fn elsewhere(&self, number: u128) -> Place
+        ensures { result ≡ elsewhere_in self.now number }
+    {
+        if let Some(conn) = self.walked.hands.there.get(number) {
+            return Place::Hand(*conn);
         }
-        if self.ended.has(number) {
-            return Ok(Place::Ended);
+        if self.walked.tallies.ended.has(number) {
+            return Place::Ended;
         }
-        match self.losses.get(number) {
-            Some(conn) => Ok(Place::Lost(*conn)),
-            None => Ok(Place::Never),
+        match self.walked.hands.gone.get(number) {
+            Some(conn) => Place::Lost(*conn),
+            None => Place::Never,
         }
     }
 }

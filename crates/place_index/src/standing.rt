@@ -1,11 +1,14 @@
 //! The messages that stand in the lists of queues.
-ghost use Rattle.std.specs.Prelude.{◌≡◌, ◌++◌, IfOk, OnOk, map as mapped};
-ghost use Rattle.std.specs.FinMap.{entries};
+ghost use Rattle.std.specs.Prelude.{◌≡◌, ◌++◌, ℕ, IfOk, OnOk, map as mapped};
+ghost use Rattle.std.specs.FinMap.{entries, get};
 ghost use Rattle.command_blocks.specs.EnvelopeTexts.{plain_setting};
-ghost use Rattle.place_index.specs.Gathered.{listed, number_told, told_at, standing_in, told_under};
+ghost use Rattle.message_acts.specs.Numbers.{listed, number_told};
+ghost use Rattle.place_index.specs.Places.{first_of};
+ghost use Rattle.place_index.specs.Standing.{standing_in, told_at, told_under};
 
-use crate::told::message_of;
+use crate::tagged::{Tagged, first_told};
 use letters::Letters;
+use message_acts::message_of;
 use queue_keys::split_key;
 use std::alloc::{AllocError, Global};
 use store_keys::Keyspace;
@@ -16,8 +19,19 @@ use wire_values::{Bytes, List};
 /// A queue and a step.
 pub(crate) type Standing = (Bytes, u8);
 
+/// The messages in the lists of queues, each with the queue and the step of the first key that has it.
+pub(crate) fn standing(
+    alloc: Global,
+    letters: &mut Letters,
+    keys: &Keyspace,
+) -> Result<Tagged<Standing>, AllocError>
+    ensures { IfOk result (λ first. (t : ℕ) → get first t ≡ first_of t (standing_in plain_setting (entries keys.now))) }
+{
+    first_told(alloc, told_by(alloc, letters, keys)?)
+}
+
 /// The messages in the lists of queues, with their queues and steps, in the order of the keys.
-pub(crate) fn told_by(
+fn told_by(
     alloc: Global,
     letters: &mut Letters,
     keys: &Keyspace,

@@ -7,11 +7,9 @@ ghost use Rattle.place_model.specs.Shown.{history_of};
 ghost use Rattle.place_index.specs.Stored.{store_after, store_next};
 ghost use Rattle.place_model.specs.Takable.{AreTakable, IsTakable};
 
-use crate::numbered::Numbered;
-use crate::seat::Seat;
-use crate::walk::seated;
 use mini_store::Store;
 use place_model::{Entry, Heard, History};
+use place_walk::{ClientSeat, Numbered, seated};
 use std::alloc::{AllocError, Global};
 
 /// The store after a history: each call of a client of the table is taken, and each stop of one leaves nothing of its
@@ -26,7 +24,7 @@ pub fn store_after(alloc: Global, history: &History) -> Result<Store, AllocError
 /// The store that takes the entries of known clients.
 fn taken(
     alloc: Global,
-    known: &Numbered<Seat>,
+    known: &Numbered<ClientSeat>,
     entries: &[Entry<Heard>],
 ) -> Result<Store, AllocError>
     requires { AreTakable entries.now }
@@ -43,7 +41,7 @@ fn taken(
 fn take(
     alloc: Global,
     store: &mut Store,
-    known: &Numbered<Seat>,
+    known: &Numbered<ClientSeat>,
     entry: &Entry<Heard>,
 ) -> Result<(), AllocError>
     requires { IsTakable entry.now }

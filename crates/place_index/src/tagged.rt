@@ -2,7 +2,8 @@
 ghost use Rattle.std.specs.Prelude.{◌≡◌, ◌∷◌, [], IfOk, OnOk, ℕ, is_some};
 ghost use Rattle.std.specs.FinMap as map;
 ghost use Rattle.std.specs.Option.{option_copied};
-ghost use Rattle.place_index.specs.Gathered.{first_of, times};
+ghost use Rattle.message_acts.specs.Numbers.{times};
+ghost use Rattle.place_index.specs.Places.{first_of};
 ghost use Rattle.place_index.specs.Tallies.{first_numbers, tally};
 
 use std::alloc::{AllocError, Global};

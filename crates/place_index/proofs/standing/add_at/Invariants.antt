@@ -1,7 +1,7 @@
 use Rattle.std.proofs.Common.{◌≡◌, ◌++◌}
 use Rattle.std.specs.VecDeque.Iter.{deque_iter_rest}
 use Rattle.command_blocks.specs.EnvelopeTexts.{plain_setting}
-use Rattle.place_index.specs.Gathered.{told_at}
+use Rattle.place_index.specs.Standing.{told_at}
 use Rattle.place_index.proofs.standing.add_at.Given as goal
 
 abbrev pub invariant-loop-item : goal.invariant-loop-item

@@ -1,7 +1,7 @@
 use Rattle.std.proofs.Common.{◌≡◌, ◌++◌}
 use Rattle.std.specs.FinMap.{entries}
 use Rattle.command_blocks.specs.EnvelopeTexts.{plain_setting}
-use Rattle.place_index.specs.Gathered.{standing_in}
+use Rattle.place_index.specs.Standing.{standing_in}
 use Rattle.place_index.proofs.standing.told_by.Given as goal
 
 abbrev pub invariant-loop-key : goal.invariant-loop-key

@@ -1,6 +1,6 @@
 use Rattle.std.proofs.Common.{ap, ◌∙◌}
 use Rattle.std.specs.FinMap.{get}
-use Rattle.place_index.specs.Gathered.{first_of}
+use Rattle.place_index.specs.Places.{first_of}
 use Rattle.place_index.proofs.Tellings.{or_later, told_last, told_none}
 use Rattle.place_index.proofs.tagged.first_told.Goals as goal
 

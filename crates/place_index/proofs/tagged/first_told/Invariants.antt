@@ -1,6 +1,6 @@
 use Rattle.std.proofs.Common.{◌≡◌, ℕ, vec_len}
 use Rattle.std.specs.FinMap.{get}
-use Rattle.place_index.specs.Gathered.{first_of}
+use Rattle.place_index.specs.Places.{first_of}
 use Rattle.place_index.proofs.Tellings.{or_later}
 use Rattle.place_index.proofs.tagged.first_told.Given as goal
 

@@ -1,6 +1,0 @@
-use Rattle.std.proofs.Common.{◌≡◌, drop}
-use Rattle.place_index.specs.Gathered.{has}
-use Rattle.place_index.proofs.transaction.has.Given as goal
-
-abbrev pub invariant-loop-one : goal.invariant-loop-one
-invariant-loop-one l = has l.number l.numbers ≡ has l.number (drop l.one-index l.numbers)

@@ -1,7 +1,0 @@
-use Rattle.std.proofs.Common.{◌≡◌, drop}
-use Rattle.command_blocks.specs.EnvelopeTexts.{plain_setting}
-use Rattle.place_index.specs.Gathered.{walk_start, walked_all}
-use Rattle.place_index.proofs.walk.gathered.Given as goal
-
-abbrev pub invariant-loop-entry : goal.invariant-loop-entry
-invariant-loop-entry l = walked_all plain_setting l.walk (drop l.entry-index l.history.entries) ≡ walked_all plain_setting (walk_start l.history.clients) l.history.entries
