@@ -3,7 +3,7 @@ use Rattle.std.specs.Prelude.{ℕ, ℤ, if◌then◌else◌, List, [], ◌∷◌
 use Rattle.wire_values.specs.declared.value.Value.{Value}
 use Rattle.store_model.specs.declared.command.Command.{Command}
 use Rattle.store_model.specs.declared.command.Command.TheVariants.{Lpush, Rpush, Brpop, Multi, Exec, Hdel}
-use Rattle.envelope.specs.Tags.{tag_of_text}
+use Rattle.delivery_tags.specs.Tags.{tag_of_text}
 use Rattle.command_blocks.specs.Answers.{number_of}
 use Rattle.command_blocks.specs.Setting.{Setting, is_queue}
 use Rattle.queue_keys.specs.Names.{Bytes, same}

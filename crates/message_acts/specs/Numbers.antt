@@ -1,6 +1,6 @@
 -- Messages by the numbers of their delivery tags.
 use Rattle.std.specs.Prelude.{ℕ, ◌+◌, Bool, false, ◌||◌, ◌==◌, if◌then◌else◌, List, [], ◌∷◌, Option, None, Some, option_and_then}
-use Rattle.envelope.specs.Tags.{tag_of_text}
+use Rattle.delivery_tags.specs.Tags.{tag_of_text}
 use Rattle.queue_keys.specs.Names.{Bytes}
 
 -- the number of a tag's text

@@ -13,7 +13,7 @@ use Rattle.store_model.specs.declared.held.Stored.TheVariants.{Items}
 use Rattle.delivery_tags.specs.Tags.{tag_of_text}
 use Rattle.place_model.specs.Counts.{copy_weight, direct_pushes, end_weight, has_field, hand_weight, in_held, in_value, is_field, is_member, loss_weight, over_clients, start_count, tagged, total}
 use Rattle.place_model.specs.Histories.{Client, History, SystemState, after}
-use Rattle.envelope.specs.Tags.{tag_text}
+use Rattle.delivery_tags.specs.Tags.{tag_text}
 use Rattle.message_acts.specs.Numbers.{has, listed, number_told, times}
 use Rattle.place_walk.specs.Seats.{hands, seat_of}
 use Rattle.command_blocks.specs.EnvelopeTexts.{plain_setting}

@@ -8,7 +8,7 @@ use Rattle.wire_values.specs.declared.value.Value.{Value}
 use Rattle.store_model.specs.Words.{command_of}
 use Rattle.store_model.specs.declared.command.Command.{Command}
 use Rattle.store_model.specs.declared.command.Command.TheVariants.{Lpush}
-use Rattle.envelope.specs.Tags.{is_tag, tag_of_text, tag_text}
+use Rattle.delivery_tags.specs.Tags.{is_tag, tag_of_text, tag_text}
 use Rattle.envelope.proofs.EnvelopeTags.{tag_text_is}
 use Rattle.command_blocks.specs.Answers.{number_of}
 use Rattle.command_blocks.specs.EnvelopeTexts.{plain_setting}

@@ -1,6 +1,6 @@
 -- What a walk over a history gathers is what is counted after it.
 use Rattle.std.proofs.Common.{ℕ, ◌^◌, ◌<◌, sym, arith}
-use Rattle.envelope.specs.Tags.{tag_text}
+use Rattle.delivery_tags.specs.Tags.{tag_text}
 use Rattle.command_blocks.specs.EnvelopeTexts.{plain_setting}
 use Rattle.place_model.specs.Histories.{History, after, start_from}
 use Rattle.place_model.specs.declared.heard.Heard.{Heard}

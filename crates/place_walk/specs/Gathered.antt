@@ -2,7 +2,7 @@
 use Rattle.std.specs.Prelude.{◌≡◌, ℕ, zero, suc, ◌<◌, ◌^◌, Bool, true, false, List, [], ◌∷◌, map, Some, option_map}
 use Rattle.std.specs.List.{flat_map}
 use Rattle.std.specs.FinMap.{get}
-use Rattle.envelope.specs.Tags.{tag_of_text, tag_text}
+use Rattle.delivery_tags.specs.Tags.{tag_of_text, tag_text}
 use Rattle.command_blocks.specs.EnvelopeTexts.{plain_setting}
 use Rattle.place_model.specs.Accepted.{accepted_by}
 use Rattle.place_model.specs.Counts.{copy_count, direct_pushes, end_count}
