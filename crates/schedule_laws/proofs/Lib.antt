@@ -1,3 +1,4 @@
+pub mod Steps
 pub mod Numbered
 pub mod Kept
 pub mod Worlds
