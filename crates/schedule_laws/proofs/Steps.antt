@@ -1,9 +1,8 @@
 -- `run` is `step` repeated.
 use Rattle.std.proofs.Common.{◌≡◌, ℕ, ◌+◌, zero, suc, refl, ap, sym, ◌∙◌, List, [], ◌∷◌, ◌++◌, Bool, true, false, Option, None, Some, if◌then◌else◌, length}
 use Rattle.std.specs.Prelude.{is_none, not, ◌||◌}
-use Rattle.std.specs.FinMap.{get, insert}
+use Rattle.std.specs.FinMap.{get}
 use Rattle.wire_values.specs.declared.value.Value.{Value}
-use Rattle.line_text.specs.Lines.{text_fault}
 use Rattle.line_text.specs.Words.{words_of}
 use Rattle.line_text.specs.declared.reason.Reason.{Reason}
 use Rattle.line_text.specs.declared.reason.Reason.TheVariants.{Later, Stopped, Idle}
@@ -11,16 +10,15 @@ use Rattle.queue_keys.specs.Names.{Bytes}
 use Rattle.store_model.specs.Words.{Words}
 use Rattle.store_model.specs.Store.{apply_of}
 use Rattle.command_blocks.specs.Scripts.{Script, Over, Off, Say}
-use Rattle.schedule_model.specs.Built.{waits}
 use Rattle.schedule_model.specs.Costs.{is_full, total_cost}
 use Rattle.schedule_model.specs.Desk.{ScheduleReader, ClientBook, Said, with_book, with_call, said_one, said_all}
 use Rattle.schedule_model.specs.Faults.{Craft, first_reason, tests, present_tests, is_busy, is_gone, is_script_off, has_more}
 use Rattle.schedule_model.specs.Lines.{line_in}
-use Rattle.schedule_model.specs.Schedules.{Determined, Whole, Full, Bad_line, Led, Went, Filled, Bad, reader_after, stepped, run_through, led, led_unless, led_by, text_led, line_led, last_led, led_on, lines_led}
+use Rattle.schedule_model.specs.Schedules.{Determined, Whole, Full, Bad_line, Led, Went, Filled, Bad, reader_after, stepped, run_through, led_unless, led_by, text_led, line_led, last_led, led_on, lines_led}
 use Rattle.schedule_model.specs.declared.line.Line.{Line}
 use Rattle.schedule_model.specs.declared.line.Line.TheVariants.{Step, Run}
 use Rattle.schedule_laws.specs.BegunBlocks.{RunsAreSteps, SpellsLine, unnumbered, repeated}
-use Rattle.schedule_laws.proofs.Asking.{AreFaultless, faultless}
+use Rattle.schedule_laws.proofs.Asking.{faultless}
 use Rattle.schedule_laws.proofs.Numbered.{get_same, insert_twice}
 use Rattle.schedule_laws.proofs.Worlds.{neither}
 
@@ -133,45 +131,45 @@ module _ (κ : Craft) (c : ℕ) (step : Bytes) (spelled : SpellsLine κ (Step c)
   steps (Say w go) d b book running says more =
       by (is_full d.entries) refl (λ h. steps (go answer) e (left_with (go answer)) (get_same d₁.books c (left_with (go answer))) running refl h)
     where
-    answer : Value
-    answer = (apply_of d.store d.moment c (w d.moment)).1.answer
+      answer : Value
+      answer = (apply_of d.store d.moment c (w d.moment)).1.answer
 
-    d₁ : ScheduleReader
-    d₁ = with_call d c (w d.moment) (apply_of d.store d.moment c (w d.moment))
+      d₁ : ScheduleReader
+      d₁ = with_call d c (w d.moment) (apply_of d.store d.moment c (w d.moment))
 
-    left_with : Script → ClientBook
-    left_with q = record b { left = q }
+      left_with : Script → ClientBook
+      left_with q = record b { left = q }
 
-    e : ScheduleReader
-    e = with_book d₁ c (left_with (go answer))
+      e : ScheduleReader
+      e = with_book d₁ c (left_with (go answer))
 
-    full : Said
-    full = record { desk = d; left = Say w go; room = false }
+      full : Said
+      full = record { desk = d; left = Say w go; room = false }
 
-    one : Said
-    one = record { desk = d₁; left = go answer; room = true }
+      one : Said
+      one = record { desk = d₁; left = go answer; room = true }
 
-    -- the next one is the last
-    last : (q : Script) → has_more q ≡ false → reader_after c b (said_all d₁ c q) ≡ Went (with_book d₁ c (left_with q))
-    last Over h = refl
-    last Off h = refl
-    last (Say v g) h = absurd (no_more (sym h))
+      -- the next one is the last
+      last : (q : Script) → has_more q ≡ false → reader_after c b (said_all d₁ c q) ≡ Went (with_book d₁ c (left_with q))
+      last Over h = refl
+      last Off h = refl
+      last (Say v g) h = absurd (no_more (sym h))
 
-    over : (f : Bool) → has_more (go answer) ≡ f → (has_more (go answer) ≡ true → Stepwise e (reader_after c (left_with (go answer)) (said_all e c (go answer))))
-        → (k : ℕ) × (rest (reader_after c b (said_all d₁ c (go answer))) ≡ followed (led_through κ cut (repeated k step ls)) (Went e))
-    over false h later = (0, ap rest (last (go answer) h))
-    over true h later =
-        let both = said_beside c (left_with (go answer)) left_with (go answer) d₁ in
-        let same = written_after c b (said_all e c (go answer)) (said_all d₁ c (go answer)) both.0 both.1 in
-        let it = later h in
-        (suc it.0, ap rest (sym same) ∙ it.1)
+      over : (f : Bool) → has_more (go answer) ≡ f → (has_more (go answer) ≡ true → Stepwise e (reader_after c (left_with (go answer)) (said_all e c (go answer))))
+          → (k : ℕ) × (rest (reader_after c b (said_all d₁ c (go answer))) ≡ followed (led_through κ cut (repeated k step ls)) (Went e))
+      over false h later = (0, ap rest (last (go answer) h))
+      over true h later =
+          let both = said_beside c (left_with (go answer)) left_with (go answer) d₁ in
+          let same = written_after c b (said_all e c (go answer)) (said_all d₁ c (go answer)) both.0 both.1 in
+          let it = later h in
+          (suc it.0, ap rest (sym same) ∙ it.1)
 
-    by : (f : Bool) → is_full d.entries ≡ f → (has_more (go answer) ≡ true → Stepwise e (reader_after c (left_with (go answer)) (said_all e c (go answer))))
-        → Stepwise d (reader_after c b (if f then full else said_all d₁ c (go answer)))
-    by true is later = (0, sym (at_step d b w go 0 book running says ∙ ap (λ x. followed (led_through κ cut ls) (reader_after c b (if x then full else one))) is))
-    by false is later =
-        let it = over (has_more (go answer)) refl later in
-        (it.0, it.1 ∙ sym (at_step d b w go it.0 book running says ∙ ap (λ x. followed (led_through κ cut (repeated it.0 step ls)) (reader_after c b (if x then full else one))) is))
+      by : (f : Bool) → is_full d.entries ≡ f → (has_more (go answer) ≡ true → Stepwise e (reader_after c (left_with (go answer)) (said_all e c (go answer))))
+          → Stepwise d (reader_after c b (if f then full else said_all d₁ c (go answer)))
+      by true is later = (0, sym (at_step d b w go 0 book running says ∙ ap (λ x. followed (led_through κ cut ls) (reader_after c b (if x then full else one))) is))
+      by false is later =
+          let it = over (has_more (go answer)) refl later in
+          (it.0, it.1 ∙ sym (at_step d b w go it.0 book running says ∙ ap (λ x. followed (led_through κ cut (repeated it.0 step ls)) (reader_after c b (if x then full else one))) is))
 
 -- ---- the law
 
@@ -191,7 +189,7 @@ module _ (κ : Craft) (c : ℕ) (run step : Bytes) (spells_run : SpellsLine κ (
     refused reason e = (
       0,
       from_run (Bad reason) (spelled_led κ d (Run c) run spells_run ∙ ap (led_unless κ d (Run c)) e)
-      ∙ sym (first_line κ cut n d step ls on ∙ ap (followed (led_through κ cut ls)) (spelled_led κ d (Step c) step spells_step ∙ ap (led_unless κ d (Step c)) e)),
+          ∙ sym (first_line κ cut n d step ls on ∙ ap (followed (led_through κ cut ls)) (spelled_led κ d (Step c) step spells_step ∙ ap (led_unless κ d (Step c)) e)),
     )
 
     taken : first_reason (tests κ d (Run c)) ≡ None → (o : Option ClientBook) → get d.books c ≡ o → is_none o ≡ false → is_gone o ≡ false → not (is_busy o) ≡ false → Leads
@@ -200,7 +198,7 @@ module _ (κ : Craft) (c : ℕ) (run step : Bytes) (spells_run : SpellsLine κ (
         let it = steps κ c step spells_step cut ls on b.left d b book (neither b.stopped (is_script_off b.left) g).0 refl (holds (has_more b.left) h) in (
           it.0,
           from_run (reader_after c b (said_all d c b.left)) (spelled_led κ d (Run c) run spells_run ∙ (ap (led_unless κ d (Run c)) e ∙ ap (run_through d c) book))
-          ∙ (it.1 ∙ numbers κ cut 0 n d (repeated (suc it.0) step ls)),
+              ∙ (it.1 ∙ numbers κ cut 0 n d (repeated (suc it.0) step ls)),
         )
 
     by_reason : (o : Option Reason) → first_reason (tests κ d (Run c)) ≡ o → Leads
