@@ -1,0 +1,4 @@
+pub mod Listed
+pub mod Served
+pub mod Played
+pub mod Kept
