@@ -5,7 +5,7 @@ use Rattle.std.specs.FinMap.{get}
 use Rattle.wire_values.specs.declared.value.Value.{Value}
 use Rattle.line_text.specs.Words.{words_of}
 use Rattle.line_text.specs.declared.reason.Reason.{Reason}
-use Rattle.line_text.specs.declared.reason.Reason.TheVariants.{Later, Stopped, Idle}
+use Rattle.line_text.specs.declared.reason.Reason.TheVariants.{Later, Stopped, Idle, UnknownClient}
 use Rattle.queue_keys.specs.Names.{Bytes}
 use Rattle.store_model.specs.Words.{Words}
 use Rattle.store_model.specs.Store.{apply_of}
@@ -17,7 +17,7 @@ use Rattle.schedule_model.specs.Lines.{line_in}
 use Rattle.schedule_model.specs.Schedules.{Determined, Whole, Full, Bad_line, Led, Went, Filled, Bad, reader_after, stepped, run_through, led_unless, led_by, text_led, line_led, last_led, led_on, lines_led}
 use Rattle.schedule_model.specs.declared.line.Line.{Line}
 use Rattle.schedule_model.specs.declared.line.Line.TheVariants.{Step, Run}
-use Rattle.schedule_laws.specs.BegunBlocks.{RunsAreSteps, SpellsLine, unnumbered, repeated}
+use Rattle.schedule_laws.specs.BegunBlocks.{RunsAreSteps, RunsEndBlocks, SpellsLine, unnumbered, repeated}
 use Rattle.schedule_laws.proofs.Asking.{faultless}
 use Rattle.schedule_laws.proofs.Numbered.{get_same, insert_twice}
 use Rattle.schedule_laws.proofs.Worlds.{neither}
@@ -210,3 +210,50 @@ runs κ c run step spells_run spells_step true n d [] = (0, refl)
 runs κ c run step spells_run spells_step false n d [] = by_reason κ c run step spells_run spells_step false n d [] tt (first_reason (tests κ d (Run c))) refl
 runs κ c run step spells_run spells_step true n d (l ∷ ls) = by_reason κ c run step spells_run spells_step true n d (l ∷ ls) tt (first_reason (tests κ d (Run c))) refl
 runs κ c run step spells_run spells_step false n d (l ∷ ls) = by_reason κ c run step spells_run spells_step false n d (l ∷ ls) tt (first_reason (tests κ d (Run c))) refl
+
+-- ---- the end of a run
+
+-- where there was room for all, nothing is left to say
+said_out : (p : Script) (d : ScheduleReader) (c : ℕ) → (said_all d c p).room ≡ true → has_more (said_all d c p).left ≡ false
+said_out Over d c h = refl
+said_out Off d c h = refl
+said_out (Say w go) d c h = by (is_full d.entries) h (let r = apply_of d.store d.moment c (w d.moment) in said_out (go r.1.answer) (with_call d c (w d.moment) r) c) where
+  later : Said
+  later = let r = apply_of d.store d.moment c (w d.moment) in said_all (with_call d c (w d.moment) r) c (go r.1.answer)
+
+  full : Said
+  full = record { desk = d; left = Say w go; room = false }
+
+  by : (f : Bool) → (if f then full else later).room ≡ true → (later.room ≡ true → has_more later.left ≡ false) → has_more (if f then full else later).left ≡ false
+  by true e go = absurd (no_more e)
+  by false e go = go e
+
+not_went : (x e : ScheduleReader) → Filled x ≡ Went e → ⊥
+not_went x e h = cc h
+
+bad_went : (r : Reason) (e : ScheduleReader) → Bad r ≡ Went e → ⊥
+bad_went r e h = cc h
+
+went_same : (x e : ScheduleReader) → Went x ≡ Went e → x ≡ e
+went_same x e h = cc h
+
+-- the desk after what a client said
+desk_idle : (c : ℕ) (b : ClientBook) (s : Said) (e : ScheduleReader) → (s.room ≡ true → has_more s.left ≡ false) → reader_after c b s ≡ Went e → is_busy (get e.books c) ≡ false
+desk_idle c b s e out h = by s.room refl h where
+  after : ScheduleReader
+  after = with_book s.desk c (record b { left = s.left })
+
+  by : (f : Bool) → s.room ≡ f → (if f then Went after else Filled after) ≡ Went e → is_busy (get e.books c) ≡ false
+  by true f g = ap (λ (x : ScheduleReader). is_busy (get x.books c)) (sym (went_same after e g)) ∙ (ap is_busy (get_same s.desk.books c (record b { left = s.left })) ∙ out f)
+  by false f g = absurd (not_went after e g)
+
+run_idle : (d : ScheduleReader) (c : ℕ) (o : Option ClientBook) (e : ScheduleReader) → run_through d c o ≡ Went e → is_busy (get e.books c) ≡ false
+run_idle d c None e h = absurd (bad_went UnknownClient e h)
+run_idle d c (Some b) e h = desk_idle c b (said_all d c b.left) e (said_out b.left d c) h
+
+unless_idle : (κ : Craft) (d : ScheduleReader) (c : ℕ) (o : Option Reason) (e : ScheduleReader) → led_unless κ d (Run c) o ≡ Went e → is_busy (get e.books c) ≡ false
+unless_idle κ d c (Some r) e h = absurd (bad_went r e h)
+unless_idle κ d c None e h = run_idle d c (get d.books c) e h
+
+pub ends : RunsEndBlocks
+ends κ c run spells d e h = unless_idle κ d c (first_reason (tests κ d (Run c))) e (sym (spelled_led κ d (Run c) run spells) ∙ h)

@@ -1,5 +1,6 @@
 -- The lines of a schedule decide what each client says: the blocks of its `begin` lines, in order.
 use Rattle.std.specs.Prelude.{◌≡◌, ◌⊎◌, ◌==◌, ℕ, ◌+◌, zero, suc, Bool, false, if◌then◌else◌, List, [], ◌∷◌, ◌++◌, length, take, codes, Option, None, Some}
+use Rattle.std.specs.FinMap.{get}
 use Rattle.wire_values.specs.declared.value.Value.{Value}
 use Rattle.line_text.specs.Lines.{lines_of, text_fault}
 use Rattle.line_text.specs.Words.{words_of}
@@ -17,9 +18,9 @@ use Rattle.command_blocks.specs.declared.block.Side.TheVariants.{Left, Right}
 use Rattle.place_model.specs.Histories.{calls_of}
 use Rattle.schedule_model.specs.Built.{waits}
 use Rattle.schedule_model.specs.Desk.{ScheduleReader}
-use Rattle.schedule_model.specs.Faults.{Craft}
+use Rattle.schedule_model.specs.Faults.{Craft, is_busy}
 use Rattle.schedule_model.specs.Lines.{line_in}
-use Rattle.schedule_model.specs.Schedules.{Determined, Whole, Full, Bad_line, lines_led, max_input, schedule_run}
+use Rattle.schedule_model.specs.Schedules.{Determined, Whole, Full, Bad_line, Went, line_led, lines_led, max_input, schedule_run}
 use Rattle.schedule_model.specs.declared.line.Asked.{Asked}
 use Rattle.schedule_model.specs.declared.line.Asked.TheVariants as asked
 use Rattle.schedule_model.specs.declared.line.Line.{Line}
@@ -115,3 +116,7 @@ repeated (suc k) l ls = l ∷ repeated k l ls
 abbrev pub RunsAreSteps : Type 0
 RunsAreSteps = (κ : Craft) (c : ℕ) (run step : Bytes) → SpellsLine κ (Run c) run → SpellsLine κ (Step c) step → (cut : Bool) (n : ℕ) (d : ScheduleReader) (ls : List Bytes)
     → (k : ℕ) × (unnumbered (lines_led κ cut n d (run ∷ ls)) ≡ unnumbered (lines_led κ cut n d (repeated (suc k) step ls)))
+
+-- and it says the client's block to its end: where it leads to a desk, the client has nothing left to say there
+abbrev pub RunsEndBlocks : Type 0
+RunsEndBlocks = (κ : Craft) (c : ℕ) (run : Bytes) → SpellsLine κ (Run c) run → (d e : ScheduleReader) → line_led κ d run ≡ Went e → is_busy (get e.books c) ≡ false

@@ -2,7 +2,7 @@
 //! functions have empty bodies.
 #![tactic(auto)]
 
-ghost use Rattle.schedule_laws.specs.BegunBlocks.{RunsAreSteps, SchedulesSayBlocks};
+ghost use Rattle.schedule_laws.specs.BegunBlocks.{RunsAreSteps, RunsEndBlocks, SchedulesSayBlocks};
 ghost use Rattle.schedule_laws.specs.Sound.{LayoutsMakeCrafts, SchedulesSound};
 
 /// What a schedule determines is sound: a whole history, and also one that was full.
@@ -17,9 +17,10 @@ pub fn begun_blocks()
 {}
 
 /// `run` is `step` repeated: in its place so many `step` lines, one at least, lead to the same desk, the same full history
-/// or the same reason.
+/// or the same reason. Where it leads to a desk, the client has nothing left to say there.
 pub fn runs_are_steps()
-    ensures { RunsAreSteps }
+    ensures steps { RunsAreSteps }
+    ensures ends { RunsEndBlocks }
 {}
 
 /// A lawful layout of at most four priority steps serves schedules.
