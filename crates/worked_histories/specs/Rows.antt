@@ -1,4 +1,4 @@
--- Whole histories, written out over small texts: what three clients of one store call and are answered.
+-- Whole histories, written out: what three clients of one store call and are answered.
 use Rattle.std.specs.Prelude.{ℕ, List, [], ◌∷◌, ◌++◌, codes, decimal, pos}
 use Rattle.std.specs.FinMap.{empty}
 use Rattle.wire_values.specs.declared.value.Value.{Value}
@@ -14,7 +14,15 @@ use Rattle.place_model.specs.Histories.{History}
 use Rattle.place_model.specs.declared.heard.Heard.{Heard}
 use Rattle.place_model.specs.declared.history.Entry.{Entry}
 use Rattle.place_model.specs.declared.history.Entry.TheVariants.{Call as Called}
-use Rattle.worked_blocks.specs.Lists.{q, later_keys, message_tag, plain_envelope, marked_envelope, second_tag, named_envelope, named_marked}
+use Rattle.worked_blocks.specs.Lists.{q, later_keys}
+
+-- a message: its tag, its envelope, the entry of that, and the same with the marks of redelivery
+pub record Message : Type 0 where
+  pub tag : Bytes
+  pub envelope : Bytes
+  pub entry : Bytes
+  pub marked : Bytes
+  pub marked_entry : Bytes
 
 -- ---- calls
 
@@ -47,13 +55,13 @@ reads_bindings c at ms = say c at (codes "SMEMBERS" ∷ codes "_kombu.binding.ex
 abbrev pub declares : ℕ → ℕ → Bytes → List (Entry Heard)
 declares c at word = say c at (word ∷ codes "_kombu.binding.ex" ∷ member (codes "rk") [] (codes "q") ∷ []) (Integer (pos 1)) ∷ []
 
--- the envelope v of the tag t is popped and put into the table; its entry is the envelope
-abbrev pub pops : ℕ → ℕ → Bytes → Bytes → List (Entry Heard)
-pops c at v t =
+-- the envelope v of the tag t is popped, and its entry u put into the table
+abbrev pub pops : ℕ → ℕ → Bytes → Bytes → Bytes → List (Entry Heard)
+pops c at v u t =
     say c at (brpop_words q later_keys) (pair q v)
     ∷ opens c at
     ∷ say c at (codes "ZADD" ∷ codes "unacked_index" ∷ decimal at ∷ t ∷ []) queued
-    ∷ say c at (codes "HSET" ∷ codes "unacked" ∷ t ∷ v ∷ []) queued
+    ∷ say c at (codes "HSET" ∷ codes "unacked" ∷ t ∷ u ∷ []) queued
     ∷ closes c at (integers (pos 1 ∷ pos 1 ∷ []))
     ∷ []
 
@@ -100,72 +108,65 @@ releases c at own = looks c at own ++ opens c at ∷ say c at (codes "DEL" ∷ c
 -- ---- one of each kind
 
 -- a message goes to its queue and one to the queues of its exchange; one is requeued and popped again, one is restored by a pass and, without a binding, stays; one is acknowledged, a second time without effect; a return finds a message gone, another moves one; a publication finds no queue, a pop nothing
-abbrev pub each_kind : List (Entry Heard)
-each_kind =
+abbrev pub each_kind : Message → Message → List (Entry Heard)
+each_kind a b =
     declares 1 100 (codes "SADD")
-    ++ publishes 1 100 plain_envelope 1
-    ++ reads_bindings 1 100 (member (codes "rk") [] (codes "q") ∷ []) ++ publishes 1 100 named_envelope 2
-    ++ pops 2 100 plain_envelope message_tag
-    ++ reads_entry 2 100 message_tag (Bulk plain_envelope) ++ puts_back 2 100 (codes "LPUSH") message_tag marked_envelope ++ moves 2 100 2
-    ++ pops 2 100 named_envelope second_tag
-    ++ locks 1 200 (token 7 1) done ++ reads_due 1 200 190 (second_tag ∷ [])
-    ++ reads_entry 1 200 second_tag (Bulk named_envelope) ++ reads_bindings 1 200 (member (codes "rk") [] (codes "q") ∷ [])
-    ++ puts_back 1 200 (codes "RPUSH") second_tag named_marked ++ moves 1 200 2
+    ++ publishes 1 100 a.envelope 1
+    ++ reads_bindings 1 100 (member (codes "rk") [] (codes "q") ∷ []) ++ publishes 1 100 b.envelope 2
+    ++ pops 2 100 a.envelope a.entry a.tag
+    ++ reads_entry 2 100 a.tag (Bulk a.entry) ++ puts_back 2 100 (codes "LPUSH") a.tag a.marked ++ moves 2 100 2
+    ++ pops 2 100 b.envelope b.entry b.tag
+    ++ locks 1 200 (token 7 1) done ++ reads_due 1 200 190 (b.tag ∷ [])
+    ++ reads_entry 1 200 b.tag (Bulk b.entry) ++ reads_bindings 1 200 (member (codes "rk") [] (codes "q") ∷ [])
+    ++ puts_back 1 200 (codes "RPUSH") b.tag b.marked ++ moves 1 200 2
     ++ releases 1 200 (token 7 1)
-    ++ pops 2 200 named_marked second_tag
+    ++ pops 2 200 b.marked b.marked_entry b.tag
     ++ declares 1 200 (codes "SREM")
-    ++ reads_entry 1 200 second_tag (Bulk named_marked) ++ reads_bindings 1 200 [] ++ lets_go 1 200
-    ++ acknowledges 2 200 second_tag 1 ++ acknowledges 2 200 second_tag 0
-    ++ reads_entry 1 200 second_tag NullBulk ++ lets_go 1 200
-    ++ pops 2 200 marked_envelope message_tag
-    ++ reads_entry 1 200 message_tag (Bulk marked_envelope) ++ puts_back 1 200 (codes "RPUSH") message_tag marked_envelope ++ moves 1 200 1
+    ++ reads_entry 1 200 b.tag (Bulk b.marked_entry) ++ reads_bindings 1 200 [] ++ lets_go 1 200
+    ++ acknowledges 2 200 b.tag 1 ++ acknowledges 2 200 b.tag 0
+    ++ reads_entry 1 200 b.tag NullBulk ++ lets_go 1 200
+    ++ pops 2 200 a.marked a.marked_entry a.tag
+    ++ reads_entry 1 200 a.tag (Bulk a.marked_entry) ++ puts_back 1 200 (codes "RPUSH") a.tag a.marked ++ moves 1 200 1
     ++ reads_bindings 1 200 []
-    ++ pops 2 200 marked_envelope message_tag ++ acknowledges 2 200 message_tag 1
+    ++ pops 2 200 a.marked a.marked_entry a.tag ++ acknowledges 2 200 a.tag 1
     ++ finds_nothing 2 200
     ++ say 1 200 (codes "PING" ∷ []) pong ∷ []
 
 -- ---- contention
 
--- the tags and envelopes of client 2
-abbrev pub own_tag : ℕ → Bytes
-own_tag n = 8 ∷ n ∷ []
-
-abbrev pub own_envelope : ℕ → Bytes
-own_envelope n = 0 ∷ 8 ∷ n ∷ 0 ∷ 0 ∷ codes "q"
-
 -- client 1 has a message in the table, and the queue has four of client 2
-abbrev pub prepares : List (Entry Heard)
-prepares =
-    publishes 1 50 plain_envelope 1
-    ++ publishes 2 50 (own_envelope 1) 2 ++ publishes 2 50 (own_envelope 2) 3 ++ publishes 2 50 (own_envelope 3) 4 ++ publishes 2 50 (own_envelope 4) 5
-    ++ pops 1 50 plain_envelope message_tag
+abbrev pub prepares : Message → (ℕ → Message) → List (Entry Heard)
+prepares a own =
+    publishes 1 50 a.envelope 1
+    ++ publishes 2 50 (own 1).envelope 2 ++ publishes 2 50 (own 2).envelope 3 ++ publishes 2 50 (own 3).envelope 4 ++ publishes 2 50 (own 4).envelope 5
+    ++ pops 1 50 a.envelope a.entry a.tag
 
 -- a try of client 1, between which client 2 alters the table
-abbrev pub fails : ℕ → List (Entry Heard) → List (Entry Heard)
-fails at between = reads_entry 1 at message_tag (Bulk plain_envelope) ++ puts_back 1 at (codes "RPUSH") message_tag marked_envelope ++ between ++ closes 1 at NullArray ∷ []
+abbrev pub fails : Message → ℕ → List (Entry Heard) → List (Entry Heard)
+fails a at between = reads_entry 1 at a.tag (Bulk a.entry) ++ puts_back 1 at (codes "RPUSH") a.tag a.marked ++ between ++ closes 1 at NullArray ∷ []
 
 -- two of them: client 2 pops a message, and acknowledges it
-abbrev pub fails_twice : ℕ → ℕ → List (Entry Heard)
-fails_twice at n = fails at (pops 2 at (own_envelope n) (own_tag n)) ++ fails at (acknowledges 2 at (own_tag n) 1)
+abbrev pub fails_twice : Message → ℕ → Message → List (Entry Heard)
+fails_twice a at b = fails a at (pops 2 at b.envelope b.entry b.tag) ++ fails a at (acknowledges 2 at b.tag 1)
 
 -- eight of them
-abbrev pub contends : ℕ → List (Entry Heard)
-contends at = fails_twice at 1 ++ fails_twice at 2 ++ fails_twice at 3 ++ fails_twice at 4
+abbrev pub contends : Message → (ℕ → Message) → ℕ → List (Entry Heard)
+contends a own at = fails_twice a at (own 1) ++ fails_twice a at (own 2) ++ fails_twice a at (own 3) ++ fails_twice a at (own 4)
 
 -- a return that is contended
-abbrev pub contended : List (Entry Heard)
-contended = prepares ++ contends 100
+abbrev pub contended : Message → (ℕ → Message) → List (Entry Heard)
+contended a own = prepares a own ++ contends a own 100
 
 -- a pass that is stuck in a contended return; when it releases the mutex, that has expired and is another's, which a third pass finds held; and the other one returns the message
-abbrev pub stuck : List (Entry Heard)
-stuck =
-    prepares
-    ++ locks 1 100 (token 7 1) done ++ reads_due 1 100 90 (message_tag ∷ []) ++ contends 100
+abbrev pub stuck : Message → (ℕ → Message) → List (Entry Heard)
+stuck a own =
+    prepares a own
+    ++ locks 1 100 (token 7 1) done ++ reads_due 1 100 90 (a.tag ∷ []) ++ contends a own 100
     ++ locks 3 400 (token 9 1) done
     ++ locks 2 400 (token 8 1) NullBulk
     ++ looks 1 400 (token 9 1) ++ lets_go 1 400
-    ++ reads_due 3 400 390 (message_tag ∷ [])
-    ++ reads_entry 3 400 message_tag (Bulk plain_envelope) ++ puts_back 3 400 (codes "RPUSH") message_tag marked_envelope ++ moves 3 400 1
+    ++ reads_due 3 400 390 (a.tag ∷ [])
+    ++ reads_entry 3 400 a.tag (Bulk a.entry) ++ puts_back 3 400 (codes "RPUSH") a.tag a.marked ++ moves 3 400 1
     ++ releases 3 400 (token 9 1)
 
 -- ---- histories

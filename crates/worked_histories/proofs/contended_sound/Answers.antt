@@ -1,4 +1,4 @@
-use Rattle.worked_histories.proofs.Kept.{contended_sound}
+use Rattle.worked_histories.proofs.EachHistory.{contended_sound}
 use Rattle.worked_histories.proofs.contended_sound.Goals as goal
 
 pub returns : goal.returns

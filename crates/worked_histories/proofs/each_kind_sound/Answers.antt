@@ -1,4 +1,4 @@
-use Rattle.worked_histories.proofs.Kept.{each_kind_sound}
+use Rattle.worked_histories.proofs.EachHistory.{each_kind_sound}
 use Rattle.worked_histories.proofs.each_kind_sound.Goals as goal
 
 pub returns : goal.returns

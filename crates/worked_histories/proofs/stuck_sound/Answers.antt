@@ -1,4 +1,4 @@
-use Rattle.worked_histories.proofs.Kept.{stuck_sound}
+use Rattle.worked_histories.proofs.EachHistory.{stuck_sound}
 use Rattle.worked_histories.proofs.stuck_sound.Goals as goal
 
 pub returns : goal.returns
