@@ -3,7 +3,7 @@ ghost use Rattle.command_blocks.specs.Blocks.{AreBlocks, drawn_by};
 ghost use Rattle.command_blocks.specs.Calls.{Call, concat};
 ghost use Rattle.command_blocks.specs.EnvelopeTexts.{texts};
 ghost use Rattle.place_model.specs.Histories.{Client, History, IsHistoryPrefix, after};
-ghost use Rattle.place_model.specs.Identity.{HasEnvelope, HasOrigin, IsNowhere, IsPublished};
+ghost use Rattle.place_model.specs.Identity.{HasAnywhere, HasOrigin, IsNowhere, IsPublished};
 ghost use Rattle.queue_keys.specs.Layouts.{Layout, is_layout};
 ghost use Rattle.queue_keys.specs.Names.{Bytes};
 ghost use Rattle.command_blocks.specs.Setting.{setting_of};
@@ -11,10 +11,11 @@ ghost use Rattle.place_model.specs.Starts.{IsSound};
 ghost use Rattle.std.specs.FinMap.{get};
 ghost use Rattle.std.specs.Prelude.{◌≡◌, true, ℕ, List, Some, suc};
 
-/// Each envelope that stands in a list or in the table has the body of one that was published under its tag, or that stood in the start.
+/// Each envelope that stands in a list or in the table, or that a client has in hand, has the body of one that
+/// was published under its tag, or that stood in the start.
 pub fn origin<N>()
     ensures { (κ : Layout) → is_layout κ ≡ true → let σ = setting_of κ texts in (h p : History N) (t b : Bytes) → IsSound σ h → IsHistoryPrefix p h
-        → HasEnvelope σ (after p).store.keys t b → HasOrigin σ p t b }
+        → HasAnywhere σ (after p) t b → HasOrigin σ p t b }
 {}
 
 /// What is published under one tag has one body.
@@ -23,10 +24,10 @@ pub fn one_publication<N>()
         → IsPublished σ (after p) t b → IsPublished σ (after p) t b' → b ≡ b' }
 {}
 
-/// So all envelopes of a tag in lists and table have one body.
+/// So all envelopes of a tag in lists, table and hands have one body.
 pub fn one_tree<N>()
     ensures { (κ : Layout) → is_layout κ ≡ true → let σ = setting_of κ texts in (h p : History N) (t b b' : Bytes) → IsSound σ h → IsHistoryPrefix p h
-        → HasEnvelope σ (after p).store.keys t b → HasEnvelope σ (after p).store.keys t b' → b ≡ b' }
+        → HasAnywhere σ (after p) t b → HasAnywhere σ (after p) t b' → b ≡ b' }
 {}
 
 /// Where a client's calls so far are whole blocks, its next tag stands nowhere: nobody published it, and no list, no table,

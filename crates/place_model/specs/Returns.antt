@@ -44,7 +44,7 @@ pub record IsWholeReturn (σ : Setting) (m m' : Keys) (at : ℕ) (side : Side) (
   pub others : (x : Bytes) → (x ≡ t → ⊥) → (table_entry σ m' x ≡ table_entry σ m x) × (score_at σ m' x ≡ score_at σ m x)
   pub elsewhere : (k : Bytes) → IsAway k (σ.unacked ∷ σ.index ∷ ks) → (get m' k ≡ get m k) ⊎ ((is_expired at (get m k) ≡ true) × (get m' k ≡ None))
 
--- the transaction that a client has queued is a return's, to the queues that the lookup gives over its last SMEMBERS, if the exchange has a name; and from the keys m to m' it returned its message whole
+-- the transaction that a client has queued is that of a return's try, to the queues that the lookup gives over what SMEMBERS answered in this try, since its WATCH, if the exchange has a name; and from the keys m to m' it returned its message whole
 pub record ReturnsWhole (σ : Setting) (sn : Seen) (m m' : Keys) (at : ℕ) : Type 0 where
   pub side : Side
   pub tag : Bytes

@@ -4,7 +4,7 @@ use Rattle.wire_values.specs.declared.value.Value.{Value}
 use Rattle.wire_values.specs.declared.value.Value.TheVariants.{NullArray}
 use Rattle.store_model.specs.Words.{command_of}
 use Rattle.store_model.specs.declared.command.Command.{Command}
-use Rattle.store_model.specs.declared.command.Command.TheVariants.{Lpush, Rpush, Brpop, Multi, Exec, Hdel, Smembers}
+use Rattle.store_model.specs.declared.command.Command.TheVariants.{Lpush, Rpush, Brpop, Multi, Exec, Hdel, Smembers, Watch}
 use Rattle.queue_keys.specs.Names.{Bytes, same}
 use Rattle.command_blocks.specs.Answers.{is_one, number_of, items_of, pair_of}
 use Rattle.command_blocks.specs.Setting.{Setting, is_queue}
@@ -26,7 +26,7 @@ pub record Seen : Type 0 where
   pub since : List Command  -- the commands since its last MULTI
   pub ran : List Ran  -- its transactions that ran, in order
   pub pushes : List Bytes  -- the tags of its direct pushes, in order
-  pub asked : Value  -- what its last SMEMBERS answered
+  pub asked : Value  -- what its last SMEMBERS since its last WATCH answered
 
 -- what is in hand after a key and an element were popped, if they were; a key that is no queue's changes nothing
 abbrev pub hand_from : Setting → Option Bytes → Option (Bytes × Bytes) → Option Bytes
@@ -69,9 +69,10 @@ abbrev pub push_by : Setting → Command → Value → List Bytes
 push_by σ (Lpush k (v ∷ [])) r = push_with σ k v (number_of r)
 push_by σ other r = []
 
--- what the last SMEMBERS answered after a call
+-- what the last SMEMBERS since the last WATCH answered, after a call; a try of a return begins with WATCH, so it is that try's own
 abbrev pub asked_by : Value → Command → Value → Value
 asked_by old (Smembers k) r = r
+asked_by old (Watch ks) r = NullArray
 asked_by old other r = old
 
 -- what is read off one more call

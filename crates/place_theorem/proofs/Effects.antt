@@ -71,6 +71,7 @@ queued_since old other h = refl
 
 queued_asked : (old : Value) (cm : Command) → is_queued cm ≡ true → asked_by old cm queued ≡ old
 queued_asked old (Smembers k) h = absurd (cc h)
+queued_asked old (Watch ks) h = absurd (cc h)
 queued_asked old other h = refl
 
 -- the answer is no integer and no array

@@ -20,7 +20,7 @@ use Rattle.command_blocks.specs.Blocks.{AreBlocks, IsFrontOfBlocks, IsMannered, 
 use Rattle.command_blocks.specs.Calls.{Call, call, concat}
 use Rattle.place_model.specs.Counts.{start_count}
 use Rattle.place_model.specs.Histories.{AllMayCome, Client, History, IsHistoryPrefix, MayCome, SystemState, after, after_entries, and_then, conn_of, next, next_of, start_from, table, with_client}
-use Rattle.place_model.specs.Identity.{HasEnvelope, HasOrigin, IsNowhere, IsPublished, IsPush, PushedIn}
+use Rattle.place_model.specs.Identity.{HasAnywhere, HasEnvelope, HasOrigin, IsNowhere, IsPublished, IsPush, PushedIn}
 use Rattle.queue_keys.specs.Names.{Bytes, same}
 use Rattle.command_blocks.specs.Setting.{is_queue}
 use Rattle.place_model.specs.Starts.{IsSound}
@@ -31,7 +31,7 @@ use Rattle.place_theorem.proofs.Full.{Full}
 use Rattle.place_theorem.proofs.Kept.{Inv, stopped_is}
 use Rattle.place_theorem.proofs.Machine.{AllApart, Asks, At, Begins, Cursor, Ends, Fails, Finds, Finds_none, Finds_other, Halted, Idle, IsTalk, Leaves, Live, Passes_by, Publishes, Queues, Reads, Refuses, Runs, Step, Talks, Watches, front_runs, runs_split}
 use Rattle.place_theorem.proofs.Once.{SeedsDiffer, seeds_differ, start_body, start_seed}
-use Rattle.place_theorem.proofs.Origins.{identity, pushed_last, pushed_more}
+use Rattle.place_theorem.proofs.Origins.{identity, identity_anywhere, pushed_last, pushed_more}
 use Rattle.place_theorem.proofs.Safe.{conn_in, queue_in}
 use Rattle.place_theorem.proofs.Sound.{after-append, all_mannered, inv_begin, inv_of, parted}
 use Rattle.place_theorem.proofs.Unborn.{no_place, nothing_pushed, nothing_stored}
@@ -343,8 +343,8 @@ module _ {N : Type 0} (σ : Full) (h p : History N) (sound : IsSound σ.names h)
       (e.0, there.0, there.1, (j.0, j.1 ∙ ap (λ z. σ.names.tag z j.0) (sym there.2)))
 
   -- all envelopes of a tag are one but for their marks
-  pub one_tree : (t b b' : Bytes) → HasEnvelope σ.names (after p).store.keys t b → HasEnvelope σ.names (after p).store.keys t b' → b ≡ b'
-  one_tree t b b' st st' = go (identity σ h p t b sound pre st) (identity σ h p t b' sound pre st')
+  pub one_tree : (t b b' : Bytes) → HasAnywhere σ.names (after p) t b → HasAnywhere σ.names (after p) t b' → b ≡ b'
+  one_tree t b b' st st' = go (identity_anywhere σ h p t b sound pre st) (identity_anywhere σ h p t b' sound pre st')
     where
       mixed : (x y : Bytes) → HasEnvelope σ.names p.start t x → IsPublished σ.names (after p) t y → ⊥
       mixed x y old o = let w = own_seed t y o in start_seed σ p.start p.used p.clients t x s.start s.table old w.0 w.1 w.2 w.3.0 w.3.1

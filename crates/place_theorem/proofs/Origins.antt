@@ -1,22 +1,35 @@
 -- Each envelope in the store was published with that body, or stood in the start.
+use Rattle.std.specs.Prelude.{option_map, if◌then◌else◌}
 use Rattle.std.proofs.Common.{◌++◌, Bool, List, None, Option, Some, [], ap, false, inl, inr, nat_cmp, refl, subst, sym, true, ℕ, ◌∙◌, ◌∷◌, ◌≡◌, ◌≢◌, ◌⊎◌}
 use Rattle.std.proofs.lemmas.Cmp.{nat_cmp_total}
 use Rattle.std.specs.FinMap.{get, insert, nat_cmp-IsAntisymmetric}
+use Rattle.wire_values.specs.Layer.{layer}
 use Rattle.wire_values.specs.declared.value.Value.{Value}
+use Rattle.wire_values.specs.declared.value.Value.TheVariants.{Error, NullArray}
 use Rattle.store_model.specs.Connections.{conn}
-use Rattle.store_model.specs.Keys.{Keys, live_at, value_of}
-use Rattle.store_model.specs.Store.{State, apply_of, gone_of, serve, settled}
-use Rattle.store_model.specs.Words.{Words, command_of}
+use Rattle.store_model.specs.Keys.{CommandOutcome, Keys, live_at, value_at, value_of}
+use Rattle.store_model.specs.Store.{State, apply_of, gone_of, refused, serve, serve_by, settled}
+use Rattle.store_model.specs.Words.{Words, command_of, final}
+use Rattle.store_model.specs.Lists.{brpop, brpop_at}
+use Rattle.store_model.specs.Replies.{pair}
+use Rattle.store_model.specs.declared.command.Command.{Command}
+use Rattle.store_model.specs.declared.command.Command.TheVariants.{Brpop, Exec}
+use Rattle.store_model.specs.declared.connection.Conn.{Conn}
+use Rattle.store_model.specs.declared.connection.Queue.{Queue}
+use Rattle.store_model.specs.declared.held.Stored.{Stored}
+use Rattle.store_model.specs.declared.held.Stored.TheVariants.{Hash, Items, Members, Scores, Text}
 use Rattle.store_model.specs.declared.reply.Reply.{Reply}
 use Rattle.store_laws.proofs.Maps.{conn_or, get-insert_other, get-insert_same}
+use Rattle.command_blocks.specs.Answers.{pair_of}
 use Rattle.command_blocks.specs.Calls.{Call}
+use Rattle.command_blocks.specs.Setting.{Setting, is_queue}
 use Rattle.place_model.specs.Counts.{field_of, start_count}
 use Rattle.place_model.specs.Histories.{AllMayCome, Client, History, IsHistoryPrefix, MayCome, SystemState, after, after_entries, and_then, next, start_from, with_client}
-use Rattle.place_model.specs.Identity.{HasEnvelope, HasOrigin, In_a_list, In_the_table, IsPublished, IsPush, PushedIn}
+use Rattle.place_model.specs.Identity.{HasAnywhere, HasEnvelope, HasOrigin, held_after, held_by, held_from, In_a_list, In_the_table, IsPublished, IsPush, PushedIn}
 use Rattle.queue_keys.specs.Names.{Bytes}
 use Rattle.queue_keys.specs.QueueKeys.{Among}
 use Rattle.place_model.specs.Seen.{seen}
-use Rattle.place_model.specs.Starts.{IsSound, elements_of}
+use Rattle.place_model.specs.Starts.{IsSound, elements_at, elements_of}
 use Rattle.place_model.specs.declared.history.Entry.{Entry}
 use Rattle.place_model.specs.declared.history.Entry.TheVariants.{Call as Called, Heard, Stop}
 use Rattle.place_theorem.proofs.Effects.{Ready}
@@ -36,7 +49,61 @@ OriginIn σ m w t b = HasEnvelope σ.names m t b ⊎ IsPublished σ.names w t b
 -- what is known of each envelope that stands in the store, or that a client has in hand
 pub record AllKnown (σ : Full) (m : Keys) (w : SystemState) : Type 0 where
   pub stored : (t b : Bytes) → HasEnvelope σ.names w.store.keys t b → OriginIn σ m w t b
+  pub held : (c : ℕ) (cl : Client) (t v : Bytes) → get w.clients c ≡ Some cl → cl.stopped ≡ false → held_after σ.names None cl.calls ≡ Some (t, v) → OriginIn σ m w t (σ.names.body_of v)
   pub hands : (c : ℕ) (cl : Client) (cur : Cursor) (h : Bytes × Bytes) → get w.clients c ≡ Some cl → cl.stopped ≡ false → Runs σ Idle cl.calls cur → held_in cur ≡ Some h → OriginIn σ m w h.0 (σ.names.body_of h.1)
+
+-- ---- what a pop gives stood in a list
+
+some_same : {A : Type 0} (x y : A) → Some x ≡ Some y → x ≡ y
+some_same x y e = cc e
+
+no_pair : {A : Type 0} (x : Bytes × Bytes) → ◌≡◌ {A = Option (Bytes × Bytes)} None (Some x) → A
+no_pair x e = absurd (cc e)
+
+last_among : (x : Bytes) (xs : List Bytes) → Among (final x xs) (x ∷ xs)
+last_among x [] = inl refl
+last_among x (y ∷ ys) = inr (last_among y ys)
+
+error_pair : (text : Bytes) → pair_of (Error text) ≡ None
+unfolding layer
+error_pair text = refl
+
+null_pair : pair_of NullArray ≡ None
+unfolding layer
+null_pair = refl
+
+pair_told : (k v : Bytes) → pair_of (pair k v) ≡ Some (k, v)
+unfolding layer
+pair_told k v = refl
+
+gave_at : (m : Keys) (k : Bytes) (o : Option Stored) (later : CommandOutcome) (p : Bytes × Bytes) → value_at m k ≡ o → (pair_of later.answer ≡ Some p → Among p.1 (elements_at m p.0)) → pair_of (brpop_at m k o later).answer ≡ Some p → Among p.1 (elements_at m p.0)
+gave_at m k None later p is go h = go h
+gave_at m k (Some (Items [])) later p is go h = go h
+gave_at m k (Some (Items (x ∷ xs))) later p is go h =
+    let same : (k, final x xs) ≡ p = some_same (k, final x xs) p (sym (pair_told k (final x xs)) ∙ h) in
+    subst (λ z. Among z.1 (elements_at m z.0)) same (subst (λ z. Among (final x xs) (elements_of z)) (sym is) (last_among x xs))
+gave_at m k (Some (Text v)) later p is go h = no_pair p (sym (error_pair _) ∙ h)
+gave_at m k (Some (Members g)) later p is go h = no_pair p (sym (error_pair _) ∙ h)
+gave_at m k (Some (Hash g)) later p is go h = no_pair p (sym (error_pair _) ∙ h)
+gave_at m k (Some (Scores g)) later p is go h = no_pair p (sym (error_pair _) ∙ h)
+
+gave : (m : Keys) (ks : List Bytes) (p : Bytes × Bytes) → pair_of (brpop m ks).answer ≡ Some p → Among p.1 (elements_at m p.0)
+gave m [] p h = no_pair p (sym null_pair ∙ h)
+gave m (k ∷ ks) p h = gave_at m k (value_at m k) (brpop m ks) p refl (gave m ks p) h
+
+refused_pair : (s : State) (c : ℕ) (cn : Conn) (q : Option Queue) (text : Bytes) → pair_of (refused s c cn q (Error text)).1 ≡ None
+refused_pair s c cn None text = error_pair text
+refused_pair s c cn (Some q) text = error_pair text
+
+-- BRPOP, whatever is known of its connection
+popped_stood : (at : ℕ) (s : State) (c : ℕ) (cn : Conn) (ks : List Bytes) (q : Option Queue) (channels : List Bytes) (p : Bytes × Bytes) → pair_of (serve_by at s c cn (Brpop ks) q channels).1 ≡ Some p → Among p.1 (elements_at s.keys p.0)
+popped_stood at s c cn ks None [] p h = gave s.keys ks p h
+popped_stood at s c cn ks (Some q) [] p h = no_pair p (sym (refused_pair s c cn (Some q) _) ∙ h)
+popped_stood at s c cn ks q (x ∷ xs) p h = no_pair p (sym (refused_pair s c cn q _) ∙ h)
+
+held_more : (σ : Setting) (old : Option (Bytes × Bytes)) (xs : List Call) (x : Call) → held_after σ old (xs ++ x ∷ []) ≡ held_by σ (held_after σ old xs) (command_of x.words) x.answer
+held_more σ old [] x = refl
+held_more σ old (y ∷ xs) x = held_more σ (held_by σ old (command_of y.words) y.answer) xs x
 
 -- a publication stays one
 pub pushed_more : (σ : Full) (t b : Bytes) (xs ys : List Call) → PushedIn σ.names t b xs → PushedIn σ.names t b (xs ++ ys)
@@ -135,6 +202,30 @@ module _ (σ : Full) (base : Bytes → ℕ) (m : Keys) (w : SystemState) (inv : 
           | inr st ↦ before h.0 (σ.names.body_of h.1) st
         ]
 
+    -- what it has in hand after this one
+    held_came : (t v : Bytes) (command : Command) → command_of words ≡ command → held_by σ.names (held_after σ.names None cl.calls) command reply.answer ≡ Some (t, v) → OriginIn σ m w t (σ.names.body_of v)
+    held_came t v Exec e h = no_pair (t, v) h
+    held_came t v (Brpop ks) e h = by_pair (pair_of reply.answer) refl h where
+      stood : (p : Bytes × Bytes) → pair_of reply.answer ≡ Some p → Among p.1 (elements_at s.keys p.0)
+      stood p is = popped_stood at s c (conn s.conns c) ks (conn s.conns c).queue (conn s.conns c).channels p (ap (λ k. pair_of (serve at s c k (conn s.conns c)).1) (sym e) ∙ (sym (ap pair_of answered) ∙ is))
+
+      by_tag : (p : Bytes × Bytes) (o : Option Bytes) → is_queue σ.names p.0 ≡ true → σ.names.tag_of p.1 ≡ o → pair_of reply.answer ≡ Some p → option_map {U = Bytes × Bytes} (λ u. (u, p.1)) o ≡ Some (t, v) → OriginIn σ m w t (σ.names.body_of v)
+      by_tag p None q tag is h = no_pair (t, v) h
+      by_tag p (Some u) q tag is h =
+          let same : (u, p.1) ≡ (t, v) = some_same (u, p.1) (t, v) h in
+          let bytes : p.1 ≡ v = ap (λ z. z.1) same in
+          let told : σ.names.tag_of v ≡ Some t = ap σ.names.tag_of (sym bytes) ∙ (tag ∙ ap (λ z. Some z.0) same) in
+          before t (σ.names.body_of v) (In_a_list p.0 v q (subst (λ z. Among z (elements_at s.keys p.0)) bytes (stood p is)) told refl)
+
+      by_queue : (p : Bytes × Bytes) (b : Bool) → is_queue σ.names p.0 ≡ b → pair_of reply.answer ≡ Some p → (if b then option_map {U = Bytes × Bytes} (λ u. (u, p.1)) (σ.names.tag_of p.1) else held_after σ.names None cl.calls) ≡ Some (t, v) → OriginIn σ m w t (σ.names.body_of v)
+      by_queue p true q f h = by_tag p (σ.names.tag_of p.1) q refl f h
+      by_queue p false q f h = known.held c cl t v is runs_on h
+
+      by_pair : (o : Option (Bytes × Bytes)) → pair_of reply.answer ≡ o → held_from σ.names (held_after σ.names None cl.calls) o ≡ Some (t, v) → OriginIn σ m w t (σ.names.body_of v)
+      by_pair None f h = known.held c cl t v is runs_on h
+      by_pair (Some p) f h = by_queue p (is_queue σ.names p.0) refl f h
+    held_came t v other e h = known.held c cl t v is runs_on h
+
     -- the client's calls, with this one
     now : get (next w entry).clients c ≡ Some new
     now = ap (λ y. get y.clients c) (next_called N w c at words reply cl is) ∙ get-insert_same nat_cmp nat_cmp_total nat_cmp-IsAntisymmetric w.clients c new
@@ -149,9 +240,17 @@ module _ (σ : Full) (base : Bytes → ℕ) (m : Keys) (w : SystemState) (inv : 
         | inl o ↦ origin_kept σ m w entry t b o
         | inr push ↦ inr (c, new, now, pushed_last σ t b cl.calls x push)
       ];
+      held = λ d dl t v dis on h. origin_kept σ m w entry t (σ.names.body_of v) (in_hand_of d dl t v dis on h (conn_or d c));
       hands = λ d dl cur h dis on runs in_hand. origin_kept σ m w entry h.0 (σ.names.body_of h.1) (go d dl cur h dis on runs in_hand (conn_or d c));
     }
       where
+        in_hand_of : (d : ℕ) (dl : Client) (t v : Bytes) → get (next w entry).clients d ≡ Some dl → dl.stopped ≡ false → held_after σ.names None dl.calls ≡ Some (t, v) → (d ≡ c) ⊎ (d ≢ c) → OriginIn σ m w t (σ.names.body_of v)
+        in_hand_of d dl t v dis on h (inl e) =
+            let at_c : get (next w entry).clients c ≡ Some dl = subst (λ y. get (next w entry).clients y ≡ Some dl) e dis in
+            let they : new ≡ dl = cc (at_c, now) in
+            held_came t v (command_of words) refl (sym (held_more σ.names None cl.calls x) ∙ (ap (λ y. held_after σ.names None y.calls) they ∙ h))
+        in_hand_of d dl t v dis on h (inr n) = known.held d dl t v (sym (others d n) ∙ dis) on h
+
         go : (d : ℕ) (dl : Client) (cur : Cursor) (h : Bytes × Bytes) → get (next w entry).clients d ≡ Some dl → dl.stopped ≡ false → Runs σ Idle dl.calls cur → held_in cur ≡ Some h → (d ≡ c) ⊎ (d ≢ c) → OriginIn σ m w h.0 (σ.names.body_of h.1)
         go d dl cur h dis on runs in_hand (inl e) =
             let at_c : get (next w entry).clients c ≡ Some dl = subst (λ y. get (next w entry).clients y ≡ Some dl) e dis in
@@ -172,9 +271,18 @@ module _ (σ : Full) (base : Bytes → ℕ) (m : Keys) (w : SystemState) (inv : 
     pub known_stopped : AllKnown σ m (next {N = N} w (Stop c))
     known_stopped = record {
       stored = λ t b st. origin_kept {N = N} σ m w (Stop c) t b (known.stored t b (subst (λ y. HasEnvelope σ.names y.store.keys t b) at_stop st));
+      held = λ d dl t v dis on h. origin_kept {N = N} σ m w (Stop c) t (σ.names.body_of v) (in_hand_of d dl t v (sym (ap (λ y. get y.clients d) at_stop) ∙ dis) on h (conn_or d c));
       hands = λ d dl cur h dis on runs in_hand. origin_kept {N = N} σ m w (Stop c) h.0 (σ.names.body_of h.1) (go d dl cur h (sym (ap (λ y. get y.clients d) at_stop) ∙ dis) on runs in_hand (conn_or d c));
     }
       where
+        in_hand_of : (d : ℕ) (dl : Client) (t v : Bytes) → get (insert w.clients c halted) d ≡ Some dl → dl.stopped ≡ false → held_after σ.names None dl.calls ≡ Some (t, v) → (d ≡ c) ⊎ (d ≢ c) → OriginIn σ m w t (σ.names.body_of v)
+        in_hand_of d dl t v dis on h (inl e) =
+            let at_c : get (insert w.clients c halted) c ≡ Some dl = subst (λ y. get (insert w.clients c halted) y ≡ Some dl) e dis in
+            let they : halted ≡ dl = cc (at_c, get-insert_same nat_cmp nat_cmp_total nat_cmp-IsAntisymmetric w.clients c halted) in
+            let wrong : true ≡ false = ap (λ y. y.stopped) they ∙ on in
+            absurd (cc wrong)
+        in_hand_of d dl t v dis on h (inr n) = known.held d dl t v (sym (get-insert_other nat_cmp nat_cmp_total nat_cmp-IsAntisymmetric w.clients c halted d n) ∙ dis) on h
+
         go : (d : ℕ) (dl : Client) (cur : Cursor) (h : Bytes × Bytes) → get (insert w.clients c halted) d ≡ Some dl → dl.stopped ≡ false → Runs σ Idle dl.calls cur → held_in cur ≡ Some h → (d ≡ c) ⊎ (d ≢ c) → OriginIn σ m w h.0 (σ.names.body_of h.1)
         go d dl cur h dis on runs in_hand (inl e) =
             let at_c : get (insert w.clients c halted) c ≡ Some dl = subst (λ y. get (insert w.clients c halted) y ≡ Some dl) e dis in
@@ -188,6 +296,7 @@ module _ (σ : Full) (base : Bytes → ℕ) (m : Keys) (w : SystemState) (inv : 
 known_start : (σ : Full) (m : Keys) (cs : List (ℕ × ℕ)) → AllKnown σ m (start_from m cs)
 known_start σ m cs = record {
   stored = λ t b st. inl st;
+  held = λ c cl t v is on h. no_pair (t, v) (sym (ap (held_after σ.names None) (table_get cs c cl is).0) ∙ h);
   hands = λ c cl cur h is on runs in_hand.
       let idle : Idle ≡ cur = subst (λ l. Runs σ Idle l cur) (table_get cs c cl is).0 runs in
       let no_hand : held_in Idle ≡ Some h = subst (λ y. held_in y ≡ Some h) (sym idle) in_hand in
@@ -205,8 +314,17 @@ known_after : {N : Type 0} (σ : Full) (base : Bytes → ℕ) (m : Keys) (w : Sy
 known_after σ base m w [] rest inv known legal all = known
 known_after σ base m w (e ∷ p) rest inv known legal all = known_after σ base m (next w e) p rest (one_entry σ base w e (p ++ rest) inv legal.0 all) (one_known σ base m w e (p ++ rest) inv known legal.0 all) legal.1 all
 
--- each envelope has its origin
-pub identity : {N : Type 0} (σ : Full) (h p : History N) (t b : Bytes) → IsSound σ.names h → IsHistoryPrefix p h → HasEnvelope σ.names (after p).store.keys t b → HasOrigin σ.names p t b
-identity σ h p t b sound pre st =
+-- what is known after a prefix
+known_of : {N : Type 0} (σ : Full) (h p : History N) → IsSound σ.names h → IsHistoryPrefix p h → AllKnown σ p.start (after p)
+known_of σ h p sound pre =
     let s = parted σ h p sound pre in
-    (known_after σ (start_count σ.names p.start) p.start (start_from p.start p.clients) p.entries pre.0 (inv_begin σ p.clients p.start p.used s.start) (known_start σ p.start p.clients) s.legal (all_mannered σ (and_then p pre.0) s)).stored t b st
+    known_after σ (start_count σ.names p.start) p.start (start_from p.start p.clients) p.entries pre.0 (inv_begin σ p.clients p.start p.used s.start) (known_start σ p.start p.clients) s.legal (all_mannered σ (and_then p pre.0) s)
+
+-- each envelope in a list or in the table has its origin
+pub identity : {N : Type 0} (σ : Full) (h p : History N) (t b : Bytes) → IsSound σ.names h → IsHistoryPrefix p h → HasEnvelope σ.names (after p).store.keys t b → HasOrigin σ.names p t b
+identity σ h p t b sound pre st = (known_of σ h p sound pre).stored t b st
+
+-- and so has each that is in a hand
+pub identity_anywhere : {N : Type 0} (σ : Full) (h p : History N) (t b : Bytes) → IsSound σ.names h → IsHistoryPrefix p h → HasAnywhere σ.names (after p) t b → HasOrigin σ.names p t b
+identity_anywhere σ h p t b sound pre (inl st) = identity σ h p t b sound pre st
+identity_anywhere σ h p t b sound pre (inr g) = subst (HasOrigin σ.names p t) g.body ((known_of σ h p sound pre).held g.connection g.client t g.envelope g.known g.runs g.in_hand)

@@ -2,7 +2,7 @@
 ghost use Rattle.command_blocks.specs.Blocks.{AreBlocks, drawn_by};
 ghost use Rattle.command_blocks.specs.Calls.{Call, concat};
 ghost use Rattle.place_model.specs.Histories.{Client, History, IsHistoryPrefix, after, calls_of};
-ghost use Rattle.place_model.specs.Identity.{HasEnvelope, HasOrigin, IsNowhere, IsPublished};
+ghost use Rattle.place_model.specs.Identity.{HasAnywhere, HasOrigin, IsNowhere, IsPublished};
 ghost use Rattle.queue_keys.specs.Names.{Bytes};
 ghost use Rattle.queue_keys.specs.QueueKeys.{Among};
 ghost use Rattle.command_blocks.specs.Setting.{IsLawful, Setting};
@@ -10,10 +10,11 @@ ghost use Rattle.place_model.specs.Starts.{IsSound};
 ghost use Rattle.std.specs.FinMap.{get};
 ghost use Rattle.std.specs.Prelude.{◌≡◌, ℕ, List, Some, suc};
 
-/// Each envelope that stands in a list or in the table has the body of one that was published under its tag, or that stood in the start.
+/// Each envelope that stands in a list or in the table, or that a client has in hand, has the body of one that
+/// was published under its tag, or that stood in the start.
 pub fn origin<N>()
     ensures { (σ : Setting) → IsLawful σ → (h p : History N) (t b : Bytes) → IsSound σ h → IsHistoryPrefix p h
-        → HasEnvelope σ (after p).store.keys t b → HasOrigin σ p t b }
+        → HasAnywhere σ (after p) t b → HasOrigin σ p t b }
 {}
 
 /// What is published under one tag has one body.
@@ -22,10 +23,10 @@ pub fn one_publication<N>()
         → IsPublished σ (after p) t b → IsPublished σ (after p) t b' → b ≡ b' }
 {}
 
-/// So all envelopes of a tag in lists and table have one body.
+/// So all envelopes of a tag in lists, table and hands have one body.
 pub fn one_tree<N>()
     ensures { (σ : Setting) → IsLawful σ → (h p : History N) (t b b' : Bytes) → IsSound σ h → IsHistoryPrefix p h
-        → HasEnvelope σ (after p).store.keys t b → HasEnvelope σ (after p).store.keys t b' → b ≡ b' }
+        → HasAnywhere σ (after p) t b → HasAnywhere σ (after p) t b' → b ≡ b' }
 {}
 
 /// Where a client's calls so far are whole blocks, its next tag stands nowhere: nobody published it, and no list, no table,

@@ -48,11 +48,11 @@ abbrev pub PublishHad : Plan → List Call → PublishStage → Type 0
 PublishHad (Publish v) calls stage = (calls ≡ []) × (envelope_at v ≡ Ok (data_of stage.envelope))
 PublishHad other calls stage = ⊥
 
--- what the end of a publication tells: the tag of its message, and a queue for each of its calls
+-- what the end of a publication on the empty exchange tells: the tag of its message, and a queue for each of its calls, since each of them is a push
 abbrev pub TellsPublish : Plan → List Call → Sent → Type 0
 TellsPublish (Publish v) calls end = (d : Data) × (envelope_at v ≡ Ok d) × (end.tag.0 ≡ (parts_in d).tag) × (end.queues ≡ length calls)
 TellsPublish other calls end = ⊥
 
--- the core of the publication of an envelope's text had these calls so far
+-- the core of the publication of an envelope's text on the empty exchange had these calls so far
 abbrev pub HasPublishing : ℕ → ℕ → Bytes → List Call → BlockCore PublishStage Sent → Type 0
 HasPublishing s p v calls core = HasHad push_stage_left PublishHad TellsPublish s p (Publish v) calls core

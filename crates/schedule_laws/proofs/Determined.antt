@@ -31,7 +31,7 @@ use Rattle.schedule_laws.proofs.Decided.{fronts_decided}
 use Rattle.schedule_laws.proofs.Sounds.{desk_sound}
 
 -- the desk of what a line led to holds, and is full where it says so
-abbrev LedHolds : Setting → Led → Type 0
+abbrev pub LedHolds : Setting → Led → Type 0
 LedHolds σ (Went d) = Holds σ d
 LedHolds σ (Filled d) = Holds σ d × (is_full d.entries ≡ true)
 LedHolds σ (Bad r) = Unit {0}
@@ -40,7 +40,7 @@ true_not : {A : Type 0} → true ≡ false → A
 true_not e = absurd (cc e)
 
 -- a client that isn't off and has nothing to say has no block
-over_of : (p : Script) → is_script_off p ≡ false → has_more p ≡ false → p ≡ Over
+pub over_of : (p : Script) → is_script_off p ≡ false → has_more p ≡ false → p ≡ Over
 over_of Over e f = refl
 over_of Off e f = true_not e
 over_of (Say w go) e f = true_not f
@@ -85,7 +85,7 @@ begin_holds κ craft d c a h within (Some b) book on idle fine = by (plan_of κ 
 
 -- ---- lines
 
-below : (m : ℕ) → nat_le (2 ^ 40) m ≡ false → m < 2 ^ 40
+pub below : (m : ℕ) → nat_le (2 ^ 40) m ≡ false → m < 2 ^ 40
 below m e = grind (arith, common_steps, e)
 
 not_before : (m n : ℕ) → nat_lt m n ≡ false → n ≤ m
@@ -116,10 +116,10 @@ text_holds κ craft d line h (Some r) = tt
 text_holds κ craft d line h None = if_led κ.setting (waits κ.built (words_of line)) (Bad Later) (led_by κ d (line_in (words_of line))) tt (by_holds κ craft d h (line_in (words_of line)) (line_there (words_of line)))
 
 -- each line keeps a desk
-line_holds : (κ : Craft) (craft : IsCraft κ) (d : ScheduleReader) (line : Bytes) → Holds κ.setting d → LedHolds κ.setting (line_led κ d line)
+pub line_holds : (κ : Craft) (craft : IsCraft κ) (d : ScheduleReader) (line : Bytes) → Holds κ.setting d → LedHolds κ.setting (line_led κ d line)
 line_holds κ craft d line h = text_holds κ craft d line h (text_fault 65536 line)
 
-header_holds : (σ : Setting) (line : Bytes) (o : Option Reason) → LedHolds σ (header_led line o)
+pub header_holds : (σ : Setting) (line : Bytes) (o : Option Reason) → LedHolds σ (header_led line o)
 header_holds σ line (Some r) = tt
 header_holds σ line None = if_led σ (bytes_eq line (codes "celery-schedule 1")) (Went first_desk) (Bad Header) (first_holds σ) tt
 

@@ -1,3 +1,6 @@
+pub mod Asks
+pub mod Begun
+pub mod Steps
 pub mod Numbered
 pub mod Kept
 pub mod Worlds

@@ -1,5 +1,5 @@
 -- Each kind of block, with each of its ends, has a whole list, and a client may say all of them in a row.
-use Rattle.std.proofs.Common.{◌≡◌, ℕ, [], ◌∷◌, ◌++◌, Option, Some, None, codes, pos, true, false, refl, lit<, lit≤, inl, inr}
+use Rattle.std.proofs.Common.{◌≡◌, ℕ, [], ◌∷◌, ◌++◌, Option, Some, None, codes, pos, true, false, refl, ap, ◌∙◌, lit<, lit≤, inl, inr}
 use Rattle.std.proofs.lemmas.List.{append-nil}
 use Rattle.std.proofs.lemmas.Str.{is_utf8-from_IsUtf8}
 use Rattle.std.specs.Str.{is_utf8}
@@ -15,13 +15,16 @@ use Rattle.queue_keys.specs.Names.{Bytes, same}
 use Rattle.command_blocks.specs.PassBlocks.{All_returned, Done, Ended_early, Foreign, Held, IsReturns, Is_held, Own, Ran, Returned, Returned_until, Stuck}
 use Rattle.queue_keys.specs.Patterns.{matches}
 use Rattle.queue_keys.specs.Texts.{token}
-use Rattle.command_blocks.specs.ReturnBlocks.{Again, Contended, Eighth, Gone, IsTries, IsTry, Missing, Moved, Nowhere, Stayed, Try, Useless, Whole}
+use Rattle.command_blocks.specs.ReturnBlocks.{Again, Carries, Contended, Eighth, Gone, IsTries, IsTry, Missing, Moved, Nowhere, Stayed, Try, Useless, Whole}
 use Rattle.command_blocks.specs.RouteBlocks.{Asked, Named, Plain, Told}
 use Rattle.command_blocks.specs.TakeBlocks.{Acknowledged, Empty, IsPop, Popped, Unreadable}
 use Rattle.command_blocks.specs.declared.side.Side.{Side}
 use Rattle.command_blocks.specs.declared.side.Side.TheVariants.{Left, Right}
-use Rattle.worked_blocks.specs.Lists.{all_blocks, bindings, declared, ended, later_keys, marked_envelope, named_envelope, named_marked, passed_calls, passed_held, passed_nothing, passed_stuck, pinged, plain_envelope, popped, popped_junk, popped_nothing, published, published_to_none, published_to_two, q, released, released_altered, released_foreign, released_nobody, requeued, returned, returned_by_bindings, returned_contended, returned_gone, returned_junk, returned_late, returned_nowhere, second_gone, second_tag, message_tag}
+use Rattle.worked_blocks.specs.Lists.{all_blocks, bindings, declared, ended, later_keys, marked_envelope, named_envelope, named_marked, passed_calls, passed_held, passed_nothing, passed_stuck, pinged, plain_envelope, popped, popped_junk, popped_nothing, published, published_to_none, published_to_two, q, released, released_altered, released_foreign, released_nobody, requeued, returned, returned_by_bindings, returned_contended, returned_gone, returned_junk, returned_late, returned_nowhere, second_gone, second_tag, message_tag, ended_nothing, returned_other, returned_unnamed, unnamed_envelope}
 use Rattle.worked_blocks.specs.Toy.{toy_setting}
+
+some_is : (u v : Bytes) → ◌≡◌ {A = Option Bytes} (Some u) (Some v) → u ≡ v
+some_is u v e = cc e
 
 -- ---- declaring and publishing
 
@@ -66,6 +69,9 @@ pops_message n p = block.Pop (q ∷ []) _ (Popped 100 100 100 100 100 q later_ke
 ends : (n p : ℕ) → IsBlock toy_setting 7 n p Other ended
 ends n p = block.End message_tag _ (Acknowledged 100 100 100 100 (pos 1) (pos 1) refl)
 
+ends_nothing : (n p : ℕ) → IsBlock toy_setting 7 n p Other ended_nothing
+ends_nothing n p = block.End message_tag _ (Acknowledged 100 100 100 100 (pos 0) (pos 0) refl)
+
 -- ---- returning
 
 -- a try that goes as far as EXEC
@@ -108,8 +114,22 @@ returns_gone n p = block.Return message_tag Left Gone _ (refl, misses Left 0)
 returns_junk : (n p : ℕ) → IsBlock toy_setting 7 n p Other returned_junk
 returns_junk n p = block.Return message_tag Left Stayed _ (refl, Useless 0 100 100 100 (codes "junk") (λ v h. nothing_is_some v h.0))
 
+-- the entry is one of the second tag
+other_tag : (v : Bytes) → Carries toy_setting named_envelope message_tag v → ⊥
+other_tag v h =
+    let is : named_marked ≡ v = some_is named_marked v h.0 in
+    let tags : ◌≡◌ {A = Option Bytes} (Some second_tag) (Some message_tag) = ap (λ w. toy_setting.tag_of w) is ∙ h.1 in
+    cc tags
+
+returns_other : (n p : ℕ) → IsBlock toy_setting 7 n p Other returned_other
+returns_other n p = block.Return message_tag Left Stayed _ (refl, Useless 0 100 100 100 named_envelope other_tag)
+
 returns_nowhere : (n p : ℕ) → IsBlock toy_setting 7 n p Other returned_nowhere
 returns_nowhere n p = block.Return second_tag Left Stayed _ (refl, Nowhere 0 100 100 100 100 named_envelope (1 ∷ 7 ∷ 2 ∷ 0 ∷ 1 ∷ codes "rk") [] (refl, refl) refl)
+
+returns_unnamed : (n p : ℕ) → IsBlock toy_setting 7 n p Other returned_unnamed
+unfolding same
+returns_unnamed n p = block.Return message_tag Left Stayed _ (refl, Nowhere 0 100 100 100 100 unnamed_envelope (1 ∷ 7 ∷ 1 ∷ 0 ∷ 0 ∷ codes "unacked") [] (refl, refl) refl)
 
 returns_late : (n p : ℕ) → IsBlock toy_setting 7 n p Other returned_late
 unfolding one_try
@@ -200,75 +220,7 @@ pings n p = block.Neutral (codes "PING" ∷ []) _ (block.Answered 100 pong Pings
 -- ---- a client
 
 pub each : AreBlocks toy_setting 7 0 0 all_blocks
-each = (
-  Other,
-  adds 0 0,
-  (
-    Other,
-    removes 0 0,
-    (
-      Drawing,
-      publishes 0,
-      (
-        Drawing,
-        publishes_to_two 0,
-        (
-          Drawing,
-          publishes_to_none 0,
-          (
-            Other,
-            pops_nothing 3 0,
-            (
-              Other,
-              pops_junk 3 0,
-              (
-                Other,
-                pops_message 3 0,
-                (
-                  Other,
-                  ends 3 0,
-                  (
-                    Other,
-                    returns_message 3 0,
-                    (
-                      Other,
-                      returns_gone 3 0,
-                      (
-                        Other,
-                        returns_junk 3 0,
-                        (
-                          Other,
-                          returns_nowhere 3 0,
-                          (
-                            Other,
-                            returns_late 3 0,
-                            (
-                              Other,
-                              requeues 3 0,
-                              (
-                                Other,
-                                returns_by_bindings 3 0,
-                                (
-                                  Other,
-                                  returns_contended 3 0,
-                                  (Passing, passes_held 3, (Passing, passes 3, (Passing, passes_stuck 3, (Passing, passes_nobody 3, (Passing, passes_altered 3, (Other, pings 3 5, tt)))))),
-                                ),
-                              ),
-                            ),
-                          ),
-                        ),
-                      ),
-                    ),
-                  ),
-                ),
-              ),
-            ),
-          ),
-        ),
-      ),
-    ),
-  ),
-)
+each = (Other, adds 0 0, (Other, removes 0 0, (Drawing, publishes 0, (Drawing, publishes_to_two 0, (Drawing, publishes_to_none 0, (Other, pops_nothing 3 0, (Other, pops_junk 3 0, (Other, pops_message 3 0, (Other, ends 3 0, (Other, ends_nothing 3 0, (Other, returns_message 3 0, (Other, returns_gone 3 0, (Other, returns_junk 3 0, (Other, returns_other 3 0, (Other, returns_nowhere 3 0, (Other, returns_unnamed 3 0, (Other, returns_late 3 0, (Other, requeues 3 0, (Other, returns_by_bindings 3 0, (Other, returns_contended 3 0, (Passing, passes_held 3, (Passing, passes 3, (Passing, passes_stuck 3, (Passing, passes_nobody 3, (Passing, passes_altered 3, (Other, pings 3 5, tt))))))))))))))))))))))))))
 
 pub manner : IsMannered toy_setting 7 (concat all_blocks)
 manner = inl (all_blocks, each, ([], append-nil (concat all_blocks)))

@@ -26,6 +26,10 @@ plain_envelope = 0 ∷ 7 ∷ 1 ∷ 0 ∷ 0 ∷ codes "q"
 abbrev pub marked_envelope : Bytes
 marked_envelope = 1 ∷ 7 ∷ 1 ∷ 0 ∷ 0 ∷ codes "q"
 
+-- an envelope of the same tag on the empty exchange, whose routing key is the key of the table
+abbrev pub unnamed_envelope : Bytes
+unnamed_envelope = 0 ∷ 7 ∷ 1 ∷ 0 ∷ 0 ∷ codes "unacked"
+
 -- the second message, on the exchange ex under the routing key rk
 abbrev pub second_tag : Bytes
 second_tag = 7 ∷ 2 ∷ []
@@ -84,7 +88,16 @@ ended =
     ∷ call 100 (codes "EXEC" ∷ []) (integers (pos 1 ∷ pos 1 ∷ []))
     ∷ []
 
--- a return that moves its message, one that finds none, one that finds no entry, and one whose exchange has no queue
+-- an acknowledgement that removed nothing, since the message wasn't in the table
+abbrev pub ended_nothing : List Call
+ended_nothing =
+    call 100 (codes "MULTI" ∷ []) done
+    ∷ call 100 (codes "ZREM" ∷ codes "unacked_index" ∷ message_tag ∷ []) queued
+    ∷ call 100 (codes "HDEL" ∷ codes "unacked" ∷ message_tag ∷ []) queued
+    ∷ call 100 (codes "EXEC" ∷ []) (integers (pos 0 ∷ pos 0 ∷ []))
+    ∷ []
+
+-- a return that moves its message, and one that finds none
 abbrev pub returned : List Call
 returned =
     call 100 (codes "WATCH" ∷ codes "unacked" ∷ []) done
@@ -103,10 +116,18 @@ returned_gone =
     ∷ call 100 (codes "UNWATCH" ∷ []) done
     ∷ []
 
+-- the four that let stay what they find: no entry, the entry of another message, one whose exchange has no queue, and one on the empty exchange whose routing key is no name of a queue
 abbrev pub returned_junk : List Call
 returned_junk =
     call 100 (codes "WATCH" ∷ codes "unacked" ∷ []) done
     ∷ call 100 (codes "HGET" ∷ codes "unacked" ∷ message_tag ∷ []) (Bulk (codes "junk"))
+    ∷ call 100 (codes "UNWATCH" ∷ []) done
+    ∷ []
+
+abbrev pub returned_other : List Call
+returned_other =
+    call 100 (codes "WATCH" ∷ codes "unacked" ∷ []) done
+    ∷ call 100 (codes "HGET" ∷ codes "unacked" ∷ message_tag ∷ []) (Bulk named_envelope)
     ∷ call 100 (codes "UNWATCH" ∷ []) done
     ∷ []
 
@@ -115,6 +136,13 @@ returned_nowhere =
     call 100 (codes "WATCH" ∷ codes "unacked" ∷ []) done
     ∷ call 100 (codes "HGET" ∷ codes "unacked" ∷ second_tag ∷ []) (Bulk named_envelope)
     ∷ call 100 (codes "SMEMBERS" ∷ codes "_kombu.binding.ex" ∷ []) (bulks [])
+    ∷ call 100 (codes "UNWATCH" ∷ []) done
+    ∷ []
+
+abbrev pub returned_unnamed : List Call
+returned_unnamed =
+    call 100 (codes "WATCH" ∷ codes "unacked" ∷ []) done
+    ∷ call 100 (codes "HGET" ∷ codes "unacked" ∷ message_tag ∷ []) (Bulk unnamed_envelope)
     ∷ call 100 (codes "UNWATCH" ∷ []) done
     ∷ []
 
@@ -234,7 +262,7 @@ pinged = call 100 (codes "PING" ∷ []) pong ∷ []
 abbrev pub all_blocks : List (List Call)
 all_blocks =
     declared (codes "SADD") ∷ declared (codes "SREM") ∷ published ∷ published_to_two ∷ published_to_none
-    ∷ popped_nothing ∷ popped_junk ∷ popped ∷ ended
-    ∷ returned ∷ returned_gone ∷ returned_junk ∷ returned_nowhere ∷ returned_late
+    ∷ popped_nothing ∷ popped_junk ∷ popped ∷ ended ∷ ended_nothing
+    ∷ returned ∷ returned_gone ∷ returned_junk ∷ returned_other ∷ returned_nowhere ∷ returned_unnamed ∷ returned_late
     ∷ requeued ∷ returned_by_bindings ∷ returned_contended
     ∷ passed_held ∷ passed_calls ∷ passed_stuck ∷ passed_nothing (token 7 4) released_nobody ∷ passed_nothing (token 7 5) released_altered ∷ pinged ∷ []

@@ -1,5 +1,5 @@
 -- What `origin` ensures.
-use Rattle.place_theorem.proofs.Origins.{identity as general}
+use Rattle.place_theorem.proofs.Origins.{identity_anywhere as general}
 use Rattle.message_places.proofs.Serving.{full}
 use Rattle.message_places.proofs.identity.origin.Goals as goal
 

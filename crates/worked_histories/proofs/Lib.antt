@@ -1,0 +1,5 @@
+pub mod Listed
+pub mod Served
+pub mod Played
+pub mod Kept
+pub mod EachHistory
