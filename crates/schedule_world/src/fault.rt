@@ -1,4 +1,5 @@
 //! Why a line can't be taken.
+use client_plans::PlanFault;
 use line_text::Reason;
 use std::alloc::AllocError;
 
@@ -32,5 +33,19 @@ impl From<AllocError> for LineFault {
 
     fn from(_error: AllocError) -> LineFault {
         LineFault::Memory
+    }
+}
+
+impl From<PlanFault> for LineFault {
+    ghost use Rattle.std.specs.Prelude.{◌≡◌};
+    ghost use Rattle.schedule_world.specs.Told.{fault_of_plan};
+
+    ghost from_gives = { λ given fault. fault ≡ fault_of_plan given };
+
+    fn from(given: PlanFault) -> LineFault {
+        match given {
+            PlanFault::Bad(reason) => LineFault::Bad(reason),
+            PlanFault::Memory => LineFault::Memory,
+        }
     }
 }
