@@ -1,9 +1,9 @@
--- Lines and blocks that a number or a tag alone spells.
+-- Lines and blocks that a number or a tag alone spells. Serves the proofs of code.
 use Rattle.std.specs.Prelude.{if◌then◌else◌, bytes_eq, List, codes, Option, None}
 use Rattle.queue_keys.specs.Names.{Bytes}
 use Rattle.schedule_model.specs.Lines.{of_client, pass_in, tagged_in}
 use Rattle.schedule_model.specs.declared.line.Asked.{Asked}
-use Rattle.schedule_model.specs.declared.line.Asked.TheVariants.{Ack, Pass, Requeue, Restore}
+use Rattle.schedule_model.specs.declared.line.Asked.TheVariants.{Ack, Requeue, Restore}
 use Rattle.schedule_model.specs.declared.line.Line.{Line}
 use Rattle.schedule_model.specs.declared.line.Line.TheVariants.{Run, Step, Stop}
 

@@ -10,7 +10,7 @@ use Rattle.command_blocks.specs.EnvelopeTexts.{plain_setting}
 use Rattle.queue_keys.specs.Names.{Bytes}
 use Rattle.command_blocks.specs.Scripts.{End, Plan, Pop, Publish, Script, counter_use, script_of}
 use Rattle.schedule_model.specs.Desk as desk
-use Rattle.schedule_model.specs.Desk.{ScheduleReader, begun, with_book}
+use Rattle.schedule_model.specs.Desk.{ScheduleReader, begun}
 use Rattle.schedule_model.specs.Faults.{asked_tests, counter_of, first_reason, has_more, is_busy, is_script_off, present_tests, client_seed}
 use Rattle.schedule_model.specs.Programs.{program_craft}
 use Rattle.schedule_model.specs.Schedules.{Led, Bad, Went, led_unless, plan_of, publish_plan, with_plan}

@@ -1,5 +1,5 @@
 -- What a sealed tree says of where it goes.
-use Rattle.std.proofs.Common.{◌≡◌, ℕ, ℤ, length, codes, Option, Some, None, Result, Ok, sym, ap, ◌∙◌}
+use Rattle.std.proofs.Common.{◌≡◌, ℕ, ℤ, length, codes, Option, Some, Result, Ok, sym, ap, ◌∙◌}
 use Rattle.std.specs.Prelude.{nat_le, not}
 use Rattle.std.specs.Str.{is_utf8}
 use Rattle.serde_json.specs.Data.{Data, depth}

@@ -1,5 +1,3 @@
-use Rattle.std.proofs.Common.{◌++◌, ◌∷◌, [], sym, ap, ◌∙◌}
-use Rattle.place_model.specs.declared.history.Entry.TheVariants.{Call}
 use Rattle.schedule_past.proofs.Sayings.{more_next}
 use Rattle.client_blocks.specs.Blocks.{script_left}
 use Rattle.schedule_past.proofs.past.Past.call.Goals as goal
