@@ -1,4 +1,7 @@
 //! Why a line can't be taken.
+ghost use Rattle.std.specs.Prelude.{◌≡◌};
+ghost use Rattle.schedule_world.specs.Told.{lacked_memory};
+
 use client_plans::PlanFault;
 use line_text::Reason;
 use std::alloc::AllocError;
@@ -47,5 +50,15 @@ impl From<PlanFault> for LineFault {
             PlanFault::Bad(reason) => LineFault::Bad(reason),
             PlanFault::Memory => LineFault::Memory,
         }
+    }
+}
+
+/// Whether an answer is want of memory.
+pub(crate) fn lacked_memory(told: &Result<(), LineFault>) -> bool
+    ensures { result ≡ lacked_memory told.now }
+{
+    match told {
+        Err(LineFault::Memory) => true,
+        Err(LineFault::Bad(_)) | Err(LineFault::Full { .. }) | Ok(()) => false,
     }
 }

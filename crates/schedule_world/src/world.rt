@@ -1,11 +1,10 @@
 //! The world of a schedule: its clients, their blocks, and what happened so far.
 ghost use Rattle.place_model.specs.Shown.{history_of};
 ghost use Rattle.schedule_world.specs.Shelves.{AreKnown};
-ghost use Rattle.schedule_world.specs.Told.{lacked_memory};
-ghost use Rattle.std.specs.Prelude.{◌≡◌};
 
 use crate::LineFault;
 use crate::book::{Books, ClientBook};
+use crate::fault::lacked_memory;
 use crate::run::ScheduleRun;
 use client_blocks::BlockLeft;
 use client_plans::prepared;
@@ -31,7 +30,7 @@ pub struct World {
 
 impl World {
     ghost use Rattle.std.specs.FinMap.{get};
-    ghost use Rattle.std.specs.Prelude.{Err, Some, false, map, option_map, true};
+    ghost use Rattle.std.specs.Prelude.{◌≡◌, Err, Some, false, map, option_map, true};
     ghost use Rattle.line_text.specs.Words.{words_of};
     ghost use Rattle.schedule_model.specs.Desk.{first_desk};
     ghost use Rattle.schedule_model.specs.Faults.{is_gone};
@@ -44,7 +43,7 @@ impl World {
     ghost use Rattle.schedule_world.specs.declared.fault.LineFault.TheVariants.{Memory};
     ghost use Rattle.client_plans.specs.Plans.{IsBuiltBlock};
     ghost use Rattle.schedule_world.specs.BuiltLines.{IsBuiltLine};
-    ghost use Rattle.schedule_world.specs.Told.{IsRoom, IsTold};
+    ghost use Rattle.schedule_world.specs.Told.{IsRoom, IsTold, lacked_memory};
 
     /// A world before its first line; takes no memory.
     pub fn new(alloc: Global) -> World
@@ -237,15 +236,5 @@ impl World {
             entries: self.past.entry_count(),
             bytes: self.past.cost,
         })
-    }
-}
-
-/// Whether an answer is want of memory.
-fn lacked_memory(told: &Result<(), LineFault>) -> bool
-    ensures { result ≡ lacked_memory told.now }
-{
-    match told {
-        Err(LineFault::Memory) => true,
-        Err(LineFault::Bad(_)) | Err(LineFault::Full { .. }) | Ok(()) => false,
     }
 }

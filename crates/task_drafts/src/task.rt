@@ -1,19 +1,19 @@
 //! The task that a publish line drafts, and its sealed envelope (Celery's message protocol, version 2).
-ghost use Rattle.std.specs.Prelude.{◌≡◌, IfOk, IfSome, IsUtf8, Some, option_map, string_bytes};
+ghost use Rattle.std.specs.Prelude.{◌≡◌, IfOk, IfSome, IsUtf8, OnOk, Some, codes, option_map, string_bytes};
 ghost use Rattle.std.specs.Result.{result_ok};
 ghost use Rattle.std.specs.Str.{is_utf8};
-ghost use Rattle.serde_json.specs.Data.{Data};
-ghost use Rattle.serde_json.specs.View.{view as data_of};
+ghost use Rattle.serde_json.specs.Data.{Data, null, put as with_member, string};
+ghost use Rattle.serde_json.specs.View.{members_view, view as data_of};
 ghost use Rattle.serde_json.specs.Written.{compact_text};
 ghost use Rattle.envelope.specs.Sealed.{seal_of};
 ghost use Rattle.envelope.specs.Tags.{tag_text};
 ghost use Rattle.queue_keys.specs.Names.{Bytes};
 ghost use Rattle.schedule_model.specs.Drafts.{are_texts, arguments_of, headers_tree, if_arguments, sealed_task};
-ghost use Rattle.task_drafts.specs.Tasks.{AreTextsOf, IsDraftOf, Names, content_around, envelope_text};
+ghost use Rattle.task_drafts.specs.Tasks.{AreTextsOf, IsDraftOf, Names, alike_headers, content_around, empty_headers, envelope_text, no_limits, task_headers, with_members};
 
 use envelope::walk::{holds_float, nests_within};
 use envelope::{Draft, Envelope, EnvelopeFault, Tag, Tree, seal};
-use serde_json::{Value, json};
+use serde_json::{Map, Value, json, put};
 use std::alloc::{AllocError, Global};
 use wire_values::Bytes;
 
@@ -201,21 +201,83 @@ fn headers_of(alloc: Global, id: &str, task: &str, args: &str) -> Result<Value, 
     ensures { IfOk result (λ v. (d : Data) → args.now ≡ compact_text d
         → data_of v ≡ headers_tree id.now task.now d) }
 {
-    json!(in alloc; {
-        "argsrepr": args,
-        "eta": null,
-        "expires": null,
-        "group": null,
-        "id": id,
-        "kwargsrepr": "{}",
-        "lang": "py",
-        "origin": "node",
-        "parent_id": null,
-        "retries": 0,
-        "root_id": id,
-        "task": task,
-        "timelimit": [null, null]
-    })
+    let mut members = Map::new(alloc);
+    put_headers(alloc, &mut members, id, task, args)?;
+    Ok(Value::Object(members))
+}
+
+/// Puts the headers of a task among members.
+fn put_headers(
+    alloc: Global,
+    members: &mut Map<String, Value>,
+    id: &str,
+    task: &str,
+    args: &str,
+) -> Result<(), AllocError>
+    ensures { OnOk result (members_view members.new.entries
+        ≡ with_members (task_headers id.now task.now args.now) (members_view members.old.entries)) }
+{
+    put_text(alloc, members, "argsrepr", args)?;
+    put_text(alloc, members, "id", id)?;
+    put_text(alloc, members, "root_id", id)?;
+    put_text(alloc, members, "task", task)?;
+    put_kinds(alloc, members)?;
+    put_nothing(alloc, members)
+}
+
+/// Puts the headers that each task has alike among members.
+fn put_kinds(alloc: Global, members: &mut Map<String, Value>) -> Result<(), AllocError>
+    ensures { OnOk result (members_view members.new.entries
+        ≡ with_members alike_headers (members_view members.old.entries)) }
+{
+    put_text(alloc, members, "kwargsrepr", "{}")?;
+    put_text(alloc, members, "lang", "py")?;
+    put_text(alloc, members, "origin", "node")?;
+    let retries = json!(in alloc; 0)?;
+    put(members, alloc, "retries", retries)
+}
+
+/// Puts the headers that say nothing among members.
+fn put_nothing(alloc: Global, members: &mut Map<String, Value>) -> Result<(), AllocError>
+    ensures { OnOk result (members_view members.new.entries
+        ≡ with_members empty_headers (members_view members.old.entries)) }
+{
+    put_null(alloc, members, "eta")?;
+    put_null(alloc, members, "expires")?;
+    put_null(alloc, members, "group")?;
+    put_null(alloc, members, "parent_id")?;
+    put_limits(alloc, members)
+}
+
+/// Puts two time limits that say nothing among members.
+fn put_limits(alloc: Global, members: &mut Map<String, Value>) -> Result<(), AllocError>
+    ensures { OnOk result (members_view members.new.entries
+        ≡ with_member (codes "timelimit") no_limits (members_view members.old.entries)) }
+{
+    let limits = json!(in alloc; [null, null])?;
+    put(members, alloc, "timelimit", limits)
+}
+
+/// Puts a name that says nothing among members.
+fn put_null(alloc: Global, members: &mut Map<String, Value>, name: &str) -> Result<(), AllocError>
+    ensures { OnOk result (members_view members.new.entries
+        ≡ with_member name.now null (members_view members.old.entries)) }
+{
+    put(members, alloc, name, Value::Null)
+}
+
+/// Puts a text under a name among members.
+fn put_text(
+    alloc: Global,
+    members: &mut Map<String, Value>,
+    name: &str,
+    text: &str,
+) -> Result<(), AllocError>
+    ensures { OnOk result (members_view members.new.entries
+        ≡ with_member name.now (string text.now) (members_view members.old.entries)) }
+{
+    let text = json!(in alloc; text)?;
+    put(members, alloc, name, text)
 }
 
 /// The envelope of a draft under a tag. None where it is refused.

@@ -1,4 +1,4 @@
-use Rattle.client_plans.proofs.Prepared.{each_lawful}
+use Rattle.client_plans.proofs.Preparing.{each_lawful}
 use Rattle.client_plans.proofs.names.queue_names.Goals as goal
 
 pub queue_name-requires : goal.queue_name-requires

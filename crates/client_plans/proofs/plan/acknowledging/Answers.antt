@@ -1,5 +1,5 @@
 use Rattle.std.proofs.Common.{refl}
-use Rattle.client_plans.proofs.Prepared.{acknowledged}
+use Rattle.client_plans.proofs.Preparing.{acknowledged}
 use Rattle.client_plans.proofs.plan.acknowledging.Goals as goal
 
 pub returns : goal.returns

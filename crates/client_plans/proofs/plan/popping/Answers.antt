@@ -4,7 +4,7 @@ use Rattle.command_blocks.specs.EnvelopeTexts.{plain_setting}
 use Rattle.queue_keys.specs.Names.{is_name, is_reserved}
 use Rattle.command_blocks.specs.Scripts.{pop_script}
 use Rattle.schedule_model.specs.Faults.{is_no_name}
-use Rattle.client_plans.proofs.Prepared.{all_lawful, popped}
+use Rattle.client_plans.proofs.Preparing.{all_lawful, popped}
 use Rattle.client_plans.proofs.plan.popping.Goals as goal
 
 pub queue_names-requires : goal.queue_names-requires

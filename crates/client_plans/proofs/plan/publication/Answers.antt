@@ -3,7 +3,7 @@ use Rattle.serde_json.specs.View.{view as data_of}
 use Rattle.queue_keys.specs.Names.{is_reserved}
 use Rattle.schedule_model.specs.Drafts.{arguments_of}
 use Rattle.schedule_model.specs.Faults.{is_no_name}
-use Rattle.client_plans.proofs.Prepared.{same_prepared}
+use Rattle.client_plans.proofs.Preparing.{same_prepared}
 use Rattle.client_plans.proofs.plan.publication.Goals as goal
 
 pub sealing-requires-clause-direct : goal.sealing-requires-clause-direct

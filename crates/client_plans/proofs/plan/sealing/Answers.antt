@@ -1,7 +1,7 @@
 use Rattle.std.proofs.Common.{rules, ◌≡◌, suc, Some, option_map, sym, ap, ◌∙◌}
 use Rattle.task_drafts.specs.Tasks.{envelope_text}
 use Rattle.schedule_model.specs.Drafts.{sealed_task}
-use Rattle.client_plans.proofs.Prepared.{bad_task, published}
+use Rattle.client_plans.proofs.Preparing.{bad_task, published}
 use Rattle.client_plans.proofs.plan.sealing.Goals as goal
 
 pub returns-in-None-2 : goal.returns-in-None-2
