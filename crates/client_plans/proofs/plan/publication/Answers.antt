@@ -1,4 +1,4 @@
-use Rattle.std.proofs.Common.{◌≡◌, false, Some, option_map, sym, ap, ◌∙◌}
+use Rattle.std.proofs.Common.{◌≡◌, Some, option_map, sym, ap, ◌∙◌}
 use Rattle.serde_json.specs.View.{view as data_of}
 use Rattle.queue_keys.specs.Names.{is_reserved}
 use Rattle.schedule_model.specs.Drafts.{arguments_of}
