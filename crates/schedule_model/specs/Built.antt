@@ -9,11 +9,7 @@ pub record Built : Type 0 where
   pub blocks : List Bytes
   pub exchanges : Bool
 
--- publishers alone, on the empty exchange
-abbrev pub publishers : Built
-publishers = record { lines = codes "client" ∷ codes "at" ∷ codes "begin" ∷ codes "run" ∷ []; blocks = codes "publish" ∷ []; exchanges = false }
-
--- the same and one worker, which pops and acknowledges
+-- publishers on the empty exchange, and one worker, which pops and acknowledges
 abbrev pub workers : Built
 workers = record {
   lines = codes "client" ∷ codes "at" ∷ codes "begin" ∷ codes "run" ∷ codes "step" ∷ [];

@@ -2,7 +2,7 @@
 use wire_values::{Bytes, Words};
 
 /// What a line begins: a block of a client's commands.
-#[derive(Debug, Drop)]
+#[derive(Drop)]
 pub enum Asked {
     /// A message is published.
     Publish {
@@ -52,7 +52,7 @@ pub enum Asked {
 }
 
 /// A line after the header. A client is its number, from 1 to 4,096.
-#[derive(Debug, Drop)]
+#[derive(Drop)]
 pub enum Line {
     /// A client more, with its seed from 1 to 2^62.
     Client { client: u32, seed: u64 },

@@ -10,7 +10,7 @@ use Rattle.command_blocks.specs.EnvelopeTexts.{plain_setting}
 use Rattle.queue_keys.specs.Names.{Bytes}
 use Rattle.command_blocks.specs.Scripts.{End, Plan, Pop, Publish, Script, counter_use, script_of}
 use Rattle.schedule_model.specs.Desk as desk
-use Rattle.schedule_model.specs.Desk.{ScheduleReader, begun, with_book}
+use Rattle.schedule_model.specs.Desk.{ScheduleReader, begun}
 use Rattle.schedule_model.specs.Faults.{asked_tests, counter_of, first_reason, has_more, is_busy, is_script_off, present_tests, client_seed}
 use Rattle.schedule_model.specs.Programs.{program_craft}
 use Rattle.schedule_model.specs.Schedules.{Led, Bad, Went, led_unless, plan_of, publish_plan, with_plan}
@@ -18,19 +18,20 @@ use Rattle.schedule_model.specs.declared.line.Asked.{Asked}
 use Rattle.schedule_model.specs.declared.line.Asked.TheVariants as asked
 use Rattle.schedule_model.specs.declared.line.Line.TheVariants.{Begin}
 use Rattle.schedule_world.proofs.Shelved.{books_of-insert, get-books_of}
-use Rattle.schedule_world.specs.Blocks.{script_left}
+use Rattle.client_blocks.specs.Blocks.{script_left}
 use Rattle.schedule_world.specs.Books.{book_of, books_of}
-use Rattle.schedule_world.specs.Desks.{desk_with}
-use Rattle.schedule_world.specs.Plans.{IsBegun, IsBuiltBlock, IsPrepared}
+use Rattle.schedule_past.specs.Desks.{desk_with}
+use Rattle.client_plans.specs.Plans.{IsBegun, IsBuiltBlock, IsPrepared}
 use Rattle.schedule_world.specs.Rests.{IsResting}
 use Rattle.schedule_world.specs.Shelves.{Shelf}
-use Rattle.schedule_world.specs.Told.{IsTold}
+use Rattle.schedule_world.specs.Told.{IsTold, fault_of_plan}
 use Rattle.schedule_world.specs.declared.book.ClientBook.{ClientBook}
 use Rattle.schedule_world.specs.declared.fault.LineFault.{LineFault}
-use Rattle.schedule_world.specs.declared.fault.LineFault.TheVariants as fault
-use Rattle.schedule_world.specs.declared.left.Left.{Left}
-use Rattle.schedule_world.specs.declared.past.Past.{Past}
-use Rattle.schedule_world.specs.declared.plan.Begun.{Begun}
+use Rattle.client_plans.specs.declared.fault.PlanFault.{PlanFault}
+use Rattle.client_plans.specs.declared.fault.PlanFault.TheVariants as fault
+use Rattle.client_blocks.specs.declared.left.BlockLeft.{BlockLeft}
+use Rattle.schedule_past.specs.declared.past.Past.{Past}
+use Rattle.client_plans.specs.declared.plan.BegunBlock.{BegunBlock}
 
 no_error : false ≡ true → ⊥
 no_error e = cc
@@ -75,7 +76,7 @@ passes_kept s n (asked.Restore a b) p h e = absurd h
 passes_kept s n (asked.Requeue a b) p h e = absurd h
 passes_kept s n (asked.Pass v) p h e = absurd h
 
-module _ (past : Past) (m t : Shelf) (c s n : ℕ) (l : Left) (a : Asked) (found : get m c ≡ Some (record { seed = s; drawn = n; left = l })) (on : is_script_off (script_left l) ≡ false) (free : has_more (script_left l) ≡ false) where
+module _ (past : Past) (m t : Shelf) (c s n : ℕ) (l : BlockLeft) (a : Asked) (found : get m c ≡ Some (record { seed = s; drawn = n; left = l })) (on : is_script_off (script_left l) ≡ false) (free : has_more (script_left l) ≡ false) where
   abbrev before : ScheduleReader
   before = desk_with past (books_of m)
 
@@ -92,18 +93,17 @@ module _ (past : Past) (m t : Shelf) (c s n : ℕ) (l : Left) (a : Asked) (found
   pub asked_bad : (r : Reason) → first_reason (asked_tests program_craft s (suc n) a) ≡ Some r → begin_led before c a (get (books_of m) c) ≡ Bad r
   asked_bad r e = ap (led_unless program_craft before (Begin c a)) (reason_is ∙ e)
 
-  prepared_told : (f : LineFault) → IsPrepared s n a (Err f) → IsTold (begin_led before c a (get (books_of m) c)) before before (Err f)
+  prepared_told : (f : PlanFault) → IsPrepared s n a (Err f) → IsTold (begin_led before c a (get (books_of m) c)) before before (Err (fault_of_plan f))
   prepared_told (fault.Bad r) h = (asked_bad r h, refl)
-  prepared_told (fault.Full k cost) h = absurd h
   prepared_told fault.Memory h = tt
 
   -- what is answered then, or for want of memory
-  pub unprepared : (f : LineFault) (r : Result (Unit {0}) LineFault) → IsErr r → IsErrAnd r (λ g. g ≡ f) → IsPrepared s n a (Err f) → IsTold (begin_led before c a (get (books_of m) c)) before before r
+  pub unprepared : (f : PlanFault) (r : Result (Unit {0}) LineFault) → IsErr r → IsErrAnd r (λ g. g ≡ fault_of_plan f) → IsPrepared s n a (Err f) → IsTold (begin_led before c a (get (books_of m) c)) before before r
   unprepared f (Ok u) e h p = absurd (no_error e)
   unprepared f (Err g) e h p = subst (λ x. IsTold (begin_led before c a (get (books_of m) c)) before before (Err x)) (sym h) (prepared_told f p)
 
   -- the book of a client that begins a plan
-  book_begun : (b : Begun) (p : Plan) → passes_after (counter_use p) 0 ≡ 0 → IsBegun s n p b → begun plain_setting there p ≡ book_of (record { seed = s; drawn = b.drawn; left = b.left })
+  book_begun : (b : BegunBlock) (p : Plan) → passes_after (counter_use p) 0 ≡ 0 → IsBegun s n p b → begun plain_setting there p ≡ book_of (record { seed = s; drawn = b.drawn; left = b.left })
   book_begun b p e h =
       let x : desk.ClientBook = record { seed = s; drawn = b.drawn; passes = 0; left = script_left b.left; stopped = false } in
       ap (λ (q : ℕ). record x { drawn = drawn (counter_use p) n; passes = q; left = script_of plain_setting s 0 p }) e
@@ -111,7 +111,7 @@ module _ (past : Past) (m t : Shelf) (c s n : ℕ) (l : Left) (a : Asked) (found
       ∙ ap (λ (q : Script). record x { left = q }) (sym h.0)
 
   -- a block that is begun
-  pub asked_went : (b : Begun) (p : Plan) → IsBuiltBlock a → first_reason (asked_tests program_craft s (suc n) a) ≡ None → plan_of program_craft s (suc n) a ≡ Some p → IsBegun s n p b
+  pub asked_went : (b : BegunBlock) (p : Plan) → IsBuiltBlock a → first_reason (asked_tests program_craft s (suc n) a) ≡ None → plan_of program_craft s (suc n) a ≡ Some p → IsBegun s n p b
       → t ≡ insert m c (record { seed = s; drawn = b.drawn; left = b.left }) → begin_led before c a (get (books_of m) c) ≡ Went (desk_with past (books_of t))
   asked_went b p built none plan h grown =
       let k : ClientBook = record { seed = s; drawn = b.drawn; left = b.left } in

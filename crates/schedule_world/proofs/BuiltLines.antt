@@ -13,7 +13,8 @@ use Rattle.schedule_model.specs.declared.line.Asked.{Asked}
 use Rattle.schedule_model.specs.declared.line.Asked.TheVariants.{Ack, Pop, Publish}
 use Rattle.schedule_model.specs.declared.line.Line.{Line}
 use Rattle.schedule_model.specs.declared.line.Line.TheVariants.{At, Begin, Client, Run, Step, Stop}
-use Rattle.schedule_world.specs.Plans.{IsBuiltBlock, IsBuiltLine}
+use Rattle.client_plans.specs.Plans.{IsBuiltBlock}
+use Rattle.schedule_world.specs.BuiltLines.{IsBuiltLine}
 
 true_false : true ≡ false → ⊥
 true_false e = cc

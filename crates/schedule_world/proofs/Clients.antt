@@ -15,14 +15,13 @@ use Rattle.schedule_model.specs.Schedules.{Bad, Went, led_unless}
 use Rattle.schedule_model.specs.declared.line.Line.TheVariants.{Client}
 use Rattle.schedule_world.proofs.Known.{still}
 use Rattle.schedule_world.proofs.Shelved.{books_of-insert}
-use Rattle.schedule_world.specs.Blocks.{script_left}
+use Rattle.client_blocks.specs.Blocks.{script_left}
 use Rattle.schedule_world.specs.Books.{books_of}
-use Rattle.schedule_world.specs.Desks.{desk_with}
-use Rattle.schedule_world.specs.Running.{AreKnown}
-use Rattle.schedule_world.specs.Shelves.{Shelf}
+use Rattle.schedule_past.specs.Desks.{desk_with}
+use Rattle.schedule_world.specs.Shelves.{AreKnown, Shelf}
 use Rattle.schedule_world.specs.declared.book.ClientBook.{ClientBook}
-use Rattle.schedule_world.specs.declared.left.Left.{Left}
-use Rattle.schedule_world.specs.declared.past.Past.{Past}
+use Rattle.client_blocks.specs.declared.left.BlockLeft.{BlockLeft}
+use Rattle.schedule_past.specs.declared.past.Past.{Past}
 
 -- the reason why no client is added
 abbrev pub client_reason : Bool → Bool → Option Reason
@@ -38,7 +37,7 @@ pub client_led : (d : ScheduleReader) (c s : ℕ) (g b : Bool) → g ≡ false �
 client_led d c s g b e f = ap (λ t. led_unless program_craft d (Client c s) (client_reason t b)) e ∙ ap (λ t. led_unless program_craft d (Client c s) (client_reason false t)) f
 
 -- a client more at a desk
-pub added : (p p' : Past) (m t : Shelf) (c s : ℕ) (l : Left) → script_left l ≡ Over → t ≡ insert m c (record { seed = s; drawn = 0; left = l })
+pub added : (p p' : Past) (m t : Shelf) (c s : ℕ) (l : BlockLeft) → script_left l ≡ Over → t ≡ insert m c (record { seed = s; drawn = 0; left = l })
     → ((bs : FinMap nat_cmp desk.ClientBook) → desk_with p' bs ≡ record (desk_with p bs) { clients = (history_of p.history).clients ++ (c, s) ∷ [] })
     → reader_with_client (desk_with p (books_of m)) c s ≡ desk_with p' (books_of t)
 added p p' m t c s l over e grown =

@@ -1,5 +1,5 @@
 -- Lines with their numbers determine what the lines determine.
-use Rattle.std.proofs.Common.{◌≡◌, ℕ, ◌+◌, ◌∙◌, Bool, true, false, List, [], ◌∷◌, Result, Option, Some, None, zero, suc, length, take, ◌≤◌, arith, MatchOption, is_some, not, refl, ap, sym, subst}
+use Rattle.std.proofs.Common.{◌≡◌, ℕ, ◌+◌, ◌∙◌, Bool, true, false, List, [], ◌∷◌, Option, Some, None, zero, suc, length, take, ◌≤◌, arith, MatchOption, is_some, not, refl, ap, sym, subst}
 use Rattle.std.specs.Borrow.{Bor}
 use Rattle.line_text.specs.Lines.{numbered, text_fault}
 use Rattle.queue_keys.specs.Names.{Bytes}

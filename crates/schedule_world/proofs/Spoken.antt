@@ -17,17 +17,16 @@ use Rattle.schedule_model.specs.declared.line.Line.TheVariants.{Run, Step}
 use Rattle.schedule_world.proofs.Known.{one_less_known, one_more_known}
 use Rattle.schedule_world.proofs.Shelved.{books_of_again, get-books_of}
 use Rattle.schedule_world.proofs.Taken.{known_same}
-use Rattle.schedule_world.specs.Blocks.{script_left}
+use Rattle.client_blocks.specs.Blocks.{script_left}
 use Rattle.schedule_world.specs.Books.{book_of, books_of}
-use Rattle.schedule_world.specs.Desks.{desk_with}
-use Rattle.schedule_world.specs.Running.{AreKnown}
-use Rattle.schedule_world.specs.Shelves.{Shelf}
+use Rattle.schedule_past.specs.Desks.{desk_with}
+use Rattle.schedule_world.specs.Shelves.{AreKnown, Shelf}
 use Rattle.schedule_world.specs.Told.{IsRoom, IsTold}
 use Rattle.schedule_world.specs.declared.book.ClientBook.{ClientBook}
 use Rattle.schedule_world.specs.declared.fault.LineFault.{LineFault}
 use Rattle.schedule_world.specs.declared.fault.LineFault.TheVariants.{Bad, Full, Memory}
-use Rattle.schedule_world.specs.declared.left.Left.{Left}
-use Rattle.schedule_world.specs.declared.past.Past.{Past}
+use Rattle.client_blocks.specs.declared.left.BlockLeft.{BlockLeft}
+use Rattle.schedule_past.specs.declared.past.Past.{Past}
 
 false_true : false ≡ true → ⊥
 false_true e = cc
@@ -52,7 +51,7 @@ told_room l d e room (Err (Bad w)) h q = absurd q
 told_room l d e room (Err (Full n k)) h q = (h ∙ ap (λ b. if b then Went e else Filled e) q.0, q.1, q.2)
 told_room l d e room (Err Memory) h q = absurd q
 
-module _ (p p' : Past) (m n : Shelf) (c : ℕ) (k : ClientBook) (l : Left) (room : Bool) (found : get m c ≡ Some k) (free : idle_reason (option_map book_of (get m c)) ≡ None) (grown : n ≡ insert (remove m c) c (record { seed = k.seed; drawn = k.drawn; left = l })) where
+module _ (p p' : Past) (m n : Shelf) (c : ℕ) (k : ClientBook) (l : BlockLeft) (room : Bool) (found : get m c ≡ Some k) (free : idle_reason (option_map book_of (get m c)) ≡ None) (grown : n ≡ insert (remove m c) c (record { seed = k.seed; drawn = k.drawn; left = l })) where
   abbrev before : ScheduleReader
   before = desk_with p (books_of m)
 

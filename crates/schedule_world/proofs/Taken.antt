@@ -1,29 +1,18 @@
 -- What lines lead to, over plain variables.
-use Rattle.std.proofs.Common.{◌≡◌, ℕ, suc, ◌<◌, ◌≤◌, ◌^◌, List, Bool, true, false, ◌&&◌, refl, sym, ap, ◌∙◌, None, Some, Ok, arith}
+use Rattle.std.proofs.Common.{◌≡◌, ℕ, ◌<◌, ◌≤◌, ◌^◌, List, Bool, true, false, sym, ap, ◌∙◌, None, Some, arith}
 use Rattle.std.specs.Prelude.{◌||◌, if◌then◌else◌, is_some, nat_le, nat_lt, option_map}
 use Rattle.std.specs.FinMap.{get, empty, get-empty}
-use Rattle.std.specs.List.{list_any}
 use Rattle.std.specs.Ordering.{nat_cmp}
 use Rattle.std.proofs.lemmas.Bool.Decides.{nat_tests}
 use Rattle.line_text.specs.declared.reason.Reason.TheVariants.{Moment}
-use Rattle.command_blocks.specs.EnvelopeTexts.{plain_setting}
-use Rattle.queue_keys.specs.Names.{Bytes, is_reserved}
-use Rattle.command_blocks.specs.Scripts.{Pop, Publish, pop_script, publish_script}
 use Rattle.schedule_model.specs.Desk.{ScheduleReader}
-use Rattle.schedule_model.specs.Drafts.{arguments_of, sealed_task}
-use Rattle.schedule_model.specs.Faults.{has_number, is_empty, is_gone, is_no_name}
+use Rattle.schedule_model.specs.Faults.{has_number, is_gone}
 use Rattle.schedule_model.specs.Programs.{program_craft}
-use Rattle.schedule_model.specs.Schedules.{Went, led_unless, publish_plan}
-use Rattle.schedule_model.specs.declared.line.Asked.TheVariants as asked
+use Rattle.schedule_model.specs.Schedules.{Went, led_unless}
 use Rattle.schedule_model.specs.declared.line.Line.TheVariants.{At}
-use Rattle.serde_json.specs.Data.{Data}
 use Rattle.schedule_world.proofs.Shelved.{get-books_of}
-use Rattle.schedule_world.specs.Blocks.{script_left}
 use Rattle.schedule_world.specs.Books.{book_of, books_of}
-use Rattle.schedule_world.specs.Plans.{IsPrepared}
-use Rattle.schedule_world.specs.Running.{AreKnown}
-use Rattle.schedule_world.specs.Shelves.{Shelf}
-use Rattle.schedule_world.specs.declared.plan.Begun.{Begun}
+use Rattle.schedule_world.specs.Shelves.{AreKnown, Shelf}
 
 false_true : false ≡ true → ⊥
 false_true e = cc
@@ -47,14 +36,3 @@ at_led d m b e = ap (λ t. led_unless program_craft d (At m) (if t then Some Mom
 -- whether a client is put off, by its book
 pub gone_is : (m : Shelf) (c : ℕ) (b : Bool) → is_gone (option_map book_of (get m c)) ≡ b → is_gone (get (books_of m) c) ≡ b
 gone_is m c b e = ap is_gone (get-books_of m c) ∙ e
-
--- a pop over lawful names
-pub popped : (s n : ℕ) (qs names : List Bytes) (b : Begun) → list_any is_no_name qs ≡ false → list_any is_reserved qs ≡ false → names ≡ qs
-    → script_left b.left ≡ pop_script plain_setting names → b.drawn ≡ n → IsPrepared s n (asked.Pop qs) (Ok b)
-popped s n qs names b named free e left drawn = (rw (named, free) refl, (Pop qs, refl, (left ∙ ap (pop_script plain_setting) e, drawn)))
-
--- a publication that is sealed
-pub published : (s n : ℕ) (x k : Bytes) (p : ℕ) (t j : Bytes) (d : Data) (v : Bytes) (b : Begun)
-    → (is_empty x && is_no_name k) ≡ false → (is_empty x && is_reserved k) ≡ false → arguments_of j ≡ Some d → sealed_task s (suc n) x k p t j ≡ Some v
-    → script_left b.left ≡ publish_script plain_setting v → b.drawn ≡ suc n → IsPrepared s n (asked.Publish x k p t j) (Ok b)
-published s n x k p t j d v b named free spelled sealed_so left drawn = (rw (named, free, spelled, sealed_so) refl, (Publish v, ap publish_plan sealed_so, (left, drawn)))

@@ -3,7 +3,7 @@ use Rattle.std.specs.Prelude.{false, map}
 use Rattle.std.specs.FinMap.{FinMap, entries, from_entries}
 use Rattle.std.specs.Ordering.{nat_cmp}
 use Rattle.schedule_model.specs.Desk as desk
-use Rattle.schedule_world.specs.Blocks.{script_left}
+use Rattle.client_blocks.specs.Blocks.{script_left}
 use Rattle.schedule_world.specs.Shelves.{Shelf}
 use Rattle.schedule_world.specs.declared.book.ClientBook.{ClientBook}
 

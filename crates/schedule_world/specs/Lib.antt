@@ -1,14 +1,7 @@
-pub mod Bindings
-pub mod Blocks
 pub mod Books
+pub mod BuiltLines
 pub mod Desks
-pub mod Lefts
-pub mod Rooms
-pub mod Plans
 pub mod Rests
-pub mod Running
 pub mod Runs
 pub mod Shelves
-pub mod Simple
-pub mod Tasks
 pub mod Told

@@ -4,7 +4,7 @@ use Rattle.line_text.specs.declared.reason.Reason.{Reason}
 use Rattle.line_text.specs.declared.reason.Reason.TheVariants.{Busy, Idle}
 use Rattle.schedule_model.specs.Faults.{Test, first_reason, has_more, is_busy, is_script_off, present_tests}
 use Rattle.schedule_world.specs.Books.{book_of}
-use Rattle.schedule_world.specs.Blocks.{script_left}
+use Rattle.client_blocks.specs.Blocks.{script_left}
 use Rattle.schedule_world.specs.declared.book.ClientBook.{ClientBook}
 
 -- an answer to whether a client may begin a block, by its book: its seed and how many tags it drew, or the first test of a line that begins one, whatever others follow

@@ -1,5 +1,7 @@
--- What taking a line answers. Serves the proofs of code.
+-- What taking a line answers.
 use Rattle.std.specs.Prelude.{◌≡◌, Bool, false, true, Result, Ok, Err, length}
+use Rattle.client_plans.specs.declared.fault.PlanFault.{PlanFault}
+use Rattle.client_plans.specs.declared.fault.PlanFault.TheVariants as plan
 use Rattle.schedule_model.specs.Costs.{total_cost}
 use Rattle.schedule_model.specs.Desk.{ScheduleReader}
 use Rattle.schedule_model.specs.Schedules.{Led, Went, Filled}
@@ -19,3 +21,13 @@ abbrev pub IsRoom : ScheduleReader → Bool → Result Unit LineFault → Type 0
 IsRoom e room (Ok done) = room ≡ true
 IsRoom e room (Err (Full n cost)) = (room ≡ false) × (n ≡ length e.entries) × (cost ≡ total_cost e.entries)
 IsRoom e room (Err other) = ⊥
+
+-- why a block can't be begun, as the fault of its line
+abbrev pub fault_of_plan : PlanFault → LineFault
+fault_of_plan (plan.Bad r) = Bad r
+fault_of_plan plan.Memory = Memory
+
+-- whether an answer is want of memory
+abbrev pub lacked_memory : Result Unit LineFault → Bool
+lacked_memory (Err Memory) = true
+lacked_memory other = false

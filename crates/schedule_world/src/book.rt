@@ -4,7 +4,7 @@ ghost use Rattle.std.specs.Option.{option_copied};
 ghost use Rattle.std.specs.Prelude.{◌≡◌, OnErr, OnOk};
 ghost use Rattle.schedule_world.specs.Rests.{IsBusy, IsResting};
 
-use crate::left::Left;
+use client_blocks::BlockLeft;
 use line_text::Reason;
 use std::alloc::{AllocError, Global};
 use std::collections::BTreeMap;
@@ -15,7 +15,7 @@ use std::marker::Model;
 pub(crate) struct ClientBook {
     pub(crate) seed: u64,
     pub(crate) drawn: u64,
-    pub(crate) left: Left,
+    pub(crate) left: BlockLeft,
 }
 
 /// The clients' books by their numbers, seen by contracts as a finite map.

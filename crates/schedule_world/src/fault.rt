@@ -1,4 +1,8 @@
 //! Why a line can't be taken.
+ghost use Rattle.std.specs.Prelude.{◌≡◌};
+ghost use Rattle.schedule_world.specs.Told.{lacked_memory};
+
+use client_plans::PlanFault;
 use line_text::Reason;
 use std::alloc::AllocError;
 
@@ -32,5 +36,29 @@ impl From<AllocError> for LineFault {
 
     fn from(_error: AllocError) -> LineFault {
         LineFault::Memory
+    }
+}
+
+impl From<PlanFault> for LineFault {
+    ghost use Rattle.std.specs.Prelude.{◌≡◌};
+    ghost use Rattle.schedule_world.specs.Told.{fault_of_plan};
+
+    ghost from_gives = { λ given fault. fault ≡ fault_of_plan given };
+
+    fn from(given: PlanFault) -> LineFault {
+        match given {
+            PlanFault::Bad(reason) => LineFault::Bad(reason),
+            PlanFault::Memory => LineFault::Memory,
+        }
+    }
+}
+
+/// Whether an answer is want of memory.
+pub(crate) fn lacked_memory(told: &Result<(), LineFault>) -> bool
+    ensures { result ≡ lacked_memory told.now }
+{
+    match told {
+        Err(LineFault::Memory) => true,
+        Err(LineFault::Bad(_)) | Err(LineFault::Full { .. }) | Ok(()) => false,
     }
 }

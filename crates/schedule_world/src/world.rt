@@ -1,35 +1,36 @@
 //! The world of a schedule: its clients, their blocks, and what happened so far.
 ghost use Rattle.place_model.specs.Shown.{history_of};
-ghost use Rattle.schedule_world.specs.Running.{AreKnown};
+ghost use Rattle.schedule_world.specs.Shelves.{AreKnown};
 
 use crate::LineFault;
 use crate::book::{Books, ClientBook};
-use crate::built::waits;
-use crate::left::Left;
-use crate::line::line_of;
-use crate::past::Past;
-use crate::plan::prepared;
+use crate::fault::lacked_memory;
 use crate::run::ScheduleRun;
+use client_blocks::BlockLeft;
+use client_plans::prepared;
 use letters::Letters;
 use line_text::{LINE_LIMIT, MOMENT_LIMIT, Reason, line_text, words};
 use place_model::History;
+use schedule_lines::{line_of, waits};
 use schedule_model::{Asked, Line};
+use schedule_past::Past;
 use std::alloc::Global;
 
 /// A schedule being taken line by line: contracts see the desk of its reader.
 ///
-/// After want of memory the world is spent: what its desk is then isn't told.
+/// After want of memory the world is spent: what its desk is then isn't told, and it takes no line any more.
 #[derive(Drop)]
 pub struct World {
     past: Past,
     books: Books,
     letters: Letters,
+    spent: bool,
     ghost known: { AreKnown books (history_of past.history).clients },
 }
 
 impl World {
     ghost use Rattle.std.specs.FinMap.{get};
-    ghost use Rattle.std.specs.Prelude.{◌≡◌, Some, option_map};
+    ghost use Rattle.std.specs.Prelude.{◌≡◌, Err, Some, false, map, option_map, true};
     ghost use Rattle.line_text.specs.Words.{words_of};
     ghost use Rattle.schedule_model.specs.Desk.{first_desk};
     ghost use Rattle.schedule_model.specs.Faults.{is_gone};
@@ -38,18 +39,22 @@ impl World {
     ghost use Rattle.schedule_model.specs.Schedules as schedules;
     ghost use Rattle.schedule_model.specs.declared.line.Line.TheVariants.{At, Begin, Client, Run, Step};
     ghost use Rattle.schedule_world.specs.Books.{book_of};
-    ghost use Rattle.schedule_world.specs.Desks.{desk_of};
-    ghost use Rattle.schedule_world.specs.Plans.{IsBuiltBlock, IsBuiltLine};
-    ghost use Rattle.schedule_world.specs.Told.{IsRoom, IsTold};
+    ghost use Rattle.schedule_world.specs.Desks.{desk_of, is_spent};
+    ghost use Rattle.schedule_world.specs.declared.fault.LineFault.TheVariants.{Memory};
+    ghost use Rattle.client_plans.specs.Plans.{IsBuiltBlock};
+    ghost use Rattle.schedule_world.specs.BuiltLines.{IsBuiltLine};
+    ghost use Rattle.schedule_world.specs.Told.{IsRoom, IsTold, lacked_memory};
 
     /// A world before its first line; takes no memory.
     pub fn new(alloc: Global) -> World
-        ensures { desk_of result ≡ first_desk }
+        ensures desk { desk_of result ≡ first_desk }
+        ensures spent { is_spent result ≡ false }
     {
         World {
             past: Past::new(alloc),
             books: Books::new(alloc),
             letters: Letters::new(alloc),
+            spent: false,
         }
     }
 
@@ -58,8 +63,22 @@ impl World {
     /// # Errors
     /// `Bad` with the first reason that holds of the line; then nothing changed. `Full` where the history was to grow
     /// past a limit: 1,000,000 entries, or 2^30 bytes of cost; then it stands as it is. `Memory` is want of memory; the
-    /// world is spent from then on.
+    /// world is spent from then on, and answers each line so.
     pub fn line(&mut self, alloc: Global, text: &[u8]) -> Result<(), LineFault>
+        ensures told { IsTold (line_led program_craft (desk_of self.old) text.now) (desk_of self.old) (desk_of self.new) result }
+        ensures spent { is_spent self.new ≡ lacked_memory result }
+        ensures stays { is_spent self.old ≡ true → result ≡ Err Memory }
+    {
+        if self.spent {
+            return Err(LineFault::Memory);
+        }
+        let told = self.text_line(alloc, text);
+        self.spent = lacked_memory(&told);
+        told
+    }
+
+    /// Takes the text of a line.
+    fn text_line(&mut self, alloc: Global, text: &[u8]) -> Result<(), LineFault>
         ensures { IsTold (line_led program_craft (desk_of self.old) text.now) (desk_of self.old) (desk_of self.new) result }
     {
         match line_text(LINE_LIMIT, text) {
@@ -93,11 +112,19 @@ impl World {
         ensures { IsTold (words_led program_craft (desk_of self.old) (words_of line.now)) (desk_of self.old) (desk_of self.new) result }
     {
         let words = words(alloc, line)?;
-        if waits(words.as_slice()) {
+        self.worded_line(alloc, words.as_slice())
+    }
+
+    /// Takes the line that these words spell.
+    fn worded_line(&mut self, alloc: Global, words: &[&str]) -> Result<(), LineFault>
+        ensures { IsTold (words_led program_craft (desk_of self.old) (map (λ word. word.now) words.now)) (desk_of self.old) (desk_of self.new) result }
+    {
+        if waits(words) {
             return Err(LineFault::Bad(Reason::Later));
         }
-        match line_of(alloc, words.as_slice())? {
-            Some(line) => self.built_line(alloc, &line),
+        let found = line_of(alloc, words)?;
+        match &found {
+            Some(line) => self.built_line(alloc, line),
             None => Err(LineFault::Bad(Reason::Syntax)),
         }
     }
@@ -133,7 +160,7 @@ impl World {
             ClientBook {
                 seed,
                 drawn: 0,
-                left: Left::over(),
+                left: BlockLeft::over(),
             },
         )?;
         Ok(())

@@ -5,7 +5,8 @@ use Rattle.schedule_model.specs.Faults.{has_number}
 use Rattle.schedule_model.specs.declared.line.Line.TheVariants.{Step}
 use Rattle.schedule_world.proofs.Spoken.{step_led, idle_led, set_known, taken_known, told_bad, told_room}
 use Rattle.schedule_world.specs.Books.{books_of}
-use Rattle.schedule_world.specs.Desks.{desk_of, desk_with}
+use Rattle.schedule_past.specs.Desks.{desk_with}
+use Rattle.schedule_world.specs.Desks.{desk_of}
 use Rattle.schedule_world.proofs.world.World.step_line.Goals as goal
 
 pub returns-in_err-book : goal.returns-in_err-book

@@ -1,0 +1,132 @@
+//! What is left of a client's block.
+ghost use Rattle.std.specs.Prelude.{◌≡◌, ◌<◌, ◌≤◌, ◌^◌, IfOk, IfSome, OnOk, length, true};
+ghost use Rattle.command_blocks.specs.EnvelopeTexts.{plain_setting};
+ghost use Rattle.command_blocks.specs.Scripts.{Over, end_script, next_words, pop_script, publish_script};
+ghost use Rattle.delivery_tags.specs.Tags.{tag_text};
+ghost use Rattle.routes.specs.Publishes.{GoesDirectly};
+ghost use Rattle.schedule_model.specs.Faults.{has_more, is_script_off};
+ghost use Rattle.client_blocks.specs.Blocks.{script_left};
+ghost use Rattle.client_blocks.specs.Lefts.{after_answer, heard_by};
+ghost use Rattle.serde_json.specs.View.{view as data_of};
+ghost use Rattle.serde_json.specs.Written.{compact_text};
+ghost use Rattle.wire_grammar.specs.Fits.{IsWithinLimits};
+
+use block_core::ReplyFault;
+use envelope::{Envelope, Tag};
+use queue_keys::QueueName;
+use routes::{PublishCore, publish_core};
+use std::alloc::{AllocError, Global};
+use store_model::Reply;
+use unacked::{EndCore, PopCore, end_core, pop_core};
+use wire_values::{List, Words};
+
+/// What is left of a client's block: nothing, or what a core has to say. After want of memory in `took` nothing more is
+/// told.
+#[derive(Drop)]
+pub enum BlockLeft {
+    Over,
+    Publish(Box<PublishCore>),
+    Pop(Box<PopCore>),
+    End(Box<EndCore>),
+}
+
+impl BlockLeft {
+    /// No block.
+    pub fn over() -> BlockLeft
+        ensures { script_left result ≡ Over }
+    {
+        BlockLeft::Over
+    }
+
+    /// A publication of an envelope that goes to its queue directly.
+    pub fn publication(alloc: Global, envelope: Envelope) -> Result<BlockLeft, AllocError>
+        requires { GoesDirectly (data_of envelope) }
+        ensures { IfOk result (λ left. script_left left ≡ publish_script plain_setting (compact_text (data_of envelope))) }
+    {
+        Ok(BlockLeft::Publish(Box::new(alloc, publish_core(envelope))?))
+    }
+
+    /// A pop over queues.
+    pub fn pop(alloc: Global, queues: List<QueueName>) -> Result<BlockLeft, AllocError>
+        requires some { 1 ≤ length queues }
+        requires few { length queues ≤ 1023 }
+        ensures { IfOk result (λ left. script_left left ≡ pop_script plain_setting queues) }
+    {
+        Ok(BlockLeft::Pop(Box::new(alloc, pop_core(queues))?))
+    }
+
+    /// An acknowledgement of a tag.
+    pub fn acknowledgement(alloc: Global, tag: Tag) -> Result<BlockLeft, AllocError>
+        ensures { IfOk result (λ left. script_left left ≡ end_script plain_setting (tag_text tag.0)) }
+    {
+        Ok(BlockLeft::End(Box::new(alloc, end_core(tag))?))
+    }
+
+    /// Whether an answer wasn't listed.
+    pub fn is_off(&self) -> bool
+        ensures { result ≡ is_script_off (script_left self.now) }
+    {
+        match self {
+            BlockLeft::Over => false,
+            BlockLeft::Publish(core) => core.is_off(),
+            BlockLeft::Pop(core) => core.is_off(),
+            BlockLeft::End(core) => core.is_off(),
+        }
+    }
+
+    /// Whether there is a command to come.
+    pub fn has_more(&self) -> bool
+        ensures { result ≡ has_more (script_left self.now) }
+    {
+        match self {
+            BlockLeft::Over => false,
+            BlockLeft::Publish(core) => core.is_busy(),
+            BlockLeft::Pop(core) => core.is_busy(),
+            BlockLeft::End(core) => core.is_busy(),
+        }
+    }
+
+    /// The words of the next command, at this moment. None where none is left.
+    pub fn next(&self, alloc: Global, at: u64) -> Result<Option<Words>, AllocError>
+        ensures words { IfOk result (λ words. words ≡ next_words (script_left self.now) at) }
+        ensures limits { IfOk result (λ words. IfSome words IsWithinLimits) }
+    {
+        match self {
+            BlockLeft::Over => Ok(None),
+            BlockLeft::Publish(core) => core.next(alloc, at),
+            BlockLeft::Pop(core) => core.next(alloc, at),
+            BlockLeft::End(core) => core.next(alloc, at),
+        }
+    }
+
+    /// Takes the reply to the next command.
+    pub fn took(&mut self, alloc: Global, at: u64, reply: &Reply) -> Result<(), AllocError>
+        requires moment { at < 2 ^ 40 }
+        requires asked { has_more (script_left self.old) ≡ true }
+        ensures { OnOk result (script_left self.new ≡ after_answer (script_left self.old) reply.now.answer) }
+    {
+        match self {
+            BlockLeft::Over => unreachable!(),
+            BlockLeft::Publish(core) => heard(core.took(alloc, at, reply)),
+            BlockLeft::Pop(core) => heard(core.took(alloc, at, reply)),
+            BlockLeft::End(core) => heard(core.took(alloc, at, reply)),
+        }
+    }
+}
+
+/// Whether a core had the memory to take a reply; one whose answer isn't listed was taken too, and stops the client.
+fn heard(taken: Result<(), ReplyFault>) -> Result<(), AllocError>
+    ensures { result ≡ heard_by taken }
+{
+    told(&taken)
+}
+
+/// Whether a core had the memory to take a reply, listed or not.
+fn told(taken: &Result<(), ReplyFault>) -> Result<(), AllocError>
+    ensures { result ≡ heard_by taken.now }
+{
+    match taken {
+        Ok(()) | Err(ReplyFault::Refused(_)) => Ok(()),
+        Err(ReplyFault::Memory) => Err(AllocError),
+    }
+}

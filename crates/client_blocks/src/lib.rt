@@ -1,0 +1,8 @@
+//! What is left of a client's block: one type over the cores of all blocks.
+//!
+//! A publication, a pop and an acknowledgement are said command by command; a client has one of them at a time, or none.
+#![tactic(auto)]
+
+mod left;
+
+pub use left::BlockLeft;

@@ -1,0 +1,11 @@
+//! Plans of clients: what a line asks a client to begin is tested, and begun.
+//!
+//! `schedule_model` defines the tests and their order, and the plan of what is asked for.
+#![tactic(auto)]
+
+mod fault;
+mod names;
+mod plan;
+
+pub use fault::PlanFault;
+pub use plan::{BegunBlock, prepared};

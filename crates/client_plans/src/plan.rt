@@ -1,0 +1,183 @@
+//! What a client begins, prepared: the tests of the line, and the block's first state.
+ghost use Rattle.std.specs.Prelude.{◌≡◌, ◌≤◌, [], IfOk, Some, false, length, true};
+ghost use Rattle.serde_json.specs.View.{view as data_of};
+ghost use Rattle.envelope.specs.Envelopes.{parts_in};
+ghost use Rattle.command_blocks.specs.EnvelopeTexts.{plain_setting};
+ghost use Rattle.queue_keys.specs.Names.{Bytes, is_name, is_reserved};
+ghost use Rattle.command_blocks.specs.Scripts.{publish_script};
+ghost use Rattle.schedule_model.specs.Drafts.{arguments_of};
+ghost use Rattle.schedule_model.specs.Faults.{is_no_name};
+ghost use Rattle.client_blocks.specs.Blocks.{script_left};
+ghost use Rattle.task_drafts.specs.Tasks.{envelope_text};
+ghost use Rattle.schedule_model.specs.declared.line.Asked.TheVariants.{Ack, Pop, Publish};
+ghost use Rattle.client_plans.specs.Plans.{IsBuiltBlock, IsPrepared};
+
+use crate::PlanFault;
+use crate::names::{has_no_name, has_reserved, is_no_name, queue_names};
+use client_blocks::BlockLeft;
+use envelope::{Envelope, Tag, Tree};
+use letters::Letters;
+use line_text::Reason;
+use queue_keys::is_reserved;
+use schedule_model::Asked;
+use std::alloc::{AllocError, Global};
+use task_drafts::{Publication, arguments_of, sealed_task};
+use wire_values::{Bytes, Words};
+
+/// A block that was begun, and how many tags its client drew by then.
+#[derive(Drop)]
+pub struct BegunBlock {
+    /// What its client has left to say of it.
+    pub left: BlockLeft,
+    /// How many tags its client drew.
+    pub drawn: u64,
+}
+
+/// What a client of a seed that drew so many tags asks to begin.
+///
+/// # Errors
+/// `Bad` with the first reason that holds; `Memory` is want of memory, or of a tag that the client could draw.
+pub fn prepared(
+    alloc: Global,
+    letters: &mut Letters,
+    seed: u64,
+    drawn: u64,
+    asked: &Asked,
+) -> Result<BegunBlock, PlanFault>
+    requires { IsBuiltBlock asked.now }
+    ensures { IsPrepared seed drawn asked.now result }
+{
+    match asked {
+        Asked::Publish {
+            exchange,
+            routing_key,
+            priority,
+            task,
+            arguments,
+        } => {
+            publication(
+                alloc,
+                letters,
+                seed,
+                drawn,
+                exchange,
+                routing_key,
+                *priority,
+                task,
+                arguments,
+            )
+        }
+        Asked::Pop { queues } => popping(alloc, seed, drawn, queues),
+        Asked::Ack { seed: of, counter } => acknowledging(alloc, seed, drawn, *of, *counter),
+        Asked::Declare { .. }
+        | Asked::Undeclare { .. }
+        | Asked::Restore { .. }
+        | Asked::Requeue { .. }
+        | Asked::Pass { .. } => unreachable!(),
+    }
+}
+
+/// A publication on the empty exchange.
+fn publication(
+    alloc: Global,
+    letters: &mut Letters,
+    seed: u64,
+    drawn: u64,
+    exchange: &Bytes,
+    routing_key: &Bytes,
+    priority: u8,
+    task: &Bytes,
+    text: &Bytes,
+) -> Result<BegunBlock, PlanFault>
+    requires { exchange.now ≡ [] }
+    ensures { IsPrepared seed drawn (Publish exchange.now routing_key.now priority task.now text.now) result }
+{
+    if is_no_name(routing_key) {
+        return Err(PlanFault::Bad(Reason::Name));
+    }
+    if is_reserved(routing_key.as_slice()) {
+        return Err(PlanFault::Bad(Reason::Reserved));
+    }
+    let Some(arguments) = arguments_of(alloc, text.as_slice())? else {
+        return Err(PlanFault::Bad(Reason::Json));
+    };
+    let asked = Publication {
+        exchange: exchange.as_slice(),
+        routing_key: routing_key.as_slice(),
+        priority,
+        task: task.as_slice(),
+    };
+    sealing(alloc, letters, seed, drawn, &asked, &arguments)
+}
+
+/// A publication on the empty exchange by a lawful name, with these arguments.
+fn sealing(
+    alloc: Global,
+    letters: &mut Letters,
+    seed: u64,
+    drawn: u64,
+    asked: &Publication,
+    arguments: &Tree,
+) -> Result<BegunBlock, PlanFault>
+    requires direct { asked.now.exchange.now ≡ [] }
+    requires named { is_no_name asked.now.routing_key.now ≡ false }
+    requires free { is_reserved asked.now.routing_key.now ≡ false }
+    // Whatever text spells the arguments.
+    ensures { (j : Bytes) → arguments_of j ≡ Some (data_of arguments.now) → IsPrepared seed drawn
+        (Publish asked.now.exchange.now asked.now.routing_key.now asked.now.priority asked.now.task.now j) result }
+{
+    // No history has room for 2^64 tags.
+    let Some(counter) = drawn.checked_add(1) else {
+        return Err(PlanFault::Memory);
+    };
+    let Some(envelope) = sealed_task(alloc, seed, counter, asked, arguments)? else {
+        return Err(PlanFault::Bad(Reason::Task));
+    };
+    let left = sent(alloc, letters, envelope)?;
+    Ok(BegunBlock {
+        left,
+        drawn: counter,
+    })
+}
+
+/// An envelope on its way to its queue, which is noted.
+fn sent(alloc: Global, letters: &mut Letters, envelope: Envelope) -> Result<BlockLeft, AllocError>
+    requires exchange { (parts_in (data_of envelope)).exchange ≡ [] }
+    requires queue { is_name (parts_in (data_of envelope)).routing_key ≡ true }
+    ensures { IfOk result (λ left. script_left left ≡ publish_script plain_setting (envelope_text envelope)) }
+{
+    letters.note(alloc, &envelope)?;
+    let _text = envelope.text();
+    BlockLeft::publication(alloc, envelope)
+}
+
+/// A pop over queues.
+fn popping(alloc: Global, seed: u64, drawn: u64, queues: &Words) -> Result<BegunBlock, PlanFault>
+    requires some { 1 ≤ length queues.now }
+    requires few { length queues.now ≤ 1023 }
+    ensures { IsPrepared seed drawn (Pop queues.now) result }
+{
+    if has_no_name(queues.as_slice()) {
+        return Err(PlanFault::Bad(Reason::Name));
+    }
+    if has_reserved(queues.as_slice()) {
+        return Err(PlanFault::Bad(Reason::Reserved));
+    }
+    let names = queue_names(alloc, queues.as_slice())?;
+    let left = BlockLeft::pop(alloc, names)?;
+    Ok(BegunBlock { left, drawn })
+}
+
+/// An acknowledgement of a tag.
+fn acknowledging(
+    alloc: Global,
+    seed: u64,
+    drawn: u64,
+    of: u64,
+    counter: u64,
+) -> Result<BegunBlock, PlanFault>
+    ensures { IsPrepared seed drawn (Ack of counter) result }
+{
+    let left = BlockLeft::acknowledgement(alloc, Tag::of(of, counter))?;
+    Ok(BegunBlock { left, drawn })
+}

@@ -1,0 +1,11 @@
+//! Lines of a schedule: what words spell, and which lines are built.
+//!
+//! A line is spelled by its words; `schedule_model` defines which line that is.
+#![tactic(auto)]
+
+mod asked;
+mod built;
+mod line;
+
+pub use built::waits;
+pub use line::line_of;

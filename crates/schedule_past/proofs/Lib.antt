@@ -1,0 +1,5 @@
+pub mod Going
+pub mod Numbers
+pub mod Rooms
+pub mod Sayings
+pub mod Sizing

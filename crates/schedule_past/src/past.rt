@@ -1,0 +1,231 @@
+//! What happened so far: the present moment, the history with its running cost, and the store.
+ghost use Rattle.std.specs.Prelude.{◌≡◌, ◌<◌, ◌+◌, ◌^◌, IfOk, OnOk, Some, true};
+ghost use Rattle.place_model.specs.Shown.{history_of};
+ghost use Rattle.schedule_model.specs.Costs.{reply_size, total_cost, words_size};
+ghost use Rattle.schedule_model.specs.Faults.{has_more, has_number, has_seed};
+ghost use Rattle.client_blocks.specs.Blocks.{script_left};
+ghost use Rattle.client_blocks.specs.Lefts.{after_answer};
+ghost use Rattle.schedule_past.specs.Running.{AreRunning};
+
+use crate::cost::call_cost;
+use client_blocks::BlockLeft;
+use mini_store::Store;
+use place_model::{Entry, History};
+use std::alloc::{AllocError, Global};
+use store_model::Reply;
+use wire_values::Words;
+
+/// The greatest number of entries of a history.
+const ENTRY_LIMIT: usize = 1_000_000;
+
+/// The greatest cost of a history in bytes.
+const COST_LIMIT: u64 = 1 << 30;
+
+/// The present moment in seconds, the history with what its entries cost, and the store that answered.
+#[derive(Drop)]
+pub struct Past {
+    /// The present moment, in seconds below 2^40.
+    pub moment: u64,
+    /// The history so far.
+    pub history: History,
+    /// What its entries cost, in bytes.
+    pub cost: u64,
+    /// The store that answered its calls.
+    pub store: Store,
+    ghost early: { moment < 2 ^ 40 },
+    ghost running: { AreRunning (history_of history).entries },
+    ghost costs: { cost ≡ total_cost (history_of history).entries },
+}
+
+impl Past {
+    ghost use Rattle.std.specs.FinMap.{FinMap, empty};
+    ghost use Rattle.std.specs.Ordering.{nat_cmp};
+    ghost use Rattle.std.specs.Prelude.{OnErr, ◌||◌, ◌∷◌, [], ◌++◌, length, false};
+    ghost use Rattle.place_model.specs.declared.history.Entry.TheVariants.{Call};
+    ghost use Rattle.store_model.specs.Store.{apply_of};
+    ghost use Rattle.wire_grammar.specs.Fits.{IsWithinLimits};
+    ghost use Rattle.command_blocks.specs.Scripts.{next_words};
+    ghost use Rattle.schedule_model.specs.Costs.{is_full};
+    ghost use Rattle.schedule_model.specs.Desk.{ClientBook, first_desk, said_all, said_one, with_call};
+    ghost use Rattle.schedule_past.specs.Desks.{desk_with};
+    ghost use Rattle.schedule_past.specs.Rooms.{room_left};
+
+    /// Nothing happened yet; takes no memory.
+    pub fn new(alloc: Global) -> Past
+        ensures { desk_with result empty ≡ first_desk }
+    {
+        Past {
+            moment: 0,
+            history: History::new(),
+            cost: 0,
+            store: Store::new(alloc),
+        }
+    }
+
+    /// How many entries there are.
+    pub fn entry_count(&self) -> u64
+        ensures { result ≡ length (history_of self.now.history).entries }
+    {
+        self.history.entries().len() as u64
+    }
+
+    /// Whether the history may not grow any more.
+    pub fn is_full(&self) -> bool
+        ensures { result ≡ is_full (history_of self.now.history).entries }
+    {
+        ENTRY_LIMIT <= self.history.entries().len() || COST_LIMIT <= self.cost
+    }
+
+    /// Whether a client has this number or this seed.
+    pub fn has_client(&self, client: u32, seed: u64) -> bool
+        ensures { result ≡ (has_number client (history_of self.now.history).clients || has_seed seed (history_of self.now.history).clients) }
+    {
+        has_number(self.history.clients(), client) || has_seed(self.history.clients(), seed)
+    }
+
+    /// Another moment is the present one.
+    pub fn set_moment(&mut self, moment: u64)
+        requires { moment < 2 ^ 40 }
+        ensures { (bs : FinMap nat_cmp ClientBook) → desk_with self.new bs ≡ record (desk_with self.old bs) { moment = moment } }
+    {
+        self.moment = moment;
+    }
+
+    /// Adds a client; without memory nothing changes.
+    pub fn add_client(&mut self, alloc: Global, client: u32, seed: u64) -> Result<(), AllocError>
+        requires number { has_number client (history_of self.old.history).clients ≡ false }
+        requires seed { has_seed seed (history_of self.old.history).clients ≡ false }
+        ensures ok { OnOk result ((bs : FinMap nat_cmp ClientBook) → desk_with self.new bs ≡ record (desk_with self.old bs) { clients = (history_of self.old.history).clients ++ (client, seed) ∷ [] }) }
+        ensures err { OnErr result ((history_of self.new.history).clients ≡ (history_of self.old.history).clients) }
+    {
+        self.history.client(alloc, client, seed)
+    }
+
+    /// A client's call of these words, which are the next of its block: the store answers, and the block goes on.
+    fn call(
+        &mut self,
+        alloc: Global,
+        client: u32,
+        words: Words,
+        left: &mut BlockLeft,
+    ) -> Result<(), AllocError>
+        requires known { has_number client (history_of self.old.history).clients ≡ true }
+        requires limits { IsWithinLimits words }
+        requires next { next_words (script_left left.old) self.old.moment ≡ Some words }
+        ensures desk { OnOk result ((bs : FinMap nat_cmp ClientBook) → desk_with self.new bs ≡ with_call (desk_with self.old bs) client words (apply_of self.old.store.state self.old.moment client words)) }
+        ensures left { OnOk result (script_left left.new ≡ after_answer (script_left left.old) (apply_of self.old.store.state self.old.moment client words).1.answer) }
+        ensures table { (history_of self.new.history).clients ≡ (history_of self.old.history).clients }
+    {
+        let reply = self.store.apply(alloc, self.moment, client, &words)?;
+        let cost = answered(alloc, self.moment, self.cost, &words, &reply, left)?;
+        self.note(alloc, client, words, reply, cost)
+    }
+
+    /// A call that was answered is the next entry of the history, whose entries cost so much with it.
+    fn note(
+        &mut self,
+        alloc: Global,
+        client: u32,
+        words: Words,
+        reply: Reply,
+        cost: u64,
+    ) -> Result<(), AllocError>
+        requires known { has_number client (history_of self.old.history).clients ≡ true }
+        requires limits { IsWithinLimits words }
+        requires cost { cost ≡ self.old.cost + (64 + words_size words + reply_size reply) }
+        ensures desk { OnOk result ((bs : FinMap nat_cmp ClientBook) → desk_with self.new bs ≡ record (desk_with self.old bs) { entries = (history_of self.old.history).entries ++ Call client self.old.moment words reply ∷ [] }) }
+        ensures table { (history_of self.new.history).clients ≡ (history_of self.old.history).clients }
+    {
+        self.history.add(
+            alloc,
+            Entry::Call {
+                conn: client,
+                at: self.moment,
+                words,
+                reply,
+            },
+        )?;
+        self.cost = cost;
+        Ok(())
+    }
+
+    /// A client says the next command of its block, if there is one. False where the history has no room for it.
+    pub fn say_one(
+        &mut self,
+        alloc: Global,
+        client: u32,
+        left: &mut BlockLeft,
+    ) -> Result<bool, AllocError>
+        requires { has_number client (history_of self.old.history).clients ≡ true }
+        ensures said { IfOk result (λ room. (bs : FinMap nat_cmp ClientBook) → said_one (desk_with self.old bs) client (script_left left.old) ≡ record { desk = desk_with self.new bs; left = script_left left.new; room = room }) }
+        ensures fewer { IfOk result (λ room. room ≡ true → has_more (script_left left.old) ≡ true → room_left self.new < room_left self.old) }
+        ensures table { (history_of self.new.history).clients ≡ (history_of self.old.history).clients }
+    {
+        let Some(words) = left.next(alloc, self.moment)? else {
+            return Ok(true);
+        };
+        if self.is_full() {
+            return Ok(false);
+        }
+        self.call(alloc, client, words, left)?;
+        Ok(true)
+    }
+
+    /// A client says its block to the end. False where the history has no room for all of it.
+    pub fn say_all(
+        &mut self,
+        alloc: Global,
+        client: u32,
+        left: &mut BlockLeft,
+    ) -> Result<bool, AllocError>
+        requires { has_number client (history_of self.old.history).clients ≡ true }
+        ensures said { IfOk result (λ room. (bs : FinMap nat_cmp ClientBook) → said_all (desk_with self.old bs) client (script_left left.old) ≡ record { desk = desk_with self.new bs; left = script_left left.new; room = room }) }
+        ensures table { (history_of self.new.history).clients ≡ (history_of self.old.history).clients }
+    {
+        while left.has_more() {
+            let has_room = self.say_one(alloc, client, left)?;
+            if !has_room {
+                return Ok(false);
+            }
+        }
+        Ok(true)
+    }
+}
+
+/// What a history's entries cost that cost so much before, with a call of these words, whose reply the block takes.
+fn answered(
+    alloc: Global,
+    moment: u64,
+    before: u64,
+    words: &Words,
+    reply: &Reply,
+    left: &mut BlockLeft,
+) -> Result<u64, AllocError>
+    requires moment { moment < 2 ^ 40 }
+    requires asked { has_more (script_left left.old) ≡ true }
+    ensures left { OnOk result (script_left left.new ≡ after_answer (script_left left.old) reply.now.answer) }
+    ensures cost { IfOk result (λ cost. cost ≡ before + (64 + words_size words.now + reply_size reply.now)) }
+{
+    left.took(alloc, moment, reply)?;
+    let Some(cost) = call_cost(words.as_slice(), reply) else {
+        return Err(AllocError);
+    };
+    let Some(cost) = before.checked_add(cost) else {
+        return Err(AllocError);
+    };
+    Ok(cost)
+}
+
+/// Whether a client has this number.
+fn has_number(clients: &[(u32, u64)], number: u32) -> bool
+    ensures { result ≡ has_number number clients.now }
+{
+    clients.iter().any(|client| client.0 == number)
+}
+
+/// Whether a client has this seed.
+fn has_seed(clients: &[(u32, u64)], seed: u64) -> bool
+    ensures { result ≡ has_seed seed clients.now }
+{
+    clients.iter().any(|client| client.1 == seed)
+}

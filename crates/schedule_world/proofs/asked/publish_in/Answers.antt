@@ -1,5 +1,0 @@
-use Rattle.schedule_world.proofs.Sizes.{few_publish}
-use Rattle.schedule_world.proofs.asked.publish_in.Goals as goal
-
-pub returns-in-empty : goal.returns-in-empty
-returns-in-empty c = few_publish (λ word. word.now) c.args.words.now c.in-empty.len_below

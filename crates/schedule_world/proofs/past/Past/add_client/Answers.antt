@@ -1,8 +1,0 @@
-use Rattle.schedule_world.proofs.Known.{away, seed_away}
-use Rattle.schedule_world.proofs.past.Past.add_client.Goals as goal
-
-pub client-requires-clause-conn : goal.client-requires-clause-conn
-client-requires-clause-conn c = away c.args.client c.args.self.now.history.clients c.requires.number
-
-pub client-requires-clause-seed : goal.client-requires-clause-seed
-client-requires-clause-seed c = seed_away c.args.seed c.args.self.now.history.clients c.requires.seed

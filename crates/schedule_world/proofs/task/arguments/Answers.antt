@@ -1,9 +1,0 @@
-use Rattle.std.proofs.Common.{true≢false, sym, ◌∙◌}
-use Rattle.schedule_world.proofs.Drafted.{spelled, unspelled}
-use Rattle.schedule_world.proofs.task.arguments.Goals as goal
-
-pub returns-in-Ok : goal.returns-in-Ok
-returns-in-Ok c = c.if_arguments.ensures ∙ sym (spelled c.args.text.now _ c.in-Ok.ensures.ok.0 c.in-Ok.ensures.ok.1)
-
-pub returns-else-is_memory : goal.returns-else-is_memory
-returns-else-is_memory c = sym (unspelled c.args.text.now (c.in-Err.ensures.err (λ m. true≢false (sym (c.is_memory.ensures.1 m) ∙ c.if-is_memory.false))))

@@ -1,8 +1,0 @@
--- What is made of a binding. Serves the proofs of code.
-use Rattle.std.specs.Prelude.{List, ℕ}
-use Rattle.schedule_world.specs.declared.asked.Binding.{Binding}
-use Rattle.schedule_model.specs.declared.line.Asked.{Asked}
-
--- what is made of an exchange, a routing key, a pattern and a queue, of those of a binding
-abbrev pub bound : (List ℕ → List ℕ → List ℕ → List ℕ → Asked) → Binding → Asked
-bound f b = f b.exchange b.routing_key b.pattern b.queue

@@ -1,0 +1,176 @@
+-- What the draft of a task is sealed to.
+use Rattle.std.proofs.Common.{◌≡◌, ℕ, ℤ, pos, ◌<◌, ◌≤◌, ◌^◌, length, codes, Bool, true, false, ◌&&◌, Option, Some, None, option_map, option_and_then, if◌then◌else◌, Result, Ok, IsUtf8, refl, sym, ap, ◌∙◌, arith}
+use Rattle.std.specs.Prelude.{nat_le, nat_lt, not}
+use Rattle.std.specs.Result.{result_ok}
+use Rattle.std.specs.Str.{is_utf8}
+use Rattle.std.proofs.lemmas.Bool.{and_parts}
+use Rattle.std.proofs.lemmas.Bool.Decides.{nat_tests}
+use Rattle.std.proofs.lemmas.Str.{IsUtf8-from_is_utf8, is_utf8-from_IsUtf8}
+use Rattle.base64.specs.Engines.{standard}
+use Rattle.base64.specs.GeneralPurpose.{encode_of}
+use Rattle.serde_json.proofs.OnLiterals.{serde_json_on_literals}
+use Rattle.serde_json.specs.Data.{Data, depth}
+use Rattle.serde_json.specs.Find.{get}
+use Rattle.serde_json.specs.Read.{read}
+use Rattle.serde_json.specs.View.{view as data_of}
+use Rattle.serde_json.specs.Written.{compact_text, has_float}
+use Rattle.envelope.specs.Envelopes.{are_short, max_bytes, max_text}
+use Rattle.envelope_trees.specs.Marks.{marked}
+use Rattle.envelope_trees.specs.Members.{if_object, is_nothing}
+use Rattle.envelope_trees.specs.Reading.{◌>>=◌, needed, wanted}
+use Rattle.envelope.specs.SealedTrees.{sealed_info, sealed_properties, sealed_tree}
+use Rattle.sealed_drafts.specs.Sealed.{sealed, seal_of}
+use Rattle.delivery_tags.specs.Tags.{tag, tag_number, tag_text}
+use Rattle.envelope.specs.declared.envelope.Envelope.{Envelope}
+use Rattle.envelope_trees.specs.declared.fault.Field.TheVariants as field
+use Rattle.envelope_trees.specs.declared.fault.EnvelopeFault.{EnvelopeFault}
+use Rattle.envelope_trees.specs.declared.fault.EnvelopeFault.TheVariants.{TooLong, TooDeep, Float, Missing, Compressed, BadBody}
+use Rattle.sealed_drafts.specs.declared.sealing.Draft.{Draft}
+use Rattle.delivery_tags.proofs.SeedTags.{tag_is}
+use Rattle.envelope.proofs.Texts.{json_some, json_none}
+use Rattle.queue_keys.specs.Names.{Bytes}
+use Rattle.schedule_model.specs.Drafts.{are_told, are_texts, are_within, arguments_of, content_tree, headers_tree, if_arguments, if_sealed, sealed_task, task_tree}
+use Rattle.schedule_model.proofs.ArgumentTrees.{arguments_known}
+use Rattle.task_drafts.specs.Tasks.{IsDraftOf, content_around, envelope_text}
+
+-- ---- arguments
+
+-- what a text reads as may be arguments
+pub spelled : (j : Bytes) (d : Data) → IsUtf8 j → read j ≡ Some d → arguments_of j ≡ if_arguments d
+unfolding arguments_of
+spelled j d utf8 e = ap (option_and_then if_arguments) (json_some j d utf8 e)
+
+-- and a text that reads as nothing spells none
+pub unspelled : (j : Bytes) → (IsUtf8 j → read j ≡ None) → arguments_of j ≡ None
+unfolding arguments_of
+unspelled j f = ap (option_and_then if_arguments) (json_none j f)
+
+-- ---- the seal
+
+-- the steps of the seal, by the headers, the content, the names and the tree
+abbrev steps : Data → Bytes → Bytes → Bytes → Data → Result Data EnvelopeFault
+steps headers content exchange routing_key d =
+    wanted TooDeep (nat_le (depth headers) 99) >>= λ a.
+    wanted Float (not (has_float headers)) >>= λ b.
+    needed (Missing field.Headers) (if_object headers) >>= λ h.
+    wanted Compressed (is_nothing (get (codes "compression") h)) >>= λ c.
+    wanted BadBody (is_utf8 content) >>= λ e.
+    wanted TooLong (are_short exchange routing_key) >>= λ f.
+    wanted TooLong (nat_le (length (compact_text d)) max_bytes) >>= λ g.
+    wanted TooLong (nat_le (length (compact_text (marked d))) max_text) >>= λ i.
+    Ok d
+
+within : (a b c : Bool) (d : Data) → result_ok (wanted TooLong a >>= λ x. wanted TooLong b >>= λ y. wanted TooLong c >>= λ z. Ok d) ≡ (if a && b && c then Some d else None)
+within false b c d = refl
+within true false c d = refl
+within true true false d = refl
+within true true true d = refl
+
+-- a task's headers are as they have to be
+steps_of_task : (t task : Bytes) (args : Data) (content exchange routing_key : Bytes) (d : Data) → is_utf8 content ≡ true
+    → result_ok (steps (headers_tree t task args) content exchange routing_key d) ≡ (if are_within exchange routing_key d then Some d else None)
+steps_of_task t task args content exchange routing_key d e =
+    rw e (within (are_short exchange routing_key) (nat_le (length (compact_text d)) max_bytes) (nat_le (length (compact_text (marked d))) max_text) d)
+
+same_trees : (c c' : Bytes) (h h' : Data) (x x' k k' i i' : Bytes) (p p' : ℤ) (t : Bytes) → c ≡ c' → h ≡ h' → x ≡ x' → k ≡ k' → i ≡ i' → p ≡ p'
+    → sealed_tree (encode_of standard c) h (sealed_properties (sealed_info x k) i p t) ≡ sealed_tree (encode_of standard c') h' (sealed_properties (sealed_info x' k') i' p' t)
+same_trees c c' h h' x x' k k' i i' p p' t a b e f g q =
+    ap (λ z. sealed_tree (encode_of standard z) h (sealed_properties (sealed_info x k) i p t)) a
+    ∙ ap (λ z. sealed_tree (encode_of standard c') z (sealed_properties (sealed_info x k) i p t)) b
+    ∙ ap (λ z. sealed_tree (encode_of standard c') h' (sealed_properties (sealed_info z k) i p t)) e
+    ∙ ap (λ z. sealed_tree (encode_of standard c') h' (sealed_properties (sealed_info x' z) i p t)) f
+    ∙ ap (λ z. sealed_tree (encode_of standard c') h' (sealed_properties (sealed_info x' k') z p t)) g
+    ∙ ap (λ z. sealed_tree (encode_of standard c') h' (sealed_properties (sealed_info x' k') i' z t)) q
+
+module _ (n : ℕ) (exchange routing_key : Bytes) (priority : ℕ) (task : Bytes) (args : Data) (draft : Draft) (is : IsDraftOf (tag_text n) exchange routing_key priority task args draft) (whole : has_float args ≡ false) where
+  abbrev tree : Data
+  tree = task_tree (tag_text n) exchange routing_key priority task args
+
+  -- the draft of a task makes the task's tree
+  sealed_as : sealed draft n ≡ tree
+  sealed_as =
+      same_trees draft.content _ (data_of draft.headers) (headers_tree (tag_text n) task args) draft.exchange exchange draft.routing_key routing_key draft.id (tag_text n) draft.priority (pos priority) (tag_text n)
+      (is.content whole) (is.headers whole) is.exchange_is is.routing_key_is is.id is.priority_is
+
+  -- and it is sealed where that is short enough
+  seal_is : result_ok (seal_of draft n) ≡ (if are_within exchange routing_key tree then Some tree else None)
+  unfolding seal_of
+  seal_is =
+      ap (λ h. result_ok (steps h draft.content draft.exchange draft.routing_key (sealed draft n))) (is.headers whole)
+      ∙ ap (λ x. result_ok (steps (headers_tree (tag_text n) task args) draft.content x draft.routing_key (sealed draft n))) is.exchange_is
+      ∙ ap (λ k. result_ok (steps (headers_tree (tag_text n) task args) draft.content exchange k (sealed draft n))) is.routing_key_is
+      ∙ ap (λ d. result_ok (steps (headers_tree (tag_text n) task args) draft.content exchange routing_key d)) sealed_as
+      ∙ steps_of_task (tag_text n) task args draft.content exchange routing_key tree (is_utf8-from_IsUtf8 draft.content is.is_text)
+
+-- ---- the task
+
+-- the names of a task are texts
+pub texts_are : (exchange routing_key task : Bytes) → are_texts exchange routing_key task ≡ true → IsUtf8 exchange × IsUtf8 routing_key × IsUtf8 task
+texts_are exchange routing_key task h =
+    let a = and_parts (is_utf8 exchange && is_utf8 routing_key) (is_utf8 task) h in
+    let b = and_parts (is_utf8 exchange) (is_utf8 routing_key) a.0 in
+    (IsUtf8-from_is_utf8 exchange b.0, IsUtf8-from_is_utf8 routing_key b.1, IsUtf8-from_is_utf8 task a.1)
+
+tree_text : (b : Bool) (d : Data) → option_map compact_text (if b then Some d else None) ≡ (if b then Some (compact_text d) else None)
+tree_text true d = refl
+tree_text false d = refl
+
+envelope_texts : (made : Option Envelope) → option_map envelope_text made ≡ option_map compact_text (option_map data_of made)
+envelope_texts None = refl
+envelope_texts (Some e) = refl
+
+-- the text of a tag of 64 bits each
+pub text_of_tag : (s n : ℕ) → s < 2 ^ 64 → n < 2 ^ 64 → tag_text (tag_number s n) ≡ tag s n
+text_of_tag s n a b =
+    let c : nat_lt s (2 ^ 64) ≡ true = grind (arith, nat_tests) in
+    let d : nat_lt n (2 ^ 64) ≡ true = grind (arith, nat_tests) in
+    rw (c, d) refl
+
+-- what was sealed of names that are UTF-8, from a draft under the number m of a tag
+module _ (s n m : ℕ) (exchange routing_key : Bytes) (priority : ℕ) (task j : Bytes) (args : Data) (draft : Draft) where
+  abbrev text_under : Bytes → Option Bytes
+  text_under t = let d = task_tree t exchange routing_key priority task args in if are_within exchange routing_key d then Some (compact_text d) else None
+
+  told_text : are_told (tag s n) exchange routing_key priority task ≡ true → arguments_of j ≡ Some args → sealed_task s n exchange routing_key priority task j ≡ text_under (tag s n)
+  unfolding sealed_task
+  told_text told spells =
+      ap (option_and_then (if_sealed (tag s n) exchange routing_key priority task)) spells
+      ∙ ap (λ q. if q && are_within exchange routing_key (task_tree (tag s n) exchange routing_key priority task args) then Some (compact_text (task_tree (tag s n) exchange routing_key priority task args)) else None) told
+
+  pub sealed_is : (made : Option Envelope) → m ≡ tag_number s n → s < 2 ^ 64 → n < 2 ^ 64 → priority ≤ 255 → are_texts exchange routing_key task ≡ true → arguments_of j ≡ Some args
+      → IsDraftOf (tag_text m) exchange routing_key priority task args draft → option_map data_of made ≡ result_ok (seal_of draft m)
+      → option_map envelope_text made ≡ sealed_task s n exchange routing_key priority task j
+  sealed_is made same a b c texts spells is sealed_so =
+      let byte : nat_le priority 255 ≡ true = grind (arith, nat_tests) in
+      let known = tag_is s n a b in
+      let told : are_told (tag s n) exchange routing_key priority task ≡ true = rw (texts, known, byte) refl in
+      let d = task_tree (tag_text m) exchange routing_key priority task args in
+      envelope_texts made
+      ∙ ap (option_map compact_text) (sealed_so ∙ seal_is m exchange routing_key priority task args draft is (arguments_known j args spells).whole)
+      ∙ tree_text (are_within exchange routing_key d) d
+      ∙ ap text_under (ap tag_text same ∙ text_of_tag s n a b)
+      ∙ sym (told_text told spells)
+
+-- nothing is sealed of other names
+pub unsealed : (s n : ℕ) (exchange routing_key : Bytes) (priority : ℕ) (task j : Bytes) (args : Data) → are_texts exchange routing_key task ≡ false → arguments_of j ≡ Some args
+    → None ≡ sealed_task s n exchange routing_key priority task j
+unfolding sealed_task
+unsealed s n exchange routing_key priority task j args texts spells = sym (ap (option_and_then (if_sealed (tag s n) exchange routing_key priority task)) spells ∙ rw texts refl)
+
+-- ---- texts
+
+-- a task's content around the text of its arguments
+pub content_text : (d : Data) → compact_text (content_tree d) ≡ content_around (compact_text d)
+unfolding serde_json_on_literals
+content_text d = refl
+
+pub same_headers : (t t' task task' : Bytes) (d : Data) → t ≡ t' → task ≡ task' → headers_tree t task d ≡ headers_tree t' task' d
+same_headers t t' task task' d a b = ap (λ x. headers_tree x task d) a ∙ ap (λ x. headers_tree t' x d) b
+
+-- bytes that aren't UTF-8
+pub no_text : (b : Bytes) → (IsUtf8 b → ⊥) → is_utf8 b ≡ false
+no_text b f = go (is_utf8 b) refl
+  where
+    go : (t : Bool) → is_utf8 b ≡ t → t ≡ false
+    go true i = absurd (f (IsUtf8-from_is_utf8 b i))
+    go false i = refl
