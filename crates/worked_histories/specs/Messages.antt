@@ -1,6 +1,6 @@
 -- The messages of the worked histories: Celery's envelopes of a task.
 use Rattle.std.specs.Prelude.{ℕ, [], ◌++◌, codes}
-use Rattle.envelope.specs.Tags.{tag}
+use Rattle.delivery_tags.specs.Tags.{tag}
 use Rattle.queue_keys.specs.Names.{Bytes}
 use Rattle.worked_histories.specs.Rows.{Message}
 
