@@ -10,7 +10,7 @@ ghost use Rattle.resp_wire.specs.Moves.{Advances, HasGivenOne, HasOnlyMarked, Ha
 
 use crate::decoder::{Decoder, FoundFault};
 use crate::machine::step;
-use crate::state::{Phase, WireSpot, StepFault};
+use crate::state::{Phase, StepFault, WireSpot};
 use std::alloc::{AllocError, Global};
 use wire_grammar::{VALUE_LIMIT, WireKind};
 use wire_values::Value;

@@ -6,7 +6,7 @@ ghost use Rattle.wire_grammar.specs.Reads.{begins_below, grown, over_of, signed}
 ghost use Rattle.resp_wire.specs.declared.state.WireSpot.TheVariants.{Text};
 ghost use Rattle.resp_wire.specs.Steps.{StepIs, headed, settle, state, step, step_begin, step_digit, step_digits, step_feed, step_first, step_line, step_minus, step_return, step_star, step_text, step_text_feed, step_zero, text_value, with_bytes};
 
-use crate::state::{Core, Open, Phase, WireSpot, StepFault};
+use crate::state::{Core, Open, Phase, StepFault, WireSpot};
 use sqlite_items::Items;
 use std::alloc::{AllocError, Global};
 use std::mem;

@@ -5,7 +5,7 @@ ghost use Rattle.resp_wire.specs.Stands.{HasNext, IsSpentDecoder, Stands, held_t
 ghost use Rattle.resp_wire.specs.Moves.{HasCleared, HasCounted, HasFed, ahead_of, unread_of};
 
 use crate::decoder::{Decoder, FoundFault, WireFault};
-use crate::state::{Core, Phase, WireSpot, StepFault};
+use crate::state::{Core, Phase, StepFault, WireSpot};
 use std::alloc::{AllocError, Global};
 use std::collections::VecDeque;
 use wire_grammar::VALUE_LIMIT;

@@ -17,7 +17,7 @@ use Rattle.wire_grammar.specs.Streams.{Leads}
 use Rattle.wire_grammar.proofs.Limited.{fault_is}
 use Rattle.wire_grammar.proofs.StreamLaws.{leads_place}
 use Rattle.wire_show.specs.Runs.{AreLinesOf, Drains, EndsAmid, EndsRead, HasFaultAfter, HasGivenAll, HasGivenLines}
-use Rattle.wire_show.specs.Shows.{EndsShown, HasReadFor, HasShown, HasWrittenFor, IsCutShort, IsReadSoFar, IsShownEnd, IsWritten, input_limit, value_lines}
+use Rattle.wire_show.specs.Shows.{EndsShown, HasReadFor, HasShown, HasWrittenFor, IsBegunStream, IsCutShort, IsReadSoFar, IsShownEnd, IsWritten, input_limit, value_lines}
 use Rattle.wire_show.specs.declared.ending.ShowEnd.{ShowEnd}
 use Rattle.wire_show.specs.declared.ending.ShowEnd.TheVariants.{Whole, Bad, Unfinished, Long, ReadFault, WriteFault, Memory}
 use Rattle.wire_show.proofs.Sources.{cut_more, read_more, written_more}
@@ -35,7 +35,7 @@ fault_within p b kind q e = wrong_within p b kind q (fault_is p b [] kind q e).0
 pub uncut : (stream : List ℕ) → length stream ≤ input_limit → take input_limit stream ≡ stream
 uncut stream within = take_all input_limit stream within
 
-uncut_leads : (stream : List ℕ) (vs : List Value) (from : ℕ) (rest : List ℕ) → length stream ≤ input_limit → Leads 0 stream vs from rest → Leads 0 (take input_limit stream) vs from rest
+pub uncut_leads : (stream : List ℕ) (vs : List Value) (from : ℕ) (rest : List ℕ) → length stream ≤ input_limit → Leads 0 stream vs from rest → Leads 0 (take input_limit stream) vs from rest
 uncut_leads stream vs from rest within l = subst (λ (s : List ℕ). Leads 0 s vs from rest) (sym (uncut stream within)) l
 
 -- a place within the limit is told as it is
@@ -119,3 +119,13 @@ module _ (b m n : SourceView) (o k x : SinkView) (d e : Decoder) (bytes lines : 
 
   pub piece_ended : (end : ShowEnd) → Drains e (bytes ++ got) lines k x (Some end) → HasShown b n o x end
   piece_ended end (more, amid, wrote) = shown_amid b n o k x (bytes ++ got) lines more so_far (omega (arith, length-append bytes got, within)) written end amid wrote
+
+-- however a stream ends, the values that are shown begin it
+pub ends_begun : (stream : List ℕ) (vs : List Value) (end : ShowEnd) → EndsShown stream vs end → IsBegunStream stream vs
+ends_begun stream vs Whole (within, from, leads) = (from, [], uncut_leads stream vs from [] within leads)
+ends_begun stream vs (Bad kind place) (from, rest, leads, wrong) = (from, rest, leads)
+ends_begun stream vs (Unfinished place) (within, rest, leads, some, front) = (place, rest, uncut_leads stream vs place rest within leads)
+ends_begun stream vs Long (over, (from, rest, leads, front)) = (from, rest, leads)
+ends_begun stream vs ReadFault (within, (from, rest, leads, front)) = (from, rest, uncut_leads stream vs from rest within leads)
+ends_begun stream vs WriteFault begun = begun
+ends_begun stream vs Memory begun = begun

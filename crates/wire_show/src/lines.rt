@@ -28,7 +28,7 @@ impl ValueLines {
     }
 
     /// Adds the line of a value; without memory the lines stay as they were.
-    pub fn add(&mut self, alloc: Global, value: &Value) -> Result<(), AllocError>
+    fn add(&mut self, alloc: Global, value: &Value) -> Result<(), AllocError>
         ensures ok { OnOk result (self.new.ready.items ≡ self.old.ready.items ++ value_line value.now) }
         ensures err { OnErr result (self.new.ready.items ≡ self.old.ready.items) }
     {
@@ -37,6 +37,14 @@ impl ValueLines {
         self.line.push(b'\n')?;
         self.ready.extend_from_slice(self.line.as_slice())?;
         Ok(())
+    }
+
+    /// Adds the line of a value that isn't needed any more.
+    pub fn put(&mut self, alloc: Global, value: Value) -> Result<(), AllocError>
+        ensures ok { OnOk result (self.new.ready.items ≡ self.old.ready.items ++ value_line value) }
+        ensures err { OnErr result (self.new.ready.items ≡ self.old.ready.items) }
+    {
+        self.add(alloc, &value)
     }
 
     /// Writes the lines, and then there are none.

@@ -54,7 +54,7 @@ impl Showing {
             → Gives self.new.decoder stream (text ++ self.new.lines.ready.items) result }
     {
         match self.decoder.next(alloc) {
-            Ok(Some(value)) => match self.lines.add(alloc, &value) {
+            Ok(Some(value)) => match self.lines.put(alloc, value) {
                 Ok(()) => NextLine::Added,
                 Err(_) => NextLine::Memory,
             },

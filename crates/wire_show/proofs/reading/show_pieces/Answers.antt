@@ -13,9 +13,13 @@ pub returns-in_default-clause-shown : goal.returns-in_default-clause-shown
 returns-in_default-clause-shown g c =
     let m = source_view g.S.Source.left g.S.Source.read_faults g.S.Source.ends c.pieces.src in
     let n = source_view g.S.Source.left g.S.Source.read_faults g.S.Source.ends c.read.new.self in
-    let (bytes, lines, long, given, read, written) = c.pieces.invariant.shown in
-    (bytes, lines, read_failed _ m n bytes read c.in_default.ensures.bytes c.in_default.ensures.end.failed c.in_default.ensures.cause.later c.in_default.ensures.cause.failed,
-    failed_shown c.pieces.showing.decoder bytes lines given (omega (arith, long, c.pieces.invariant.within)), written)
+    let (bytes, lines, long, given, read, written) = c.pieces.invariant.shown in (
+      bytes,
+      lines,
+      read_failed _ m n bytes read c.in_default.ensures.bytes c.in_default.ensures.end.failed c.in_default.ensures.cause.later c.in_default.ensures.cause.failed,
+      failed_shown c.pieces.showing.decoder bytes lines given (omega (arith, long, c.pieces.invariant.within)),
+      written,
+    )
 
 pub returns-then-count-eq0-clause-shown : goal.returns-then-count-eq0-clause-shown
 returns-then-count-eq0-clause-shown g c =

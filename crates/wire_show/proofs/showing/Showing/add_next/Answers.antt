@@ -8,10 +8,10 @@ pub returns-in-Ok-clause-gives : goal.returns-in-Ok-clause-gives
 returns-in-Ok-clause-gives c =
     let next = rw c.in-Ok-Some.field-0-is at c.in-Ok-Some.ensures.next in
     λ stream text h.
-        let old = c.args.self.now.lines.ready.items in
-        let line = value_line c.in-Ok-Some.value in
-        subst (HasGivenLines c.next.new.self stream) (append_assoc text old line ∙ ap (λ l. text ++ l) (sym c.in-Ok.ensures.ok))
-        (gave_line c.args.self.now.decoder c.next.new.self stream (text ++ old) h c.in-Ok-Some.value next)
+    let old = c.args.self.now.lines.ready.items in
+    let line = value_line c.in-Ok-Some.value in
+    subst (HasGivenLines c.next.new.self stream) (append_assoc text old line ∙ ap (λ l. text ++ l) (sym c.in-Ok.ensures.ok))
+    (gave_line c.args.self.now.decoder c.next.new.self stream (text ++ old) h c.in-Ok-Some.value next)
 
 pub returns-in-Ok-None-clause-gives : goal.returns-in-Ok-None-clause-gives
 returns-in-Ok-None-clause-gives c =

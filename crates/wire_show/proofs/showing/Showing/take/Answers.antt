@@ -10,6 +10,8 @@ returns-in-Ok-clause-drains g c =
 
 pub returns-in-Err-clause-drains : goal.returns-in-Err-clause-drains
 returns-in-Err-clause-drains g c =
-    λ stream text h. ([],
-    subst (AreLinesOf (stream ++ c.args.piece.now)) (sym (append-nil text)) (lines_of_more stream c.args.piece.now text (lines_of_given c.args.self.now.decoder stream text h)),
-    (Appends-nil _, refl))
+    λ stream text h. (
+      [],
+      subst (AreLinesOf (stream ++ c.args.piece.now)) (sym (append-nil text)) (lines_of_more stream c.args.piece.now text (lines_of_given c.args.self.now.decoder stream text h)),
+      (Appends-nil _, refl),
+    )
