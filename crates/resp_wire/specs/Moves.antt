@@ -5,11 +5,11 @@ use Rattle.wire_grammar.specs.Limits.{value_limit}
 use Rattle.wire_grammar.specs.Reads.{Got, Wrong}
 use Rattle.resp_wire.specs.declared.decoder.Decoder.{Decoder}
 use Rattle.resp_wire.specs.declared.state.Phase.TheVariants.{Content, At}
-use Rattle.resp_wire.specs.declared.state.Spot.TheVariants.{Begin, Return}
+use Rattle.resp_wire.specs.declared.state.WireSpot.TheVariants.{Begin, Return}
 use Rattle.resp_wire.specs.declared.state.StepFault.{StepFault}
 use Rattle.resp_wire.specs.declared.state.StepFault.TheVariants.{Bad, Memory}
-use Rattle.resp_wire.specs.Steps.{State, state}
-use Rattle.resp_wire.specs.Meanings.{goes_on}
+use Rattle.resp_wire.specs.Steps.{WireState, state}
+use Rattle.resp_wire.specs.Meanings.{wire_goes_on}
 use Rattle.resp_wire.specs.Stands.{held_to}
 
 -- how many bytes are unread
@@ -31,7 +31,7 @@ pub record HasStayed (old new : Decoder) : Type 0 where
   pub spent : new.spent ≡ old.spent
 
 -- nothing but the mark of a fault changed
-pub record HasKept (old new : Decoder) : Type 0 where
+pub record HasOnlyMarked (old new : Decoder) : Type 0 where
   pub unread : new.unread.items ≡ old.unread.items
   pub at : new.at ≡ old.at
   pub held : new.held ≡ old.held
@@ -50,7 +50,7 @@ pub record HasMoved (old new : Decoder) (n : ℕ) : Type 0 where
   pub spent : new.spent ≡ old.spent
 
 -- one byte more ended the value at hand
-pub record HasEnded (old new : Decoder) : Type 0 where
+pub record HasGivenOne (old new : Decoder) : Type 0 where
   pub core : new.core ≡ old.core
   pub unread : new.unread.items ≡ old.unread.items
   pub at : new.at ≡ old.at + 1
@@ -67,17 +67,17 @@ pub record IsSpan (d : Decoder) (n : ℕ) : Type 0 where
   pub room : n + d.held ≤ value_limit
 
 -- how the content of a bulk string goes on by these n bytes
-abbrev pub ran : State → ℕ → List ℕ → State
+abbrev pub ran : WireState → ℕ → List ℕ → WireState
 ran s n xs =
     if nat_le n s.number then record { phase = Content; number = s.number - n; bytes = s.bytes ++ xs; opens = s.opens }
     else record { phase = At Return; number = s.number; bytes = s.bytes ++ xs; opens = s.opens }
 
 -- what the span means: the reading goes on after it, or its one byte ends a value or is wrong
 abbrev pub Advances : Decoder → Decoder → ℕ → Result (Option Value) StepFault → Type 0
-Advances old new n (Ok None) = (p : ℕ) (cs : List ℕ) → goes_on (state old.core) p (take n (ahead_of old) ++ cs) ≡ goes_on (state new.core) (p + n) cs
+Advances old new n (Ok None) = (p : ℕ) (cs : List ℕ) → wire_goes_on (state old.core) p (take n (ahead_of old) ++ cs) ≡ wire_goes_on (state new.core) (p + n) cs
 Advances old new n (Ok (Some v)) =
-    ((p : ℕ) (cs : List ℕ) → goes_on (state old.core) p (get_or old.unread.items old.at 0 ∷ cs) ≡ Got v (p + 1) cs) × (new.core.phase ≡ At Begin) × (new.core.opens.items ≡ [])
-Advances old new n (Err (Bad k)) = (p : ℕ) (cs : List ℕ) → goes_on (state old.core) p (get_or old.unread.items old.at 0 ∷ cs) ≡ Wrong k p
+    ((p : ℕ) (cs : List ℕ) → wire_goes_on (state old.core) p (get_or old.unread.items old.at 0 ∷ cs) ≡ Got v (p + 1) cs) × (new.core.phase ≡ At Begin) × (new.core.opens.items ≡ [])
+Advances old new n (Err (Bad k)) = (p : ℕ) (cs : List ℕ) → wire_goes_on (state old.core) p (get_or old.unread.items old.at 0 ∷ cs) ≡ Wrong k p
 Advances old new n (Err Memory) = Unit {0}
 
 -- all bytes were taken, and their room is free again

@@ -3,14 +3,14 @@ ghost use Rattle.std.specs.Prelude.{◌≡◌, ◌≤◌, ◌<◌, ◌+◌, Some
 ghost use Rattle.wire_grammar.specs.Limits.{value_limit};
 ghost use Rattle.wire_grammar.specs.declared.kind.WireKind.TheVariants.{TooLong};
 ghost use Rattle.resp_wire.specs.declared.state.Phase.TheVariants.{At, Content};
-ghost use Rattle.resp_wire.specs.declared.state.Spot.{Spot as TheSpot};
+ghost use Rattle.resp_wire.specs.declared.state.WireSpot.{WireSpot as TheSpot};
 ghost use Rattle.resp_wire.specs.Steps.{StepIs, state, step};
 ghost use Rattle.resp_wire.specs.Stands.{held_to};
-ghost use Rattle.resp_wire.specs.Moves.{Advances, HasEnded, HasKept, HasMoved, HasStayed, IsSpan, ahead_of, ran, unread_of};
+ghost use Rattle.resp_wire.specs.Moves.{Advances, HasGivenOne, HasOnlyMarked, HasMoved, HasStayed, IsSpan, ahead_of, ran, unread_of};
 
-use crate::decoder::{Decoder, Fault};
+use crate::decoder::{Decoder, FoundFault};
 use crate::machine::step;
-use crate::state::{Phase, Spot, StepFault};
+use crate::state::{Phase, StepFault, WireSpot};
 use std::alloc::{AllocError, Global};
 use wire_grammar::{VALUE_LIMIT, WireKind};
 use wire_values::Value;
@@ -50,7 +50,7 @@ impl Decoder {
         }
     }
 
-    fn byte(&mut self, alloc: Global, spot: Spot) -> Result<Option<Value>, StepFault>
+    fn byte(&mut self, alloc: Global, spot: WireSpot) -> Result<Option<Value>, StepFault>
         requires { 0 < unread_of self.old }
         ensures step { StepIs (step spot (state self.old.core) (get_or self.old.unread.items self.old.at 0)) (state self.new.core) result }
         ensures stayed { HasStayed self.old self.new }
@@ -70,7 +70,7 @@ impl Decoder {
             self.core.number -= span;
             self.core.phase = Phase::Content;
         } else {
-            self.core.phase = Phase::At(Spot::Return);
+            self.core.phase = Phase::At(WireSpot::Return);
         }
         Ok(())
     }
@@ -88,7 +88,7 @@ impl Decoder {
     /// Counts the byte that ended the value at hand.
     pub(crate) fn end(&mut self)
         requires { 0 < unread_of self.old }
-        ensures { HasEnded self.old self.new }
+        ensures { HasGivenOne self.old self.new }
     {
         self.at += 1;
         self.start = self.start.saturating_add(self.held + 1);
@@ -96,13 +96,13 @@ impl Decoder {
     }
 
     /// The next byte is wrong.
-    pub(crate) fn fail(&mut self, kind: WireKind) -> Fault
+    pub(crate) fn fail(&mut self, kind: WireKind) -> FoundFault
         ensures fault { self.new.fault ≡ Some result }
         ensures kind { result.kind ≡ kind }
         ensures place { result.place ≡ held_to (self.old.start + self.old.held) }
-        ensures kept { HasKept self.old self.new }
+        ensures kept { HasOnlyMarked self.old self.new }
     {
-        let fault = Fault {
+        let fault = FoundFault {
             kind,
             place: self.start.saturating_add(self.held),
         };
@@ -111,13 +111,13 @@ impl Decoder {
     }
 
     /// The value at hand passes its limit.
-    pub(crate) fn fail_long(&mut self) -> Fault
+    pub(crate) fn fail_long(&mut self) -> FoundFault
         ensures fault { self.new.fault ≡ Some result }
         ensures kind { result.kind ≡ TooLong }
         ensures place { result.place ≡ held_to (self.old.start + value_limit) }
-        ensures kept { HasKept self.old self.new }
+        ensures kept { HasOnlyMarked self.old self.new }
     {
-        let fault = Fault {
+        let fault = FoundFault {
             kind: WireKind::TooLong,
             place: self.start.saturating_add(VALUE_LIMIT),
         };

@@ -17,7 +17,7 @@ pub enum WireFault {
 
 /// A fault that was found.
 #[derive(Clone, Copy, Debug, Drop)]
-pub struct Fault {
+pub struct FoundFault {
     pub kind: WireKind,
     pub place: u64,
 }
@@ -37,7 +37,7 @@ pub struct Decoder {
     pub(crate) held: u64,
     // how many bytes were fed after a fault, 2^64 - 1 for all above
     pub(crate) later: u64,
-    pub(crate) fault: Option<Fault>,
+    pub(crate) fault: Option<FoundFault>,
     pub(crate) spent: bool,
     ghost within: { at ≤ length unread.items },
     ghost short: { held < value_limit },

@@ -1,7 +1,7 @@
-//! RESP2 values read from a stream that comes in pieces of any size, and written in their one spelling.
+//! RESP2 values read from a stream that comes in pieces of any size.
 //!
 //! What a value's bytes are, what a front is, and where a fault stands is defined in `wire_grammar`. `Decoder` gives
-//! just the values whose spellings begin the stream, whatever the pieces; `encode` writes the spelling of a value.
+//! just the values whose spellings begin the stream, whatever the pieces. `wire_spelling` writes values.
 #![tactic(auto)]
 
 mod advance;

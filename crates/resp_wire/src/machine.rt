@@ -3,10 +3,10 @@ ghost use Rattle.std.specs.Prelude.{◌≡◌, ◌<◌, ◌^◌, [], false, IfOk
 ghost use Rattle.wire_grammar.specs.declared.kind.NumberKind.TheVariants.{Count, Length, Whole};
 ghost use Rattle.wire_grammar.specs.Limits.{limit_of};
 ghost use Rattle.wire_grammar.specs.Reads.{begins_below, grown, over_of, signed};
-ghost use Rattle.resp_wire.specs.declared.state.Spot.TheVariants.{Text};
+ghost use Rattle.resp_wire.specs.declared.state.WireSpot.TheVariants.{Text};
 ghost use Rattle.resp_wire.specs.Steps.{StepIs, headed, settle, state, step, step_begin, step_digit, step_digits, step_feed, step_first, step_line, step_minus, step_return, step_star, step_text, step_text_feed, step_zero, text_value, with_bytes};
 
-use crate::state::{Core, Open, Phase, Spot, StepFault};
+use crate::state::{Core, Open, Phase, StepFault, WireSpot};
 use sqlite_items::Items;
 use std::alloc::{AllocError, Global};
 use std::mem;
@@ -19,22 +19,22 @@ use wire_values::{Bytes, Value};
 pub fn step(
     core: &mut Core,
     alloc: Global,
-    spot: Spot,
+    spot: WireSpot,
     byte: u8,
 ) -> Result<Option<Value>, StepFault>
     ensures { StepIs (step spot (state core.old) byte) (state core.new) result }
 {
     match spot {
-        Spot::Begin => begin(core, byte),
-        Spot::Text(kind) => text(core, alloc, kind, byte),
-        Spot::TextFeed(kind) => text_feed(core, alloc, kind, byte),
-        Spot::First(kind) => first(core, kind, byte),
-        Spot::Minus(kind) => minus(core, kind, byte),
-        Spot::Zero(kind) => zero(core, kind, byte),
-        Spot::Digits(kind, negative) => digits(core, kind, negative, byte),
-        Spot::Feed(kind, negative) => feed(core, alloc, kind, negative, byte),
-        Spot::Return => carriage_return(core, byte),
-        Spot::Line => line(core, alloc, byte),
+        WireSpot::Begin => begin(core, byte),
+        WireSpot::Text(kind) => text(core, alloc, kind, byte),
+        WireSpot::TextFeed(kind) => text_feed(core, alloc, kind, byte),
+        WireSpot::First(kind) => first(core, kind, byte),
+        WireSpot::Minus(kind) => minus(core, kind, byte),
+        WireSpot::Zero(kind) => zero(core, kind, byte),
+        WireSpot::Digits(kind, negative) => digits(core, kind, negative, byte),
+        WireSpot::Feed(kind, negative) => feed(core, alloc, kind, negative, byte),
+        WireSpot::Return => carriage_return(core, byte),
+        WireSpot::Line => line(core, alloc, byte),
     }
 }
 
@@ -49,12 +49,12 @@ fn put(core: &mut Core, alloc: Global, value: Value) -> Result<Option<Value>, Al
         if open.more > 0 {
             open.more -= 1;
             core.opens.push_front(open)?;
-            core.phase = Phase::At(Spot::Begin);
+            core.phase = Phase::At(WireSpot::Begin);
             return Ok(None);
         }
         value = Value::Array(open.items);
     }
-    core.phase = Phase::At(Spot::Begin);
+    core.phase = Phase::At(WireSpot::Begin);
     Ok(Some(value))
 }
 
@@ -68,10 +68,10 @@ fn begin(core: &mut Core, byte: u8) -> Result<Option<Value>, StepFault>
         begin_text(core, TextKind::Error);
         Ok(None)
     } else if byte == b':' {
-        core.phase = Phase::At(Spot::First(NumberKind::Whole));
+        core.phase = Phase::At(WireSpot::First(NumberKind::Whole));
         Ok(None)
     } else if byte == b'$' {
-        core.phase = Phase::At(Spot::First(NumberKind::Length));
+        core.phase = Phase::At(WireSpot::First(NumberKind::Length));
         Ok(None)
     } else if byte == b'*' {
         begin_array(core)
@@ -84,14 +84,14 @@ fn begin_text(core: &mut Core, kind: TextKind)
     ensures { state core.new ≡ with_bytes (state core.old) (Text kind) [] }
 {
     core.bytes = Bytes::new();
-    core.phase = Phase::At(Spot::Text(kind));
+    core.phase = Phase::At(WireSpot::Text(kind));
 }
 
 fn begin_array(core: &mut Core) -> Result<Option<Value>, StepFault>
     ensures { StepIs (step_star (state core.old)) (state core.new) result }
 {
     if core.opens.len() < DEPTH_LIMIT {
-        core.phase = Phase::At(Spot::First(NumberKind::Count));
+        core.phase = Phase::At(WireSpot::First(NumberKind::Count));
         Ok(None)
     } else {
         Err(StepFault::Bad(WireKind::TooDeep))
@@ -107,13 +107,13 @@ fn text(
     ensures { StepIs (step_text kind (state core.old) byte) (state core.new) result }
 {
     if byte == b'\r' {
-        core.phase = Phase::At(Spot::TextFeed(kind));
+        core.phase = Phase::At(WireSpot::TextFeed(kind));
         Ok(None)
     } else if byte == b'\n' {
         Err(StepFault::Bad(WireKind::NoCrLf))
     } else if core.bytes.len() < TEXT_LIMIT {
         core.bytes.push(alloc, byte)?;
-        core.phase = Phase::At(Spot::Text(kind));
+        core.phase = Phase::At(WireSpot::Text(kind));
         Ok(None)
     } else {
         Err(StepFault::Bad(WireKind::TooLong))
@@ -150,14 +150,14 @@ fn first(core: &mut Core, kind: NumberKind, byte: u8) -> Result<Option<Value>, S
 {
     if byte == b'0' {
         core.number = 0;
-        core.phase = Phase::At(Spot::Zero(kind));
+        core.phase = Phase::At(WireSpot::Zero(kind));
         Ok(None)
     } else if b'0' <= byte && byte <= b'9' {
         core.number = u64::from(byte - b'0');
-        core.phase = Phase::At(Spot::Digits(kind, false));
+        core.phase = Phase::At(WireSpot::Digits(kind, false));
         Ok(None)
     } else if byte == b'-' {
-        core.phase = Phase::At(Spot::Minus(kind));
+        core.phase = Phase::At(WireSpot::Minus(kind));
         Ok(None)
     } else {
         Err(StepFault::Bad(WireKind::BadInteger))
@@ -169,7 +169,7 @@ fn minus(core: &mut Core, kind: NumberKind, byte: u8) -> Result<Option<Value>, S
 {
     if b'1' <= byte && byte <= b'9' && u64::from(byte - b'1') <= limit(kind, true) {
         core.number = u64::from(byte - b'1');
-        core.phase = Phase::At(Spot::Digits(kind, true));
+        core.phase = Phase::At(WireSpot::Digits(kind, true));
         Ok(None)
     } else {
         Err(StepFault::Bad(WireKind::BadInteger))
@@ -181,7 +181,7 @@ fn zero(core: &mut Core, kind: NumberKind, byte: u8) -> Result<Option<Value>, St
 {
     if byte == b'\r' {
         core.number = 0;
-        core.phase = Phase::At(Spot::Feed(kind, false));
+        core.phase = Phase::At(WireSpot::Feed(kind, false));
         Ok(None)
     } else {
         Err(StepFault::Bad(WireKind::BadInteger))
@@ -197,7 +197,7 @@ fn digits(
     ensures { StepIs (step_digits kind negative (state core.old) byte) (state core.new) result }
 {
     if byte == b'\r' {
-        core.phase = Phase::At(Spot::Feed(kind, negative));
+        core.phase = Phase::At(WireSpot::Feed(kind, negative));
         Ok(None)
     } else if b'0' <= byte && byte <= b'9' {
         digit(core, kind, negative, byte - b'0')
@@ -219,7 +219,7 @@ fn digit(
     let limit = limit(kind, negative);
     if sum <= u128::from(limit) {
         core.number = sum as u64;
-        core.phase = Phase::At(Spot::Digits(kind, negative));
+        core.phase = Phase::At(WireSpot::Digits(kind, negative));
         Ok(None)
     } else {
         Err(StepFault::Bad(over(kind, negative)))
@@ -329,7 +329,7 @@ fn length(core: &mut Core)
 {
     core.bytes = Bytes::new();
     core.phase = if core.number == 0 {
-        Phase::At(Spot::Return)
+        Phase::At(WireSpot::Return)
     } else {
         Phase::Content
     };
@@ -346,7 +346,7 @@ fn count(core: &mut Core, alloc: Global) -> Result<Option<Value>, AllocError>
         more: core.number - 1,
         items: Items::new(alloc),
     })?;
-    core.phase = Phase::At(Spot::Begin);
+    core.phase = Phase::At(WireSpot::Begin);
     Ok(None)
 }
 
@@ -354,7 +354,7 @@ fn carriage_return(core: &mut Core, byte: u8) -> Result<Option<Value>, StepFault
     ensures { StepIs (step_return (state core.old) byte) (state core.new) result }
 {
     if byte == b'\r' {
-        core.phase = Phase::At(Spot::Line);
+        core.phase = Phase::At(WireSpot::Line);
         Ok(None)
     } else {
         Err(StepFault::Bad(WireKind::NoCrLf))

@@ -1,11 +1,11 @@
 //! What a decoder answers.
 ghost use Rattle.std.specs.Prelude.{◌≡◌, ◌<◌, ◌≤◌, ◌++◌, [], ℕ, List, Err, IsErr, None, false, length, IfOk, OnOk, OnErr, OnSome};
 ghost use Rattle.resp_wire.specs.declared.decoder.WireFault.TheVariants.{Bad, Memory};
-ghost use Rattle.resp_wire.specs.Stands.{HasNext, IsSpent, Stands, held_to};
+ghost use Rattle.resp_wire.specs.Stands.{HasNext, IsSpentDecoder, Stands, held_to};
 ghost use Rattle.resp_wire.specs.Moves.{HasCleared, HasCounted, HasFed, ahead_of, unread_of};
 
-use crate::decoder::{Decoder, Fault, WireFault};
-use crate::state::{Core, Phase, Spot, StepFault};
+use crate::decoder::{Decoder, FoundFault, WireFault};
+use crate::state::{Core, Phase, StepFault, WireSpot};
 use std::alloc::{AllocError, Global};
 use std::collections::VecDeque;
 use wire_grammar::VALUE_LIMIT;
@@ -21,7 +21,7 @@ impl Decoder {
     {
         Decoder {
             core: Core {
-                phase: Phase::At(Spot::Begin),
+                phase: Phase::At(WireSpot::Begin),
                 number: 0,
                 bytes: Bytes::new(),
                 opens: VecDeque::new(alloc),
@@ -39,8 +39,8 @@ impl Decoder {
     /// Takes the next piece of the stream. Without memory the decoder is spent.
     pub fn feed(&mut self, alloc: Global, piece: &[u8]) -> Result<(), AllocError>
         ensures ok { OnOk result ((before : ℕ) (rest : List ℕ) → Stands self.old before rest → Stands self.new before (rest ++ piece.now)) }
-        ensures err { OnErr result (IsSpent self.new) }
-        ensures spent { IsSpent self.old → IsErr result }
+        ensures err { OnErr result (IsSpentDecoder self.new) }
+        ensures spent { IsSpentDecoder self.old → IsErr result }
     {
         if self.spent {
             return Err(AllocError);
@@ -100,7 +100,7 @@ impl Decoder {
     pub fn next(&mut self, alloc: Global) -> Result<Option<Value>, WireFault>
         ensures less { IfOk result (λ value. OnSome value (unread_of self.new < unread_of self.old)) }
         ensures next { (before : ℕ) (rest : List ℕ) → Stands self.old before rest → HasNext before rest self.new result }
-        ensures spent { IsSpent self.old → (result ≡ Err Memory) × IsSpent self.new }
+        ensures spent { IsSpentDecoder self.old → (result ≡ Err Memory) × IsSpentDecoder self.new }
     {
         if self.spent {
             return Err(WireFault::Memory);
@@ -111,7 +111,7 @@ impl Decoder {
         self.scan(alloc)
     }
 
-    fn broken(&self) -> Option<Fault>
+    fn broken(&self) -> Option<FoundFault>
         ensures { result ≡ self.now.fault }
     {
         self.fault
@@ -160,7 +160,7 @@ impl Decoder {
     }
 }
 
-fn bad(fault: Fault) -> WireFault
+fn bad(fault: FoundFault) -> WireFault
     ensures { result ≡ Bad fault.kind fault.place }
 {
     WireFault::Bad {

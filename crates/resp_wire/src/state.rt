@@ -8,7 +8,7 @@ use wire_values::{Bytes, Values};
 
 /// Where in a value the next byte stands, outside the content of a bulk string.
 #[derive(Clone, Copy)]
-pub enum Spot {
+pub enum WireSpot {
     /// Where a value begins.
     Begin,
     /// In a text.
@@ -37,7 +37,7 @@ pub enum Phase {
     /// The content of a bulk string, of which `number` bytes come after the next one.
     Content,
     /// One byte, which decides what follows.
-    At(Spot),
+    At(WireSpot),
 }
 
 /// An array of which some items came; `more` come after the one at hand.

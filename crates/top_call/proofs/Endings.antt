@@ -1,5 +1,5 @@
 -- Why a run ends as it does.
-use Rattle.std.proofs.Common.{List, None, ap, inl, inr, sym, ℕ, ◌≡◌, ◌∙◌}
+use Rattle.std.proofs.Common.{List, ap, inl, inr, sym, true, ℕ, ◌≡◌, ◌∙◌}
 use Rattle.links.specs.Ends.{IsPast, IsWholeInput}
 use Rattle.links.specs.Views.{SourceView}
 use Rattle.message_schedules.proofs.Program.{whole_placed, whole_sound}
@@ -12,8 +12,8 @@ use Rattle.schedule_model.specs.Schedules.{Whole, reader_history}
 use Rattle.top_call.proofs.Fronts.{schedule_run-past}
 use Rattle.top_call.specs.Endings.{EndsAs, Shown}
 use Rattle.top_call.specs.Replays.{IsReport, replay_run}
-use Rattle.top_call.specs.Words.{bad_place}
-use Rattle.top_call.specs.declared.ending.End.TheVariants.{BadLine, BadWord, Full, Memory, ReadFault, Reported}
+use Rattle.top_call.specs.Words.{is_replay}
+use Rattle.top_call.specs.declared.ending.End.TheVariants.{BadByte, BadLine, BadWord, Full, LongStream, Memory, ReadFault, Reported, Shown as ShownEnd, Unfinished}
 use Rattle.top_call.specs.declared.ending.End.{End}
 
 -- the report of the history that a schedule determines
@@ -27,18 +27,26 @@ report_of schedule text h (d, run, same) written = record {
 }
 
 -- an input that was read to its end
-pub shown_whole : (words : List (List ℕ)) (before now : SourceView) (bytes : List ℕ) (end : End) → bad_place words ≡ None → IsWholeInput 67108864 before now bytes → EndsAs bytes end → Shown words before now end
+pub shown_whole : (words : List (List ℕ)) (before now : SourceView) (bytes : List ℕ) (end : End) → is_replay words ≡ true → IsWholeInput 67108864 before now bytes → EndsAs bytes end → Shown words before now end
 shown_whole words before now bytes (Reported report) lawful whole ends = (lawful, (bytes, whole, ends))
 shown_whole words before now bytes (BadWord place) lawful whole ends = absurd ends
+shown_whole words before now bytes ShownEnd lawful whole ends = absurd ends
+shown_whole words before now bytes (BadByte kind place) lawful whole ends = absurd ends
+shown_whole words before now bytes (Unfinished place) lawful whole ends = absurd ends
+shown_whole words before now bytes LongStream lawful whole ends = absurd ends
 shown_whole words before now bytes (BadLine bad) lawful whole ends = (lawful, (bytes, inl whole, ends))
 shown_whole words before now bytes ReadFault lawful whole ends = absurd ends
 shown_whole words before now bytes (Full entries cost) lawful whole ends = (lawful, (bytes, inl whole, ends))
 shown_whole words before now bytes Memory lawful whole ends = tt
 
 -- an input past the limit
-pub shown_past : (words : List (List ℕ)) (before now : SourceView) (bytes : List ℕ) (end : End) → bad_place words ≡ None → IsPast 67108864 before now bytes → EndsAs bytes end → Shown words before now end
+pub shown_past : (words : List (List ℕ)) (before now : SourceView) (bytes : List ℕ) (end : End) → is_replay words ≡ true → IsPast 67108864 before now bytes → EndsAs bytes end → Shown words before now end
 shown_past words before now bytes (Reported report) lawful past ends = absurd (schedule_run-past program_craft bytes ends.desk past.over ends.determined)
 shown_past words before now bytes (BadWord place) lawful past ends = absurd ends
+shown_past words before now bytes ShownEnd lawful past ends = absurd ends
+shown_past words before now bytes (BadByte kind place) lawful past ends = absurd ends
+shown_past words before now bytes (Unfinished place) lawful past ends = absurd ends
+shown_past words before now bytes LongStream lawful past ends = absurd ends
 shown_past words before now bytes (BadLine bad) lawful past ends = (lawful, (bytes, inr past, ends))
 shown_past words before now bytes ReadFault lawful past ends = absurd ends
 shown_past words before now bytes (Full entries cost) lawful past ends = (lawful, (bytes, inr past, ends))

@@ -1,3 +1,5 @@
+pub mod Asked
 pub mod Endings
 pub mod Fronts
+pub mod Showings
 pub mod Statuses

@@ -1,5 +1,5 @@
 -- What each status of a run says.
-use Rattle.std.proofs.Common.{Contains, List, None, Option, Some, [], ap, append-nil, arith, inl, inr, lit<, refl, subst, sym, unwrap_or, ℕ, ◌++◌, ◌≡◌, ◌∙◌, ◌∷◌, ◌≤◌, ◌⊎◌}
+use Rattle.std.proofs.Common.{Contains, List, None, Option, Some, [], ap, append-nil, arith, inl, inr, lit<, refl, subst, sym, true, unwrap_or, ℕ, ◌++◌, ◌≡◌, ◌∙◌, ◌∷◌, ◌≤◌, ◌⊎◌}
 use Rattle.std.proofs.lemmas.Option.{none-some}
 use Rattle.std.specs.Io.KnownBytes.{Appends, Consumes, IsAtEnd}
 use Rattle.links.specs.Causes.{Rose}
@@ -8,11 +8,12 @@ use Rattle.schedule_model.specs.Programs.{program_craft}
 use Rattle.schedule_model.specs.Schedules.{Bad_line, Determined, Whole}
 use Rattle.schedule_model.specs.Schedules as schedules
 use Rattle.top_call.proofs.Fronts.{schedule_run-front}
-use Rattle.top_call.specs.Endings.{HasEnded, Shown, ended_of, text_of}
+use Rattle.top_call.specs.Endings.{HasAnswered, Shown, ended_of, text_of}
 use Rattle.top_call.specs.Replays.{HasInput, IsReport, calm_statuses, replay_run}
 use Rattle.top_call.specs.Statuses.{IsAnswerTo, IsBadLine, IsBadWord, IsHistoryFull, IsReadFault, IsReported, IsWriteFault, WritesBadLine, WritesFull, WritesReport}
-use Rattle.top_call.specs.Words.{bad_place}
-use Rattle.top_call.specs.declared.ending.End.TheVariants.{BadLine, BadWord, Full, Memory, ReadFault, Reported}
+use Rattle.top_call.specs.Words.{bad_place, is_replay}
+use Rattle.top_call.proofs.Asked.{lawful_good}
+use Rattle.top_call.specs.declared.ending.End.TheVariants.{BadByte, BadLine, BadWord, Full, LongStream, Memory, ReadFault, Reported, Shown as ShownEnd, Unfinished}
 use Rattle.top_call.specs.declared.ending.End.{End}
 use Rattle.top_call.specs.declared.ending.Ended.{Ended}
 
@@ -22,15 +23,16 @@ shown_memory words b n end written shown (inl same) = subst (Shown words b n) (s
 shown_memory words b n end written shown (inr memory) = subst (Shown words b n) (sym memory) tt
 
 module _ (words : List (List ℕ)) (b n : SourceView) (o x : SinkView) (r : Ended) where
-  pub status_reported : HasEnded words b n o x r → r.status ≡ 0 → IsReported words b n o x
+  pub status_reported : HasAnswered words b n o x r → r.status ≡ 0 → IsReported words b n o x
   status_reported (e, shown, inl (is, text, kept)) zero = by e shown text (sym (ap (λ v. v.status) is) ∙ zero)
     where
       by : (e : End) → Shown words b n e → Appends o.taken x.taken (text_of e) → (ended_of e).status ≡ 0 → IsReported words b n o x
+      by ShownEnd shown text zero = absurd shown
       by (Reported report) (lawful, (bytes, whole, is)) text zero = (lawful, (bytes, whole, (report, is, text)))
       by _ shown text zero = absurd (omega (arith, zero))
   status_reported (e, shown, inr (is, front, later, rose)) zero = let five = sym (ap (λ v. v.status) is) ∙ zero in absurd (omega (arith, five))
 
-  pub status_bad_word : HasEnded words b n o x r → r.status ≡ 2 → IsBadWord words b n o x r.place
+  pub status_bad_word : HasAnswered words b n o x r → r.status ≡ 2 → IsBadWord words b n o x r.place
   status_bad_word (e, shown, inl (is, text, kept)) two = by e shown text (sym (ap (λ v. v.status) is) ∙ two) (ap (λ v. v.place) is)
     where
       by : (e : End) → Shown words b n e → Appends o.taken x.taken (text_of e) → (ended_of e).status ≡ 2 → r.place ≡ (ended_of e).place → IsBadWord words b n o x r.place
@@ -38,15 +40,18 @@ module _ (words : List (List ℕ)) (b n : SourceView) (o x : SinkView) (r : Ende
       by _ shown text two at = absurd (omega (arith, two))
   status_bad_word (e, shown, inr (is, front, later, rose)) two = let five = sym (ap (λ v. v.status) is) ∙ two in absurd (omega (arith, five))
 
-  pub status_bad_line : HasEnded words b n o x r → r.status ≡ 3 → IsBadLine words b n o x r.place
+  pub status_bad_line : HasAnswered words b n o x r → r.status ≡ 3 → IsBadLine words b n o x r.place
   status_bad_line (e, shown, inl (is, text, kept)) three = by e shown text (sym (ap (λ v. v.status) is) ∙ three) (ap (λ v. v.place) is)
     where
       by : (e : End) → Shown words b n e → Appends o.taken x.taken (text_of e) → (ended_of e).status ≡ 3 → r.place ≡ (ended_of e).place → IsBadLine words b n o x r.place
+      by (BadByte kind place) shown text three at = absurd shown
+      by (Unfinished place) shown text three at = absurd shown
+      by LongStream shown text three at = absurd shown
       by (BadLine bad) (lawful, (bytes, input, run)) text three at = rw at (lawful, (bytes, input, (bad.reason, run, text)))
       by _ shown text three at = absurd (omega (arith, three))
   status_bad_line (e, shown, inr (is, front, later, rose)) three = let five = sym (ap (λ v. v.status) is) ∙ three in absurd (omega (arith, five))
 
-  pub status_read_fault : HasEnded words b n o x r → r.status ≡ 4 → IsReadFault b n o x
+  pub status_read_fault : HasAnswered words b n o x r → r.status ≡ 4 → IsReadFault b n o x
   status_read_fault (e, shown, inl (is, text, kept)) four = by e shown text (sym (ap (λ v. v.status) is) ∙ four)
     where
       by : (e : End) → Shown words b n e → Appends o.taken x.taken (text_of e) → (ended_of e).status ≡ 4 → IsReadFault b n o x
@@ -54,11 +59,15 @@ module _ (words : List (List ℕ)) (b n : SourceView) (o x : SinkView) (r : Ende
       by _ shown text four = absurd (omega (arith, four))
   status_read_fault (e, shown, inr (is, front, later, rose)) four = let five = sym (ap (λ v. v.status) is) ∙ four in absurd (omega (arith, five))
 
-  pub status_write_fault : HasEnded words b n o x r → r.status ≡ 5 → IsWriteFault words b n o x
+  pub status_write_fault : HasAnswered words b n o x r → r.status ≡ 5 → IsWriteFault words b n o x
   status_write_fault (e, shown, inl (is, text, kept)) five = by e (sym (ap (λ v. v.status) is) ∙ five)
     where
       by : (e : End) → (ended_of e).status ≡ 5 → IsWriteFault words b n o x
       by (Reported report) five = absurd (omega (arith, five))
+      by ShownEnd five = absurd (omega (arith, five))
+      by (BadByte kind place) five = absurd (omega (arith, five))
+      by (Unfinished place) five = absurd (omega (arith, five))
+      by LongStream five = absurd (omega (arith, five))
       by (BadWord place) five = absurd (omega (arith, five))
       by (BadLine bad) five = absurd (omega (arith, five))
       by ReadFault five = absurd (omega (arith, five))
@@ -66,7 +75,7 @@ module _ (words : List (List ℕ)) (b n : SourceView) (o x : SinkView) (r : Ende
       by Memory five = absurd (omega (arith, five))
   status_write_fault (e, shown, inr (is, front, later, rose)) five = (later, rose, (e, shown, front))
 
-  pub status_history_full : HasEnded words b n o x r → r.status ≡ 9 → IsHistoryFull words b n o x
+  pub status_history_full : HasAnswered words b n o x r → r.status ≡ 9 → IsHistoryFull words b n o x
   status_history_full (e, shown, inl (is, text, kept)) nine = by e shown text (sym (ap (λ v. v.status) is) ∙ nine)
     where
       by : (e : End) → Shown words b n e → Appends o.taken x.taken (text_of e) → (ended_of e).status ≡ 9 → IsHistoryFull words b n o x
@@ -74,7 +83,7 @@ module _ (words : List (List ℕ)) (b n : SourceView) (o x : SinkView) (r : Ende
       by _ shown text nine = absurd (omega (arith, nine))
   status_history_full (e, shown, inr (is, front, later, rose)) nine = let five = sym (ap (λ v. v.status) is) ∙ nine in absurd (omega (arith, five))
 
-  pub status_out_of_memory : HasEnded words b n o x r → r.status ≡ 11 → Appends o.taken x.taken (text_of Memory)
+  pub status_out_of_memory : HasAnswered words b n o x r → r.status ≡ 11 → Appends o.taken x.taken (text_of Memory)
   status_out_of_memory (e, shown, inl (is, text, kept)) eleven = by e text (sym (ap (λ v. v.status) is) ∙ eleven)
     where
       by : (e : End) → Appends o.taken x.taken (text_of e) → (ended_of e).status ≡ 11 → Appends o.taken x.taken (text_of Memory)
@@ -82,15 +91,19 @@ module _ (words : List (List ℕ)) (b n : SourceView) (o x : SinkView) (r : Ende
       by _ text eleven = absurd (omega (arith, eleven))
   status_out_of_memory (e, shown, inr (is, front, later, rose)) eleven = let five = sym (ap (λ v. v.status) is) ∙ eleven in absurd (omega (arith, five))
 
-  pub sink_later : HasEnded words b n o x r → o.faults ≤ x.faults
+  pub sink_later : HasAnswered words b n o x r → o.faults ≤ x.faults
   sink_later (e, shown, inl (is, text, kept)) = omega (arith, kept)
   sink_later (e, shown, inr (is, front, later, rose)) = later
 
-  pub statuses : HasEnded words b n o x r → Contains (0 ∷ 2 ∷ 3 ∷ 4 ∷ 5 ∷ 9 ∷ 11 ∷ []) r.status
+  pub statuses : HasAnswered words b n o x r → Contains (0 ∷ 2 ∷ 3 ∷ 4 ∷ 5 ∷ 9 ∷ 11 ∷ []) r.status
   statuses (e, shown, inl (is, text, kept)) = by e (ap (λ v. v.status) is)
     where
       by : (e : End) → r.status ≡ (ended_of e).status → Contains (0 ∷ 2 ∷ 3 ∷ 4 ∷ 5 ∷ 9 ∷ 11 ∷ []) r.status
       by (Reported report) is = rw is (0, lit< tt, refl)
+      by ShownEnd is = rw is (0, lit< tt, refl)
+      by (BadByte kind place) is = rw is (2, lit< tt, refl)
+      by (Unfinished place) is = rw is (2, lit< tt, refl)
+      by LongStream is = rw is (2, lit< tt, refl)
       by (BadWord place) is = rw is (1, lit< tt, refl)
       by (BadLine bad) is = rw is (2, lit< tt, refl)
       by ReadFault is = rw is (3, lit< tt, refl)
@@ -98,26 +111,30 @@ module _ (words : List (List ℕ)) (b n : SourceView) (o x : SinkView) (r : Ende
       by Memory is = rw is (6, lit< tt, refl)
   statuses (e, shown, inr (is, front, later, rose)) = let five = ap (λ v. v.status) is in rw five (4, lit< tt, refl)
 
-  pub status_unlawful : HasEnded words b n o x r → (place : ℕ) → bad_place words ≡ Some place → Contains (2 ∷ 5 ∷ 11 ∷ []) r.status
+  pub status_unlawful : HasAnswered words b n o x r → (place : ℕ) → bad_place words ≡ Some place → Contains (2 ∷ 5 ∷ 11 ∷ []) r.status
   status_unlawful (e, shown, inl (is, text, kept)) place unlawful = by e shown (ap (λ v. v.status) is)
     where
       by : (e : End) → Shown words b n e → r.status ≡ (ended_of e).status → Contains (2 ∷ 5 ∷ 11 ∷ []) r.status
-      by (Reported report) shown is = let clash = sym shown.0 ∙ unlawful in absurd (none-some place clash)
+      by (Reported report) shown is = absurd (lawful_good words place shown.0 unlawful)
+      by ShownEnd shown is = absurd shown
+      by (BadByte kind at) shown is = absurd shown
+      by (Unfinished at) shown is = absurd shown
+      by LongStream shown is = absurd shown
       by (BadWord at) shown is = rw is (0, lit< tt, refl)
-      by (BadLine bad) shown is = let clash = sym shown.0 ∙ unlawful in absurd (none-some place clash)
-      by ReadFault shown is = let clash = sym shown.0 ∙ unlawful in absurd (none-some place clash)
-      by (Full entries cost) shown is = let clash = sym shown.0 ∙ unlawful in absurd (none-some place clash)
+      by (BadLine bad) shown is = absurd (lawful_good words place shown.0 unlawful)
+      by ReadFault shown is = absurd (lawful_good words place shown.0 unlawful)
+      by (Full entries cost) shown is = absurd (lawful_good words place shown.0 unlawful)
       by Memory shown is = rw is (2, lit< tt, refl)
   status_unlawful (e, shown, inr (is, front, later, rose)) place unlawful = let five = ap (λ v. v.status) is in rw five (1, lit< tt, refl)
 
 -- what was consumed to the end is all that there was
-consumed_all : (left now : Option (List ℕ)) (schedule bytes : List ℕ) → left ≡ Some schedule → Consumes left now bytes → IsAtEnd now → bytes ≡ schedule
+pub consumed_all : (left now : Option (List ℕ)) (schedule bytes : List ℕ) → left ≡ Some schedule → Consumes left now bytes → IsAtEnd now → bytes ≡ schedule
 consumed_all None now schedule bytes is taken end = absurd (none-some schedule is)
 consumed_all (Some all) None schedule bytes is taken end = absurd taken
 consumed_all (Some all) (Some rest) schedule bytes is taken end = let told : schedule ≡ all = sym (ap (λ v. unwrap_or v []) is) in sym (told ∙ taken ∙ ap (λ l. bytes ++ l) end ∙ append-nil bytes)
 
 -- what was consumed is a front of what there was
-consumed_front : (left now : Option (List ℕ)) (schedule bytes : List ℕ) → left ≡ Some schedule → Consumes left now bytes → (more : List ℕ) × (schedule ≡ bytes ++ more)
+pub consumed_front : (left now : Option (List ℕ)) (schedule bytes : List ℕ) → left ≡ Some schedule → Consumes left now bytes → (more : List ℕ) × (schedule ≡ bytes ++ more)
 consumed_front None now schedule bytes is taken = absurd (none-some schedule is)
 consumed_front (Some all) None schedule bytes is taken = absurd taken
 consumed_front (Some all) (Some rest) schedule bytes is taken = let told : schedule ≡ all = sym (ap (λ v. unwrap_or v []) is) in (rest, told ∙ taken)
@@ -150,7 +167,7 @@ calm_memory (schedules.Full entries cost) = (1, lit< tt, refl)
 calm_memory (Bad_line line reason) = (1, lit< tt, refl)
 
 module _ (words : List (List ℕ)) (b n : SourceView) (o x : SinkView) (r : Ended) (schedule : List ℕ) (told : b.left ≡ Some schedule) where
-  pub answer_of_input : HasEnded words b n o x r → IsAnswerTo schedule o x r
+  pub answer_of_input : HasAnswered words b n o x r → IsAnswerTo schedule o x r
   answer_of_input ended = record {
     reported = λ zero. first (status_reported words b n o x r ended zero);
     bad_line = λ three. second (status_bad_line words b n o x r ended three);
@@ -166,12 +183,16 @@ module _ (words : List (List ℕ)) (b n : SourceView) (o x : SinkView) (r : Ende
       third : IsHistoryFull words b n o x → WritesFull o x schedule
       third (lawful, (bytes, input, (entries, cost, run, text))) = (entries, cost, run_of_input b n schedule bytes told input ∙ run, text)
 
-  pub status_complete : HasEnded words b n o x r → bad_place words ≡ None → ¬ (Rose b.faults n.faults) → ¬ (Rose o.faults x.faults) → Contains (calm_statuses (replay_run schedule)) r.status
+  pub status_complete : HasAnswered words b n o x r → is_replay words ≡ true → ¬ (Rose b.faults n.faults) → ¬ (Rose o.faults x.faults) → Contains (calm_statuses (replay_run schedule)) r.status
   status_complete (e, shown, inl (is, written, kept)) lawful calm_source calm_sink = by e shown (ap (λ v. v.status) is)
     where
       by : (e : End) → Shown words b n e → r.status ≡ (ended_of e).status → Contains (calm_statuses (replay_run schedule)) r.status
       by (Reported report) (good, (bytes, whole, is)) at = rw at (calm schedule _ 0 (run_of_input b n schedule bytes told (inl whole) ∙ is.determined) (0, lit< tt, refl))
-      by (BadWord place) shown at = let clash = sym lawful ∙ shown.0 in absurd (none-some place clash)
+      by (BadWord place) shown at = absurd (lawful_good words place lawful shown.0)
+      by ShownEnd shown at = absurd shown
+      by (BadByte kind place) shown at = absurd shown
+      by (Unfinished place) shown at = absurd shown
+      by LongStream shown at = absurd shown
       by (BadLine bad) (good, (bytes, input, run)) at = rw at (calm schedule _ 3 (run_of_input b n schedule bytes told input ∙ run) (0, lit< tt, refl))
       by ReadFault shown at = absurd (calm_source shown.2)
       by (Full entries cost) (good, (bytes, input, run)) at = rw at (calm schedule _ 9 (run_of_input b n schedule bytes told input ∙ run) (0, lit< tt, refl))

@@ -1,19 +1,27 @@
 -- How a run ends: its text, its status, and why it may end so. Serves the proofs of code.
 use Rattle.std.specs.Io.KnownBytes.{Appends, Consumes}
-use Rattle.std.specs.Prelude.{List, None, Some, codes, decimal, length, ℕ, ◌++◌, ◌+◌, ◌≡◌, ◌≤◌, ◌⊎◌}
+use Rattle.std.specs.Prelude.{List, Some, [], codes, false, true, decimal, length, ℕ, ◌++◌, ◌+◌, ◌≡◌, ◌≤◌, ◌⊎◌}
 use Rattle.line_text.specs.Reason.{reason_text}
 use Rattle.links.specs.Causes.{AppendsFront, Rose}
 use Rattle.links.specs.Ends.{IsWholeInput}
 use Rattle.links.specs.Views.{SinkView, SourceView}
 use Rattle.top_call.specs.Replays.{HasInput, IsFirstBad, IsFull, IsReport}
-use Rattle.top_call.specs.Words.{bad_place}
-use Rattle.top_call.specs.declared.ending.End.TheVariants.{BadWord, BadLine, Full, Memory, ReadFault, Reported}
+use Rattle.top_call.specs.Words.{bad_place, is_replay, is_show}
+use Rattle.wire_show.specs.Shows.{HasShown, kind_name}
+use Rattle.wire_show.specs.declared.ending.ShowEnd.{ShowEnd}
+use Rattle.wire_show.specs.declared.ending.ShowEnd.TheVariants.{Bad, Long, Whole, WriteFault}
+use Rattle.wire_show.specs.declared.ending.ShowEnd.TheVariants as show
+use Rattle.top_call.specs.declared.ending.End.TheVariants.{BadByte, BadLine, BadWord, Full, LongStream, Memory, ReadFault, Reported, Shown as ShownEnd, Unfinished}
 use Rattle.top_call.specs.declared.ending.End.{End}
 use Rattle.top_call.specs.declared.ending.Ended.{Ended}
 
 -- the text of an ending
 abbrev pub text_of : End → List ℕ
 text_of (Reported report) = report
+text_of ShownEnd = []
+text_of (BadByte kind place) = codes "fault " ++ (kind_name kind ++ (codes " at " ++ (decimal place ++ codes "\n")))
+text_of (Unfinished place) = codes "unfinished at " ++ (decimal place ++ codes "\n")
+text_of LongStream = codes "long at 67108864\n"
 text_of (BadWord place) = codes "bad word " ++ (decimal place ++ codes "\n")
 text_of (BadLine bad) = codes "bad line " ++ (decimal bad.line ++ (codes ": " ++ (reason_text bad.reason ++ codes "\n")))
 text_of ReadFault = codes "read fault\n"
@@ -23,6 +31,10 @@ text_of Memory = codes "out of memory\n"
 -- the status of an ending, and its place
 abbrev pub ended_of : End → Ended
 ended_of (Reported report) = record { status = 0; place = 0; left = 0 }
+ended_of ShownEnd = record { status = 0; place = 0; left = 0 }
+ended_of (BadByte kind place) = record { status = 3; place = place; left = 0 }
+ended_of (Unfinished place) = record { status = 3; place = place; left = 0 }
+ended_of LongStream = record { status = 3; place = 67108864; left = 0 }
 ended_of (BadWord place) = record { status = 2; place = place; left = 0 }
 ended_of (BadLine bad) = record { status = 3; place = bad.line; left = 0 }
 ended_of ReadFault = record { status = 4; place = 0; left = 0 }
@@ -32,19 +44,27 @@ ended_of Memory = record { status = 11; place = 0; left = 0 }
 -- how a run over this schedule may end
 abbrev pub EndsAs : List ℕ → End → Type 0
 EndsAs schedule (Reported report) = IsReport schedule report
+EndsAs schedule ShownEnd = ⊥
+EndsAs schedule (BadByte kind place) = ⊥
+EndsAs schedule (Unfinished place) = ⊥
+EndsAs schedule LongStream = ⊥
 EndsAs schedule (BadWord place) = ⊥
 EndsAs schedule (BadLine bad) = IsFirstBad schedule bad
 EndsAs schedule ReadFault = ⊥
 EndsAs schedule (Full entries cost) = IsFull schedule entries cost
 EndsAs schedule Memory = Unit {0}
 
--- why a run may end so: its words, and what it read
+-- why a run that shows no stream may end so: its words, and what it read
 abbrev pub Shown : List (List ℕ) → SourceView → SourceView → End → Type 0
-Shown words before now (Reported report) = (bad_place words ≡ None) × ((bytes : List ℕ) × IsWholeInput 67108864 before now bytes × IsReport bytes report)
+Shown words before now (Reported report) = (is_replay words ≡ true) × ((bytes : List ℕ) × IsWholeInput 67108864 before now bytes × IsReport bytes report)
+Shown words before now ShownEnd = ⊥
+Shown words before now (BadByte kind place) = ⊥
+Shown words before now (Unfinished place) = ⊥
+Shown words before now LongStream = ⊥
 Shown words before now (BadWord place) = (bad_place words ≡ Some place) × (now ≡ before)
-Shown words before now (BadLine bad) = (bad_place words ≡ None) × ((bytes : List ℕ) × HasInput before now bytes × IsFirstBad bytes bad)
-Shown words before now ReadFault = (bad_place words ≡ None) × (before.faults ≤ now.faults) × Rose before.faults now.faults
-Shown words before now (Full entries cost) = (bad_place words ≡ None) × ((bytes : List ℕ) × HasInput before now bytes × IsFull bytes entries cost)
+Shown words before now (BadLine bad) = (is_replay words ≡ true) × ((bytes : List ℕ) × HasInput before now bytes × IsFirstBad bytes bad)
+Shown words before now ReadFault = (is_replay words ≡ true) × (before.faults ≤ now.faults) × Rose before.faults now.faults
+Shown words before now (Full entries cost) = (is_replay words ≡ true) × ((bytes : List ℕ) × HasInput before now bytes × IsFull bytes entries cost)
 Shown words before now Memory = Unit {0}
 
 -- the whole text was written and this is answered, or the sink failed within it and the status is 5
@@ -63,6 +83,39 @@ pub record Took (before now : SourceView) : Type 0 where
   pub faults : before.faults ≤ now.faults
   pub ends : before.ends ≤ now.ends
 
--- how a run ends: it may end so, and its text was written
+-- how a run ends that shows no stream: it may end so, and its text was written
+abbrev pub HasAnswered : List (List ℕ) → SourceView → SourceView → SinkView → SinkView → Ended → Type 0
+HasAnswered words before now old new result = (end : End) × Shown words before now end × Written old new end result
+
+-- the text of this ending was written, or that of want of memory in its place, or the sink failed within it
+abbrev pub Tells : End → SinkView → SinkView → Ended → Type 0
+Tells end old new result = (written : End) × ((written ≡ end) ⊎ (written ≡ Memory)) × Written old new written result
+
+-- the ending of a run of `show` by that of its showing; where the sink failed nothing more is told
+abbrev pub told_of : ShowEnd → End
+told_of Whole = ShownEnd
+told_of (Bad kind place) = BadByte kind place
+told_of (show.Unfinished place) = Unfinished place
+told_of Long = LongStream
+told_of show.ReadFault = ReadFault
+told_of show.Memory = Memory
+told_of WriteFault = ShownEnd
+
+-- what is told of the end of a showing
+abbrev pub TellsShown : ShowEnd → SinkView → SinkView → Ended → Type 0
+TellsShown Whole old new result = Tells (told_of Whole) old new result
+TellsShown (Bad kind place) old new result = Tells (told_of (Bad kind place)) old new result
+TellsShown (show.Unfinished place) old new result = Tells (told_of (show.Unfinished place)) old new result
+TellsShown Long old new result = Tells (told_of Long) old new result
+TellsShown show.ReadFault old new result = Tells (told_of show.ReadFault) old new result
+TellsShown show.Memory old new result = Tells (told_of show.Memory) old new result
+TellsShown WriteFault old new result = (result ≡ record { status = 5; place = 0; left = 0 }) × (new ≡ old)
+
+-- how a run of `show` ends: a stream was shown, and then its end was told
+abbrev pub HasTold : SourceView → SourceView → SinkView → SinkView → Ended → Type 0
+HasTold before now old new result = (end : ShowEnd) × (shown : SinkView) × HasShown before now old shown end × TellsShown end shown new result
+
+-- how a run ends
 abbrev pub HasEnded : List (List ℕ) → SourceView → SourceView → SinkView → SinkView → Ended → Type 0
-HasEnded words before now old new result = (end : End) × Shown words before now end × Written old new end result
+HasEnded words before now old new result =
+    ((is_show words ≡ false) × HasAnswered words before now old new result) ⊎ ((is_show words ≡ true) × HasTold before now old new result)

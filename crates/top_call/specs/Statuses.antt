@@ -1,13 +1,13 @@
 -- What each status of a run says by itself.
 use Rattle.std.specs.Io.KnownBytes.{Appends}
-use Rattle.std.specs.Prelude.{List, None, Some, ℕ, ◌≡◌, ◌≤◌}
+use Rattle.std.specs.Prelude.{List, Some, true, ℕ, ◌≡◌, ◌≤◌}
 use Rattle.line_text.specs.declared.reason.Reason.{Reason}
 use Rattle.links.specs.Causes.{AppendsFront, Rose}
 use Rattle.links.specs.Ends.{IsWholeInput}
 use Rattle.links.specs.Views.{SinkView, SourceView}
 use Rattle.top_call.specs.Endings.{Shown, text_of}
 use Rattle.top_call.specs.Replays.{HasInput, IsFirstBad, IsFull, IsReport}
-use Rattle.top_call.specs.Words.{bad_place}
+use Rattle.top_call.specs.Words.{bad_place, is_replay}
 use Rattle.top_call.specs.declared.ending.End.TheVariants.{BadWord, BadLine, Full, ReadFault}
 use Rattle.top_call.specs.declared.ending.End.{End}
 use Rattle.top_call.specs.declared.ending.Ended.{Ended}
@@ -29,7 +29,7 @@ WritesFull old new schedule = (entries : ℕ) × (cost : ℕ) × IsFull schedule
 
 -- status 0: the words are lawful, the input was read to its end, and its report was written
 abbrev pub IsReported : List (List ℕ) → SourceView → SourceView → SinkView → SinkView → Type 0
-IsReported words before now old new = (bad_place words ≡ None)
+IsReported words before now old new = (is_replay words ≡ true)
     × ((bytes : List ℕ) × IsWholeInput 67108864 before now bytes × WritesReport old new bytes)
 
 -- status 2: the word at this place is the first bad one, nothing was read, and its text was written
@@ -39,7 +39,7 @@ IsBadWord words before now old new place = (bad_place words ≡ Some place) × (
 
 -- status 3: the line of this number is the first bad one of the input, for the reason that was written
 abbrev pub IsBadLine : List (List ℕ) → SourceView → SourceView → SinkView → SinkView → ℕ → Type 0
-IsBadLine words before now old new line = (bad_place words ≡ None)
+IsBadLine words before now old new line = (is_replay words ≡ true)
     × ((bytes : List ℕ) × HasInput before now bytes × WritesBadLine old new bytes line)
 
 -- status 4: the source's count rose, and its text was written
@@ -53,7 +53,7 @@ IsWriteFault words before now old new = (old.faults ≤ new.faults) × Rose old.
 
 -- status 9: a line of the input was to add to a full history, whose numbers were written
 abbrev pub IsHistoryFull : List (List ℕ) → SourceView → SourceView → SinkView → SinkView → Type 0
-IsHistoryFull words before now old new = (bad_place words ≡ None)
+IsHistoryFull words before now old new = (is_replay words ≡ true)
     × ((bytes : List ℕ) × HasInput before now bytes × WritesFull old new bytes)
 
 -- status and text are those of the whole input, where the source told it

@@ -6,6 +6,8 @@ ghost use Rattle.top_call.specs.Endings.{ended_of, text_of};
 use line_text::BadLine;
 use std::alloc::{AllocError, Global};
 use std::process::ExitCode;
+use wire_grammar::WireKind;
+use wire_show::{SHOW_LIMIT, kind_name};
 use wire_values::Bytes;
 
 /// What a top call answers.
@@ -13,7 +15,8 @@ use wire_values::Bytes;
 pub struct Ended {
     /// The status of the process.
     pub status: u8,
-    /// At status 2 the place of the first bad word, at status 3 the number of the first bad line, else 0.
+    /// At status 2 the place of the first bad word, at status 3 the number of the first bad line, for `show` the place
+    /// of the byte in question, else 0.
     pub place: u64,
     /// Always 0: no program that is built leaves messages.
     pub left: u64,
@@ -29,14 +32,22 @@ impl Ended {
 }
 
 /// The ways in which a run ends, but for a failure of the sink, which is status 5.
-#[derive(Debug, Drop)]
+#[derive(Drop)]
 pub enum End {
     /// Status 0: the input was read to its end, and determines a history, whose report this is.
     Reported(Bytes),
+    /// Status 0: the input was read to its end, and is whole values, which were shown.
+    Shown,
     /// Status 2: the word at this place is the first bad one.
     BadWord(u64),
     /// Status 3: this line is the first bad one.
     BadLine(BadLine),
+    /// Status 3: the byte at this place of a stream is wrong.
+    BadByte { kind: WireKind, place: u64 },
+    /// Status 3: the stream ends within the value that begins at this place.
+    Unfinished(u64),
+    /// Status 3: the stream goes on past its limit.
+    LongStream,
     /// Status 4: the source failed.
     ReadFault,
     /// Status 9: a history of so many entries, which cost so many bytes, was to grow, and is full.
@@ -51,9 +62,12 @@ impl End {
         ensures { result ≡ ended_of self.now }
     {
         let (status, place) = match self {
-            End::Reported(_) => (0, 0),
+            End::Reported(_) | End::Shown => (0, 0),
             End::BadWord(place) => (2, *place),
             End::BadLine(bad) => (3, bad.line),
+            End::BadByte { place, .. } => (3, *place),
+            End::Unfinished(place) => (3, *place),
+            End::LongStream => (3, SHOW_LIMIT as u64),
             End::ReadFault => (4, 0),
             End::Full { .. } => (9, 0),
             End::Memory => (11, 0),
@@ -71,11 +85,18 @@ impl End {
     {
         let text = match self {
             End::Reported(report) => return Ok(report),
+            End::Shown => String::new(alloc),
             End::BadWord(place) => format!(in alloc; "bad word {place}\n")?,
             End::BadLine(BadLine { line, reason }) => {
                 let why = reason.text();
                 format!(in alloc; "bad line {line}: {why}\n")?
             }
+            End::BadByte { kind, place } => {
+                let name = kind_name(kind);
+                format!(in alloc; "fault {name} at {place}\n")?
+            }
+            End::Unfinished(place) => format!(in alloc; "unfinished at {place}\n")?,
+            End::LongStream => String::from_str(alloc, "long at 67108864\n")?,
             End::ReadFault => String::from_str(alloc, "read fault\n")?,
             End::Full { entries, bytes } => {
                 format!(in alloc; "history full {entries} {bytes}\n")?

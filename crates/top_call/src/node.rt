@@ -1,32 +1,39 @@
 //! The top call: words, a source and a sink to a status.
 ghost use Rattle.std.specs.Io.KnownBytes.{Appends};
 ghost use Rattle.std.specs.Prelude.{Contains, List, [], map, ℕ, ◌∷◌, ◌≡◌, ◌≤◌, ◌⊎◌};
-ghost use Rattle.top_call.specs.Endings.{EndsAs, HasEnded, Shown, Took, WritesText, Written, text_of};
+ghost use Rattle.top_call.specs.Endings.{EndsAs, HasEnded, HasTold, Shown, Took, WritesText, Written, text_of};
 ghost use Rattle.top_call.specs.Replays.{calm_statuses, replay_run};
 ghost use Rattle.top_call.specs.Statuses.{IsAnswerTo, IsBadLine, IsBadWord, IsHistoryFull, IsReadFault, IsReported, IsWriteFault};
-ghost use Rattle.top_call.specs.Words.{bad_place};
+ghost use Rattle.top_call.specs.Showings.{IsShowing};
+ghost use Rattle.top_call.specs.Words.{bad_place, is_replay, is_show};
 ghost use Rattle.links.specs.Causes.{Rose};
 ghost use Rattle.links.specs.Views.{sink_view, source_view};
 
 use crate::ending::{End, Ended};
-use crate::words::bad_word;
+use crate::words::{bad_word, is_show};
 use line_text::INPUT_LIMIT;
 use links::{ReadEnd, Sink, Source, read_to_end, write_all};
 use replay::{RunFault, report_ran, run_whole};
 use std::alloc::Global;
+use wire_show::{ShowEnd, show};
 
 /// Runs the program that the words name, over a source and a sink.
 ///
-/// The words are exactly `replay`: it reads a schedule of at most 64 MiB and writes the report of the history that the
-/// schedule determines. Nothing is written before the whole result is known, and then one text alone.
+/// The words are exactly `replay` or `show`. `replay` reads a schedule of at most 64 MiB and writes the report of the
+/// history that the schedule determines. Nothing is written before the whole result is known, and then one text alone.
+/// `show` reads RESP2 values of at most 64 MiB, and writes each on a line as soon as it is whole; the text of its status
+/// follows these lines.
 ///
 /// | Status | Comes where | Text |
 /// |---|---|---|
-/// | 0 | the input was read to its end, and each line is good | the report |
+/// | 0 | the input was read to its end, and each line is good; `show`: and is whole values | the report; `show`: no more than the lines |
 /// | 2 | a word is bad; `place` is the first one, counted from 0 | `bad word <place>` |
 /// | 3 | a line is bad; `place` is the first one, counted from 1 | `bad line <place>: <reason>` |
+/// | 3 | `show`: the byte at `place` is wrong | `fault <kind> at <place>` |
+/// | 3 | `show`: the input ends within the value that begins at `place` | `unfinished at <place>` |
+/// | 3 | `show`: there is a byte past 64 MiB, which is `place`, and none before it is wrong | `long at 67108864` |
 /// | 4 | the source failed | `read fault` |
-/// | 5 | the sink failed; it stands in place of any other status | a front of that status' text |
+/// | 5 | the sink failed; it stands in place of any other status | a front of what was to be written |
 /// | 9 | a line was to add to a history of 1,000,000 entries, or of costs of 2^30 bytes | `history full <entries> <bytes>` |
 /// | 11 | there was no memory | `out of memory` |
 pub fn run<S: Source, K: Sink>(alloc: Global, words: &[&str], src: &mut S, out: &mut K) -> Ended
@@ -35,35 +42,63 @@ pub fn run<S: Source, K: Sink>(alloc: Global, words: &[&str], src: &mut S, out: 
         (sink_view K.taken K.write_faults out.old) (sink_view K.taken K.write_faults out.new) result }
     ensures took { Took (source_view S.left S.read_faults S.ends src.old) (source_view S.left S.read_faults S.ends src.new) }
     ensures sink_later { K.write_faults out.old ≤ K.write_faults out.new }
-    ensures reported { result.status ≡ 0 → IsReported (map (λ w. w.now) words.now)
+    ensures reported { is_show (map (λ w. w.now) words.now) ≡ false → result.status ≡ 0 → IsReported (map (λ w. w.now) words.now)
         (source_view S.left S.read_faults S.ends src.old) (source_view S.left S.read_faults S.ends src.new)
         (sink_view K.taken K.write_faults out.old) (sink_view K.taken K.write_faults out.new) }
     ensures bad_word { result.status ≡ 2 → IsBadWord (map (λ w. w.now) words.now)
         (source_view S.left S.read_faults S.ends src.old) (source_view S.left S.read_faults S.ends src.new)
         (sink_view K.taken K.write_faults out.old) (sink_view K.taken K.write_faults out.new) result.place }
-    ensures bad_line { result.status ≡ 3 → IsBadLine (map (λ w. w.now) words.now)
+    ensures bad_line { is_show (map (λ w. w.now) words.now) ≡ false → result.status ≡ 3 → IsBadLine (map (λ w. w.now) words.now)
         (source_view S.left S.read_faults S.ends src.old) (source_view S.left S.read_faults S.ends src.new)
         (sink_view K.taken K.write_faults out.old) (sink_view K.taken K.write_faults out.new) result.place }
-    ensures read_fault { result.status ≡ 4 → IsReadFault
+    ensures read_fault { is_show (map (λ w. w.now) words.now) ≡ false → result.status ≡ 4 → IsReadFault
         (source_view S.left S.read_faults S.ends src.old) (source_view S.left S.read_faults S.ends src.new)
         (sink_view K.taken K.write_faults out.old) (sink_view K.taken K.write_faults out.new) }
-    ensures write_fault { result.status ≡ 5 → IsWriteFault (map (λ w. w.now) words.now)
+    ensures write_fault { is_show (map (λ w. w.now) words.now) ≡ false → result.status ≡ 5 → IsWriteFault (map (λ w. w.now) words.now)
         (source_view S.left S.read_faults S.ends src.old) (source_view S.left S.read_faults S.ends src.new)
         (sink_view K.taken K.write_faults out.old) (sink_view K.taken K.write_faults out.new) }
     ensures history_full { result.status ≡ 9 → IsHistoryFull (map (λ w. w.now) words.now)
         (source_view S.left S.read_faults S.ends src.old) (source_view S.left S.read_faults S.ends src.new)
         (sink_view K.taken K.write_faults out.old) (sink_view K.taken K.write_faults out.new) }
-    ensures out_of_memory { result.status ≡ 11 → Appends (K.taken out.old) (K.taken out.new) (text_of End.Memory) }
+    ensures out_of_memory { is_show (map (λ w. w.now) words.now) ≡ false → result.status ≡ 11 → Appends (K.taken out.old) (K.taken out.new) (text_of End.Memory) }
+    ensures show { is_show (map (λ w. w.now) words.now) ≡ true → IsShowing
+        (source_view S.left S.read_faults S.ends src.old) (source_view S.left S.read_faults S.ends src.new)
+        (sink_view K.taken K.write_faults out.old) (sink_view K.taken K.write_faults out.new) result }
     ensures statuses { Contains (0 ∷ 2 ∷ 3 ∷ 4 ∷ 5 ∷ 9 ∷ 11 ∷ []) result.status }
     ensures unlawful { (place : ℕ) → bad_place (map (λ w. w.now) words.now) ≡ Some place → Contains (2 ∷ 5 ∷ 11 ∷ []) result.status }
-    ensures complete { (schedule : List ℕ) → bad_place (map (λ w. w.now) words.now) ≡ None → S.left src.old ≡ Some schedule
+    ensures complete { (schedule : List ℕ) → is_replay (map (λ w. w.now) words.now) ≡ true → S.left src.old ≡ Some schedule
         → ¬ (Rose (S.read_faults src.old) (S.read_faults src.new)) → ¬ (Rose (K.write_faults out.old) (K.write_faults out.new))
         → Contains (calm_statuses (replay_run schedule)) result.status }
-    ensures told { (schedule : List ℕ) → S.left src.old ≡ Some schedule → IsAnswerTo schedule
+    ensures told { (schedule : List ℕ) → is_replay (map (λ w. w.now) words.now) ≡ true → S.left src.old ≡ Some schedule → IsAnswerTo schedule
         (sink_view K.taken K.write_faults out.old) (sink_view K.taken K.write_faults out.new) result }
 {
+    if is_show(words) {
+        return show_stream(alloc, src, out);
+    }
     let end = judge(alloc, words, src);
     finish(alloc, out, end)
+}
+
+/// Shows a stream, and tells its end.
+fn show_stream<S: Source, K: Sink>(alloc: Global, src: &mut S, out: &mut K) -> Ended
+    ensures { HasTold
+        (source_view S.left S.read_faults S.ends src.old) (source_view S.left S.read_faults S.ends src.new)
+        (sink_view K.taken K.write_faults out.old) (sink_view K.taken K.write_faults out.new) result }
+{
+    let end = show(alloc, src, out);
+    match end {
+        ShowEnd::WriteFault => Ended {
+            status: 5,
+            place: 0,
+            left: 0,
+        },
+        ShowEnd::Whole => finish(alloc, out, End::Shown),
+        ShowEnd::Bad { kind, place } => finish(alloc, out, End::BadByte { kind, place }),
+        ShowEnd::Unfinished { place } => finish(alloc, out, End::Unfinished(place)),
+        ShowEnd::Long => finish(alloc, out, End::LongStream),
+        ShowEnd::ReadFault => finish(alloc, out, End::ReadFault),
+        ShowEnd::Memory => finish(alloc, out, End::Memory),
+    }
 }
 
 /// Writes the text of an end, or of want of memory where there is none for that text.
@@ -85,8 +120,9 @@ pub fn out_of_memory<K: Sink>(out: &mut K) -> Ended
     write_text(out, End::Memory.ended(), b"out of memory\n")
 }
 
-/// What the words and the input lead to.
+/// What the words, which don't name `show`, and the input lead to.
 fn judge<S: Source>(alloc: Global, words: &[&str], src: &mut S) -> End
+    requires { is_show (map (λ w. w.now) words.now) ≡ false }
     ensures shown { Shown (map (λ w. w.now) words.now)
         (source_view S.left S.read_faults S.ends src.old) (source_view S.left S.read_faults S.ends src.new) result }
     ensures took { Took (source_view S.left S.read_faults S.ends src.old) (source_view S.left S.read_faults S.ends src.new) }

@@ -1,6 +1,6 @@
 //! The words of the command line: which are lawful, and which is the first bad one.
 ghost use Rattle.std.specs.Prelude.{map, ◌≡◌, IfOk, string_bytes};
-ghost use Rattle.top_call.specs.Words.{bad_place};
+ghost use Rattle.top_call.specs.Words.{bad_place, is_show};
 
 use std::alloc::{AllocError, Global};
 use std::env::{Env, FillError};
@@ -8,15 +8,26 @@ use std::str;
 
 /// The place of the first bad word, counted from 0, or the count of words where one is missing.
 ///
-/// The words are exactly `replay`.
+/// The words are exactly the name of one program, `replay` or `show`.
 pub fn bad_word(words: &[&str]) -> Option<u64>
     ensures { result ≡ bad_place (map (λ w. w.now) words.now) }
 {
     match words {
         [] => Some(0),
-        [first, ..] if *first != "replay" => Some(0),
+        [first, ..] if *first != "replay" && *first != "show" => Some(0),
         [_] => None,
         [_, _, ..] => Some(1),
+    }
+}
+
+/// Whether the words are exactly `show`.
+pub fn is_show(words: &[&str]) -> bool
+    ensures { result ≡ is_show (map (λ w. w.now) words.now) }
+{
+    match words {
+        [] => false,
+        [word] => *word == "show",
+        [_, _, ..] => false,
     }
 }
 

@@ -8,8 +8,8 @@ use Rattle.wire_grammar.specs.declared.kind.WireKind.{WireKind}
 use Rattle.wire_grammar.specs.declared.kind.WireKind.TheVariants.{TooLong}
 use Rattle.wire_grammar.specs.Limits.{depth_limit, value_limit}
 use Rattle.wire_grammar.specs.Spells.{SpellsWithin, Spells, BeginsNone, IsFront}
-use Rattle.wire_grammar.specs.Reads.{Reading, Got, Front, Wrong, value_at, read_on, limited, read, fault_of, wire_fault}
-use Rattle.wire_grammar.specs.Faults.{IsWrongAt, Begins, HasFault, OneHolds}
+use Rattle.wire_grammar.specs.Reads.{Reading, Got, Front, Wrong, read_on, limited, read, fault_of, wire_fault, wire_value_at}
+use Rattle.wire_grammar.specs.Faults.{IsWrongAt, HasFault, OneHolds, BeginsWithOne}
 use Rattle.wire_grammar.proofs.Readers.{Tells, AtFront, Within, AtByte}
 use Rattle.wire_grammar.proofs.Readings.{value_reader, reads_spelled}
 
@@ -100,7 +100,7 @@ module _ (p : ℕ) (b : List ℕ) where
       let is : read p b ≡ Wrong TooLong (p + value_limit) = ap (read p) (sym (append-nil b)) ∙ there [] in
       subst (Says p b) (sym is) (inr (record { long = long; place = refl; is = refl; goes_on = (v, more, r); none = none_wrong p b TooLong (p + value_limit) is }), there)
 
-  said : (t : List ℕ) → t ≡ take value_limit b → Tells (value_at depth_limit) (SpellsWithin depth_limit) t → Says p b (read p b)
+  said : (t : List ℕ) → t ≡ take value_limit b → Tells (wire_value_at depth_limit) (SpellsWithin depth_limit) t → Says p b (read p b)
   said t is (AtFront v front rest e r) =
       let cut : b ≡ front ++ (rest ++ drop value_limit b) = sym (take_drop value_limit b) ∙ ap (λ l. l ++ drop value_limit b) (sym is ∙ e) ∙ append_assoc front rest (drop value_limit b) in
       let small : length front ≤ value_limit = omega (arith, ap length is, length-take value_limit b, ap length e, length-append front rest) in
@@ -143,12 +143,12 @@ front_says p b e = subst (Says p b) e (reads p b)
 pub wrong_says : (p : ℕ) (b : List ℕ) (kind : WireKind) (q : ℕ) → read p b ≡ Wrong kind q → IsWrongAt p b kind q × ((more : List ℕ) → read p (b ++ more) ≡ Wrong kind q)
 wrong_says p b kind q e = subst (Says p b) e (reads p b)
 
-some_of : (p : ℕ) (b : List ℕ) (r : Reading) → read p b ≡ r → Begins b ⊎ (IsFront b ⊎ HasFault p b)
+some_of : (p : ℕ) (b : List ℕ) (r : Reading) → read p b ≡ r → BeginsWithOne b ⊎ (IsFront b ⊎ HasFault p b)
 some_of p b (Got v q rest) e = let h = got_says p b v q rest e in inl (v, h.0, rest, h.1, h.2)
 some_of p b Front e = inr (inl (front_says p b e))
 some_of p b (Wrong kind q) e = inr (inr (kind, q, ap fault_of e))
 
-begun_none : (p : ℕ) (b : List ℕ) → Begins b → wire_fault p b ≡ None
+begun_none : (p : ℕ) (b : List ℕ) → BeginsWithOne b → wire_fault p b ≡ None
 begun_none p b h = ap (λ l. wire_fault p l) h.3 ∙ ap fault_of (read_spelled h.0 h.1 h.2 p h.4)
 
 -- a front can't be faulty: what stands before a faulty byte and the byte itself go on, and it is short

@@ -13,7 +13,7 @@ use Rattle.wire_grammar.specs.declared.kind.NumberKind.{NumberKind}
 use Rattle.wire_grammar.specs.declared.kind.NumberKind.TheVariants.{Whole, Length, Count}
 use Rattle.wire_grammar.specs.Limits.{text_limit, limit_of, is_end}
 use Rattle.wire_grammar.specs.Spells.{crlf, IsWithin, IsNumber, IsText, AreSpelled}
-use Rattle.wire_grammar.specs.Reads.{Reading, Next, byte_at, feed_at, text_at, is_digit, signed, grown, over_of, digits_at, zero_at, begins_below, minus_at, number_at, content_at, values_at, integer_for, bulk_for, array_for}
+use Rattle.wire_grammar.specs.Reads.{Reading, Next, byte_at, feed_at, wire_text_at, is_digit, signed, grown, over_of, digits_at, zero_at, begins_below, minus_at, number_at, content_at, values_at, integer_for, bulk_for, array_for}
 use Rattle.wire_grammar.proofs.Readers.{Tells, Within, IsReader, restated, byte_tells, stuck_tells, nothing, AfterByte, after_byte, Both, in_turn, mapped, place_cons}
 
 pub feed_reader : {A : Type 0} (a : A) → IsReader (feed_at a) (λ x b. (b ≡ 10 ∷ []) × (x ≡ a))
@@ -278,14 +278,14 @@ IsTextRest acc t [] = ⊥
 IsTextRest acc t (c ∷ cs) = ((c ≡ 13) × (cs ≡ 10 ∷ []) × (t ≡ acc)) ⊎ ((is_end c ≡ false) × (length acc < text_limit) × IsTextRest (acc ++ c ∷ []) t cs)
 
 text_byte : (acc : List ℕ) (c : ℕ) → is_end c ≡ false → length acc < text_limit → (k : Next (List ℕ)) (p : ℕ) (cs : List ℕ)
-    → text_at acc k p (c ∷ cs) ≡ text_at (acc ++ c ∷ []) k (p + 1) cs
+    → wire_text_at acc k p (c ∷ cs) ≡ wire_text_at (acc ++ c ∷ []) k (p + 1) cs
 text_byte acc c e l k p cs =
     let a : (c == 13) ≡ false = grind (arith, nat_tests) in
     let b : (c == 10) ≡ false = grind (arith, nat_tests) in
     let within : nat_lt (length acc) text_limit ≡ true = grind (arith, nat_tests) in
     rw (a, b, within) refl
 
-text_whole : (acc t b rest : List ℕ) (p : ℕ) (k : Next (List ℕ)) → IsTextRest acc t b → text_at acc k p (b ++ rest) ≡ k t (p + length b) rest
+text_whole : (acc t b rest : List ℕ) (p : ℕ) (k : Next (List ℕ)) → IsTextRest acc t b → wire_text_at acc k p (b ++ rest) ≡ k t (p + length b) rest
 text_whole acc t [] rest p k r = absurd r
 text_whole acc t (c ∷ cs) rest p k (inl r) = rw (r.0, r.1, r.2) (ap (λ (i : ℕ). k acc i rest) (let e : p + 1 + 1 ≡ p + 2 = omega arith in e))
 text_whole acc t (c ∷ cs) rest p k (inr r) = text_byte acc c r.0 r.1 k p (cs ++ rest) ∙ text_whole (acc ++ c ∷ []) t cs rest (p + 1) k r.2 ∙ ap (λ (i : ℕ). k t i rest) (place_cons p cs c)
@@ -294,26 +294,26 @@ text_some : (acc : List ℕ) → IsTextRest acc acc crlf
 text_some acc = inl (refl, refl, refl)
 
 text_room : (acc : List ℕ) (c : ℕ) (cs : List ℕ) (t : Bool) → (c == 13) ≡ false → (c == 10) ≡ false → nat_lt (length acc) text_limit ≡ t
-    → (((acc : List ℕ) → Tells (text_at acc) (IsTextRest acc) cs)) → Tells (text_at acc) (IsTextRest acc) (c ∷ cs)
+    → (((acc : List ℕ) → Tells (wire_text_at acc) (IsTextRest acc) cs)) → Tells (wire_text_at acc) (IsTextRest acc) (c ∷ cs)
 text_room acc c cs true a b e more =
     let within : length acc < text_limit = grind (arith, nat_tests) in
     let plain : is_end c ≡ false = rw (a, b) refl in
-    byte_tells (text_at acc) (text_at (acc ++ c ∷ [])) (IsTextRest acc) (IsTextRest (acc ++ c ∷ [])) c (text_byte acc c plain within) (λ t y r. inr (plain, within, r)) cs (more (acc ++ c ∷ []))
-text_room acc c cs false a b e more = stuck_tells (text_at acc) (IsTextRest acc) c cs TooLong (λ k p cs. rw (a, b, e) refl) acc crlf (text_some acc)
+    byte_tells (wire_text_at acc) (wire_text_at (acc ++ c ∷ [])) (IsTextRest acc) (IsTextRest (acc ++ c ∷ [])) c (text_byte acc c plain within) (λ t y r. inr (plain, within, r)) cs (more (acc ++ c ∷ []))
+text_room acc c cs false a b e more = stuck_tells (wire_text_at acc) (IsTextRest acc) c cs TooLong (λ k p cs. rw (a, b, e) refl) acc crlf (text_some acc)
 
 text_feed : (acc : List ℕ) (c : ℕ) (cs : List ℕ) (t : Bool) → (c == 13) ≡ false → (c == 10) ≡ t
-    → (((acc : List ℕ) → Tells (text_at acc) (IsTextRest acc) cs)) → Tells (text_at acc) (IsTextRest acc) (c ∷ cs)
-text_feed acc c cs true a e more = stuck_tells (text_at acc) (IsTextRest acc) c cs NoCrLf (λ k p cs. rw (a, e) refl) acc crlf (text_some acc)
+    → (((acc : List ℕ) → Tells (wire_text_at acc) (IsTextRest acc) cs)) → Tells (wire_text_at acc) (IsTextRest acc) (c ∷ cs)
+text_feed acc c cs true a e more = stuck_tells (wire_text_at acc) (IsTextRest acc) c cs NoCrLf (λ k p cs. rw (a, e) refl) acc crlf (text_some acc)
 text_feed acc c cs false a e more = text_room acc c cs (nat_lt (length acc) text_limit) a e refl more
 
 text_cons : (acc : List ℕ) (c : ℕ) (cs : List ℕ) (t : Bool) → (c == 13) ≡ t
-    → (((acc : List ℕ) → Tells (text_at acc) (IsTextRest acc) cs)) → Tells (text_at acc) (IsTextRest acc) (c ∷ cs)
+    → (((acc : List ℕ) → Tells (wire_text_at acc) (IsTextRest acc) cs)) → Tells (wire_text_at acc) (IsTextRest acc) (c ∷ cs)
 text_cons acc c cs true e more =
     let same : c ≡ 13 = grind (arith, nat_tests) in
-    byte_tells (text_at acc) (feed_at acc) (IsTextRest acc) (λ x b. (b ≡ 10 ∷ []) × (x ≡ acc)) c (λ k p cs. rw e refl) (λ a y r. inl (same, r.0, r.1)) cs ((feed_reader acc).tells cs)
+    byte_tells (wire_text_at acc) (feed_at acc) (IsTextRest acc) (λ x b. (b ≡ 10 ∷ []) × (x ≡ acc)) c (λ k p cs. rw e refl) (λ a y r. inl (same, r.0, r.1)) cs ((feed_reader acc).tells cs)
 text_cons acc c cs false e more = text_feed acc c cs (c == 10) e refl more
 
-text_tells : (acc b : List ℕ) → Tells (text_at acc) (IsTextRest acc) b
+text_tells : (acc b : List ℕ) → Tells (wire_text_at acc) (IsTextRest acc) b
 text_tells acc [] = Within (λ k p. refl) acc crlf (text_some acc)
 text_tells acc (c ∷ cs) = text_cons acc c cs (c == 13) refl (λ more. text_tells more cs)
 
@@ -339,8 +339,8 @@ is_text (x ∷ xs) acc l e =
     let one = length-append acc (x ∷ []) in
     inr (n.0, omega (arith, l), subst (λ (t : List ℕ). IsTextRest (acc ++ x ∷ []) t (xs ++ crlf)) (append_assoc acc (x ∷ []) xs) (is_text xs (acc ++ x ∷ []) (omega (arith, l, one)) n.1))
 
-pub text_reader : IsReader (text_at []) IsText
-text_reader = restated (text_at []) (IsTextRest []) IsText
+pub text_reader : IsReader (wire_text_at []) IsText
+text_reader = restated (wire_text_at []) (IsTextRest []) IsText
     (λ t b r. let h = text_is [] t b (omega arith) r in (h.2, subst (λ (x : List ℕ). list_any is_end x ≡ false) (sym h.1) h.3, h.4 ∙ ap (λ l. l ++ crlf) (sym h.1)))
     (λ t b r. subst (λ (l : List ℕ). IsTextRest [] t l) (sym r.2) (is_text t [] (omega (arith, r.0)) r.1))
     (record { whole = λ t b rest p k r. text_whole [] t b rest p k r; tells = text_tells []; some = ([], crlf, text_some []) })
@@ -412,8 +412,8 @@ module _ (P : Next Value → ℕ → List ℕ → Reading) (R : Value → List �
       (more_values n [])
 
 -- what follows the first byte of a simple string or an error
-pub text_rest : (make : List ℕ → Value) → IsReader (λ k. text_at [] (λ t. k (make t))) (λ v b. (t : List ℕ) × (v ≡ make t) × IsText t b)
-text_rest make = mapped (text_at []) IsText make text_reader
+pub text_rest : (make : List ℕ → Value) → IsReader (λ k. wire_text_at [] (λ t. k (make t))) (λ v b. (t : List ℕ) × (v ≡ make t) × IsText t b)
+text_rest make = mapped (wire_text_at []) IsText make text_reader
 
 -- what follows the first byte of an integer
 pub integer_rest : IsReader (λ k. number_at Whole (integer_for k)) (λ v b. (z : ℤ) × (v ≡ Integer z) × IsNumber Whole z b)

@@ -8,7 +8,7 @@ use Rattle.wire_grammar.specs.declared.kind.WireKind.TheVariants.{BadKind, TooDe
 use Rattle.wire_grammar.specs.declared.kind.NumberKind.TheVariants.{Whole, Length, Count}
 use Rattle.wire_grammar.specs.Limits.{depth_limit}
 use Rattle.wire_grammar.specs.Spells.{crlf, IsNumber, IsText, IsPlain, as_status, as_error, as_integer, as_bulk, as_null_bulk, SpellsWithin}
-use Rattle.wire_grammar.specs.Reads.{Reading, Got, Wrong, Next, text_at, number_at, integer_for, bulk_for, array_for, head_at, value_at, read_on}
+use Rattle.wire_grammar.specs.Reads.{Reading, Got, Wrong, Next, number_at, integer_for, bulk_for, array_for, head_at, read_on, wire_text_at, wire_value_at}
 use Rattle.wire_grammar.proofs.Readers.{Tells, Within, IsReader, byte_tells, byte_whole, stuck_tells}
 use Rattle.wire_grammar.proofs.Parts.{text_rest, integer_rest, bulk_rest, array_rest, IsBulkRest, IsNullRest, IsArrayRest}
 
@@ -56,14 +56,14 @@ module _ (array : AfterStar) (R : Value → List ℕ → Type 0) (plain : (v : V
   second : (c : ℕ) (cs : List ℕ) (t : Bool) → (c == 43) ≡ false → (c == 45) ≡ t → Tells (head_at array) R (c ∷ cs)
   second c cs true a e =
       let same : 45 ≡ c = grind (arith, nat_tests) in
-      byte_tells (head_at array) (λ k. text_at [] (λ t. k (Error t))) R (λ v y. (t : List ℕ) × (v ≡ Error t) × IsText t y) c (λ k p cs. rw (a, e) refl)
+      byte_tells (head_at array) (λ k. wire_text_at [] (λ t. k (Error t))) R (λ v y. (t : List ℕ) × (v ≡ Error t) × IsText t y) c (λ k p cs. rw (a, e) refl)
       (λ v y s. subst (λ (z : ℕ). R v (z ∷ y)) same (plain v (45 ∷ y) (error_of v y s))) cs ((text_rest Error).tells cs)
   second c cs false a e = third c cs (c == 58) a e refl
 
   first : (c : ℕ) (cs : List ℕ) (t : Bool) → (c == 43) ≡ t → Tells (head_at array) R (c ∷ cs)
   first c cs true e =
       let same : 43 ≡ c = grind (arith, nat_tests) in
-      byte_tells (head_at array) (λ k. text_at [] (λ t. k (Status t))) R (λ v y. (t : List ℕ) × (v ≡ Status t) × IsText t y) c (λ k p cs. rw e refl)
+      byte_tells (head_at array) (λ k. wire_text_at [] (λ t. k (Status t))) R (λ v y. (t : List ℕ) × (v ≡ Status t) × IsText t y) c (λ k p cs. rw e refl)
       (λ v y s. subst (λ (z : ℕ). R v (z ∷ y)) same (plain v (43 ∷ y) (status_of v y s))) cs ((text_rest Status).tells cs)
   first c cs false e = second c cs (c == 45) e refl
 
@@ -79,14 +79,14 @@ behind array c Q is v b y rest p k e h =
     (byte_whole (head_at array) Q (λ v b. Unit {0}) (λ v b. Unit {0}) c is (λ a y s. tt) v y rest p k h)
 
 plain_whole : (array : AfterStar) (v : Value) (b rest : List ℕ) (p : ℕ) (k : Next Value) → IsPlain v b → head_at array k p (b ++ rest) ≡ k v (p + length b) rest
-plain_whole array v b rest p k (as_status r) = behind array 43 (λ k. text_at [] (λ t. k (Status t))) (λ k p cs. refl) v b r.1 rest p k r.4 ((text_rest Status).whole v r.1 rest (p + 1) k (r.0, r.2, r.3))
-plain_whole array v b rest p k (as_error r) = behind array 45 (λ k. text_at [] (λ t. k (Error t))) (λ k p cs. refl) v b r.1 rest p k r.4 ((text_rest Error).whole v r.1 rest (p + 1) k (r.0, r.2, r.3))
+plain_whole array v b rest p k (as_status r) = behind array 43 (λ k. wire_text_at [] (λ t. k (Status t))) (λ k p cs. refl) v b r.1 rest p k r.4 ((text_rest Status).whole v r.1 rest (p + 1) k (r.0, r.2, r.3))
+plain_whole array v b rest p k (as_error r) = behind array 45 (λ k. wire_text_at [] (λ t. k (Error t))) (λ k p cs. refl) v b r.1 rest p k r.4 ((text_rest Error).whole v r.1 rest (p + 1) k (r.0, r.2, r.3))
 plain_whole array v b rest p k (as_integer r) = behind array 58 (λ k. number_at Whole (integer_for k)) (λ k p cs. refl) v b r.1 rest p k r.4 (integer_rest.whole v r.1 rest (p + 1) k (r.0, r.2, r.3))
 plain_whole array v b rest p k (as_bulk r) =
     behind array 36 (λ k. number_at Length (bulk_for k)) (λ k p cs. refl) v b (r.1 ++ (r.0 ++ crlf)) rest p k r.4 (bulk_rest.whole v (r.1 ++ (r.0 ++ crlf)) rest (p + 1) k (inl (r.0, r.1, r.2, r.3, refl)))
 plain_whole array v b rest p k (as_null_bulk r) = behind array 36 (λ k. number_at Length (bulk_for k)) (λ k p cs. refl) v b r.0 rest p k r.3 (bulk_rest.whole v r.0 rest (p + 1) k (inr (r.1, r.2)))
 
-zero_reader : IsReader (value_at 0) IsPlain
+zero_reader : IsReader (wire_value_at 0) IsPlain
 zero_reader = record {
   whole = λ v b rest p k r. plain_whole (λ k p cs. Wrong TooDeep p) v b rest p k r;
   tells = head_tells (λ k p cs. Wrong TooDeep p) IsPlain (λ v b r. r) zero_star;
@@ -95,40 +95,40 @@ zero_reader = record {
   some_plain : (v : Value) × (b : List ℕ) × IsPlain v b
   some_plain = let s = integer_rest.some in (s.0, 58 ∷ s.1, integer_of_rest s.0 s.1 s.2)
 
-  zero_star : (c : ℕ) (cs : List ℕ) → (c == 43) ≡ false → (c == 45) ≡ false → (c == 58) ≡ false → (c == 36) ≡ false → (c == 42) ≡ true → Tells (value_at 0) IsPlain (c ∷ cs)
-  zero_star c cs a b d e f = stuck_tells (value_at 0) IsPlain c cs TooDeep (λ k p cs. rw (a, b, d, e, f) refl) some_plain.0 some_plain.1 some_plain.2
+  zero_star : (c : ℕ) (cs : List ℕ) → (c == 43) ≡ false → (c == 45) ≡ false → (c == 58) ≡ false → (c == 36) ≡ false → (c == 42) ≡ true → Tells (wire_value_at 0) IsPlain (c ∷ cs)
+  zero_star c cs a b d e f = stuck_tells (wire_value_at 0) IsPlain c cs TooDeep (λ k p cs. rw (a, b, d, e, f) refl) some_plain.0 some_plain.1 some_plain.2
 
-module _ (d : ℕ) (g : IsReader (value_at d) (SpellsWithin d)) where
+module _ (d : ℕ) (g : IsReader (wire_value_at d) (SpellsWithin d)) where
   abbrev Items : AfterStar
-  Items k p cs = number_at Count (array_for (value_at d) k) (p + 1) cs
+  Items k p cs = number_at Count (array_for (wire_value_at d) k) (p + 1) cs
 
-  items_rest : IsReader (λ k. number_at Count (array_for (value_at d) k)) (λ v b. IsArrayRest (SpellsWithin d) v b ⊎ IsNullRest Count NullArray v b)
-  items_rest = array_rest (value_at d) (SpellsWithin d) g
+  items_rest : IsReader (λ k. number_at Count (array_for (wire_value_at d) k)) (λ v b. IsArrayRest (SpellsWithin d) v b ⊎ IsNullRest Count NullArray v b)
+  items_rest = array_rest (wire_value_at d) (SpellsWithin d) g
 
   of_items : (v : Value) (y : List ℕ) → IsArrayRest (SpellsWithin d) v y ⊎ IsNullRest Count NullArray v y → SpellsWithin (suc d) v (42 ∷ y)
   of_items v y (inl r) = inr (inl (r.0, r.1, r.2, r.3, r.4, r.5, ap (λ l. 42 ∷ l) r.6))
   of_items v y (inr r) = inr (inr (y, r.0, r.1, refl))
 
-  suc_whole : (v : Value) (b rest : List ℕ) (p : ℕ) (k : Next Value) → SpellsWithin (suc d) v b → value_at (suc d) k p (b ++ rest) ≡ k v (p + length b) rest
+  suc_whole : (v : Value) (b rest : List ℕ) (p : ℕ) (k : Next Value) → SpellsWithin (suc d) v b → wire_value_at (suc d) k p (b ++ rest) ≡ k v (p + length b) rest
   suc_whole v b rest p k (inl r) = plain_whole Items v b rest p k r
   suc_whole v b rest p k (inr (inl r)) =
-      behind Items 42 (λ k. number_at Count (array_for (value_at d) k)) (λ k p cs. refl) v b (r.1 ++ r.2) rest p k r.6 (items_rest.whole v (r.1 ++ r.2) rest (p + 1) k (inl (r.0, r.1, r.2, r.3, r.4, r.5, refl)))
-  suc_whole v b rest p k (inr (inr r)) = behind Items 42 (λ k. number_at Count (array_for (value_at d) k)) (λ k p cs. refl) v b r.0 rest p k r.3 (items_rest.whole v r.0 rest (p + 1) k (inr (r.1, r.2)))
+      behind Items 42 (λ k. number_at Count (array_for (wire_value_at d) k)) (λ k p cs. refl) v b (r.1 ++ r.2) rest p k r.6 (items_rest.whole v (r.1 ++ r.2) rest (p + 1) k (inl (r.0, r.1, r.2, r.3, r.4, r.5, refl)))
+  suc_whole v b rest p k (inr (inr r)) = behind Items 42 (λ k. number_at Count (array_for (wire_value_at d) k)) (λ k p cs. refl) v b r.0 rest p k r.3 (items_rest.whole v r.0 rest (p + 1) k (inr (r.1, r.2)))
 
-  suc_star : (c : ℕ) (cs : List ℕ) → (c == 43) ≡ false → (c == 45) ≡ false → (c == 58) ≡ false → (c == 36) ≡ false → (c == 42) ≡ true → Tells (value_at (suc d)) (SpellsWithin (suc d)) (c ∷ cs)
+  suc_star : (c : ℕ) (cs : List ℕ) → (c == 43) ≡ false → (c == 45) ≡ false → (c == 58) ≡ false → (c == 36) ≡ false → (c == 42) ≡ true → Tells (wire_value_at (suc d)) (SpellsWithin (suc d)) (c ∷ cs)
   suc_star c cs a b x e f =
       let same : 42 ≡ c = grind (arith, nat_tests) in
-      byte_tells (value_at (suc d)) (λ k. number_at Count (array_for (value_at d) k)) (SpellsWithin (suc d)) (λ v y. IsArrayRest (SpellsWithin d) v y ⊎ IsNullRest Count NullArray v y) c (λ k p cs. rw (a, b, x, e, f) refl)
+      byte_tells (wire_value_at (suc d)) (λ k. number_at Count (array_for (wire_value_at d) k)) (SpellsWithin (suc d)) (λ v y. IsArrayRest (SpellsWithin d) v y ⊎ IsNullRest Count NullArray v y) c (λ k p cs. rw (a, b, x, e, f) refl)
       (λ v y s. subst (λ (z : ℕ). SpellsWithin (suc d) v (z ∷ y)) same (of_items v y s)) cs (items_rest.tells cs)
 
-  suc_reader : IsReader (value_at (suc d)) (SpellsWithin (suc d))
+  suc_reader : IsReader (wire_value_at (suc d)) (SpellsWithin (suc d))
   suc_reader = record {
     whole = λ v b rest p k r. suc_whole v b rest p k r;
     tells = head_tells Items (SpellsWithin (suc d)) (λ v b r. inl r) suc_star;
     some = some_value Items (SpellsWithin (suc d)) (λ v b r. inl r) suc_star;
   }
 
-pub value_reader : (d : ℕ) → IsReader (value_at d) (SpellsWithin d)
+pub value_reader : (d : ℕ) → IsReader (wire_value_at d) (SpellsWithin d)
 value_reader zero = zero_reader
 value_reader (suc d) = suc_reader d (value_reader d)
 

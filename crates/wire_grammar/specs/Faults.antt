@@ -30,14 +30,14 @@ abbrev pub IsWrongAt : ℕ → List ℕ → WireKind → ℕ → Type 0
 IsWrongAt p b kind q = IsStuckAt p b q ⊎ IsPastLimit p b kind q
 
 -- some value begins the bytes
-abbrev pub Begins : List ℕ → Type 0
-Begins b = (v : Value) × (front : List ℕ) × (rest : List ℕ) × (b ≡ front ++ rest) × Spells v front
+abbrev pub BeginsWithOne : List ℕ → Type 0
+BeginsWithOne b = (v : Value) × (front : List ℕ) × (rest : List ℕ) × (b ≡ front ++ rest) × Spells v front
 
 abbrev pub HasFault : ℕ → List ℕ → Type 0
 HasFault p b = (kind : WireKind) × (q : ℕ) × (wire_fault p b ≡ Some (kind, q))
 
 -- one of three holds, and no fault where one of the others does
 pub record OneHolds (p : ℕ) (b : List ℕ) : Type 0 where
-  pub some : Begins b ⊎ (IsFront b ⊎ HasFault p b)
-  pub begun : Begins b → wire_fault p b ≡ None
+  pub some : BeginsWithOne b ⊎ (IsFront b ⊎ HasFault p b)
+  pub begun : BeginsWithOne b → wire_fault p b ≡ None
   pub front : IsFront b → wire_fault p b ≡ None

@@ -32,12 +32,12 @@ abbrev pub return_at : {A : Type 0} → A → Next A → ℕ → List ℕ → Re
 return_at a k = byte_at 13 NoCrLf (feed_at a k)
 
 -- the rest of a text; a line feed has no carriage return before it
-abbrev pub text_at : List ℕ → Next (List ℕ) → ℕ → List ℕ → Reading
-text_at text k p [] = Front
-text_at text k p (c ∷ cs) =
+abbrev pub wire_text_at : List ℕ → Next (List ℕ) → ℕ → List ℕ → Reading
+wire_text_at text k p [] = Front
+wire_text_at text k p (c ∷ cs) =
     if c == 13 then feed_at text k (p + 1) cs
     else if c == 10 then Wrong NoCrLf p
-    else if nat_lt (length text) text_limit then text_at (text ++ c ∷ []) k (p + 1) cs
+    else if nat_lt (length text) text_limit then wire_text_at (text ++ c ∷ []) k (p + 1) cs
     else Wrong TooLong p
 
 abbrev pub is_digit : ℕ → Bool
@@ -120,21 +120,21 @@ array_for one k (negsuc n) = k NullArray
 abbrev pub head_at : (Next Value → ℕ → List ℕ → Reading) → Next Value → ℕ → List ℕ → Reading
 head_at array k p [] = Front
 head_at array k p (c ∷ cs) =
-    if c == 43 then text_at [] (λ text. k (Status text)) (p + 1) cs
-    else if c == 45 then text_at [] (λ text. k (Error text)) (p + 1) cs
+    if c == 43 then wire_text_at [] (λ text. k (Status text)) (p + 1) cs
+    else if c == 45 then wire_text_at [] (λ text. k (Error text)) (p + 1) cs
     else if c == 58 then number_at Whole (integer_for k) (p + 1) cs
     else if c == 36 then number_at Length (bulk_for k) (p + 1) cs
     else if c == 42 then array k p cs
     else Wrong BadKind p
 
 -- a value, with this many arrays inside each other at most
-abbrev pub value_at : ℕ → Next Value → ℕ → List ℕ → Reading
-value_at zero = head_at (λ k p cs. Wrong TooDeep p)
-value_at (suc d) = head_at (λ k p cs. number_at Count (array_for (value_at d) k) (p + 1) cs)
+abbrev pub wire_value_at : ℕ → Next Value → ℕ → List ℕ → Reading
+wire_value_at zero = head_at (λ k p cs. Wrong TooDeep p)
+wire_value_at (suc d) = head_at (λ k p cs. number_at Count (array_for (wire_value_at d) k) (p + 1) cs)
 
 -- the first value of a stream from a place on, its limit of bytes left aside
 abbrev pub read_on : ℕ → List ℕ → Reading
-read_on = value_at depth_limit Got
+read_on = wire_value_at depth_limit Got
 
 -- what a value's first 8,388,608 bytes say: where they all can go on and don't end it, it is too long
 abbrev pub limited : ℕ → List ℕ → Reading → Reading

@@ -1,10 +1,12 @@
-use Rattle.std.proofs.Common.{None, map, sym, ◌≡◌}
-use Rattle.top_call.proofs.Endings.{shown_past}
-use Rattle.top_call.specs.Words.{bad_place}
+use Rattle.std.proofs.Common.{None, map, sym, true, ◌≡◌}
+use Rattle.top_call.proofs.Asked.{asks_replay}
+use Rattle.top_call.proofs.Endings.{shown_past, shown_whole}
+use Rattle.top_call.specs.Words.{bad_place, is_replay}
 use Rattle.top_call.proofs.node.judge.Goals as goal
 
 pub returns-in-Err-Long-clause-shown : goal.returns-in-Err-Long-clause-shown
 returns-in-Err-Long-clause-shown g c =
-    let lawful : bad_place (map (λ w. w.now) c.args.words.now) ≡ None = sym c.in_default.ensures in
+    let words = map (λ w. w.now) c.args.words.now in
+    let lawful : is_replay words ≡ true = asks_replay words c.requires (sym c.in_default.ensures) in
     let past = rw c.in-Err-Long.field-0-is at c.in-Err-Long.ensures.end in
-    shown_past (map (λ w. w.now) c.args.words.now) _ _ _ c.replayed-in-Err-Long.result lawful past (rw (← c.as_slice-in-Err-Long.ensures) c.replayed-in-Err-Long.ensures)
+    shown_past words _ _ _ c.replayed-in-Err-Long.result lawful past (rw (← c.as_slice-in-Err-Long.ensures) c.replayed-in-Err-Long.ensures)

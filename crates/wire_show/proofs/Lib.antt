@@ -1,0 +1,4 @@
+pub mod Showings
+pub mod Sources
+pub mod Endings
+pub mod Streams
