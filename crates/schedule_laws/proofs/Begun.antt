@@ -7,7 +7,7 @@ use Rattle.queue_keys.specs.Names.{Bytes}
 use Rattle.command_blocks.specs.Calls.{Call, call}
 use Rattle.command_blocks.specs.Blocks.{Drawing, drawn, passes_after}
 use Rattle.command_blocks.specs.Scripts.{Script, Over, Off, Say, Plan, Declare, Undeclare, Publish, Pop, End, Return, Pass, script_of, counter_use, after_call, rest_of, IsSaid}
-use Rattle.command_blocks.specs.declared.block.Side.TheVariants.{Left, Right}
+use Rattle.command_blocks.specs.declared.side.Side.TheVariants.{Left, Right}
 use Rattle.schedule_model.specs.Desk.{ClientBook, begun}
 use Rattle.schedule_model.specs.Faults.{Craft}
 use Rattle.schedule_model.specs.Schedules.{publish_plan, plan_of}

@@ -14,7 +14,7 @@ use Rattle.command_blocks.specs.RouteBlocks.{IsDeclareBlock, IsPublishBlock}
 use Rattle.command_blocks.specs.TakeBlocks.{IsPopBlock, IsEndBlock}
 use Rattle.command_blocks.specs.ReturnBlocks.{ReturnEnd, IsReturnBlock}
 use Rattle.command_blocks.specs.PassBlocks.{PassEnd, IsPassBlock}
-use Rattle.command_blocks.specs.declared.block.Side.TheVariants.{Left, Right}
+use Rattle.command_blocks.specs.declared.side.Side.TheVariants.{Left, Right}
 use Rattle.place_model.specs.Histories.{calls_of}
 use Rattle.schedule_model.specs.Built.{waits}
 use Rattle.schedule_model.specs.Desk.{ScheduleReader}
