@@ -8,7 +8,7 @@ use routes::{PublishCore, Sent, publish_core};
 use std::alloc::{AllocError, Global};
 use std::test::Fail;
 use unacked::{Acked, EndCore, PopCore, PopEnd, end_core, pop_core};
-use wire_spelling::words_fit;
+use wire_spelling::command_fits;
 use wire_values::{Bytes, List, Words};
 
 /// A store whose queue has this element.
@@ -18,7 +18,7 @@ fn store_with(alloc: Global, element: &str) -> Result<Store, AllocError> {
     words.push(alloc, Bytes::from_slice(alloc, b"LPUSH")?)?;
     words.push(alloc, Bytes::from_slice(alloc, b"celery")?)?;
     words.push(alloc, Bytes::from_slice(alloc, element.as_bytes())?)?;
-    if words_fit(&words) {
+    if command_fits(&words) {
         store.apply(alloc, 99, 1, &words)?;
     }
     Ok(store)

@@ -3,6 +3,7 @@ use Rattle.std.specs.Prelude.{ℕ, ℤ, pos, neg_ℤ, Bool, false, List, [], ◌
 use Rattle.std.specs.Char.{is_ascii_digit}
 use Rattle.std.specs.List.{list_all, list_any, before_first, after_first}
 use Rattle.std.specs.Str.Parse.{digits_value}
+use Rattle.store_model.specs.Limits.{moment_limit}
 
 -- whether it is a decimal number as it is written: digits, and no zero before others
 abbrev pub is_number : List ℕ → Bool
@@ -17,7 +18,7 @@ number_in low high word =
 
 -- the moment that a word spells; all from 2^40 on count as 2^40, which no clock shows
 abbrev pub moment_in : List ℕ → Option ℕ
-moment_in word = if is_number word then Some (min (digits_value 10 word) (2 ^ 40)) else None
+moment_in word = if is_number word then Some (min (digits_value 10 word) moment_limit) else None
 
 -- both, where both are there
 abbrev pub both_parts : Option ℕ → Option ℕ → Option (ℕ × ℕ)

@@ -13,7 +13,8 @@ mod word;
 
 pub use form::{quoted, quoted_words, value_form};
 pub use line::{INPUT_LIMIT, LINE_LIMIT, Lines, RECORD_LINE_LIMIT, line_number_at, line_text};
-pub use number::{MOMENT_LIMIT, integer_in, moment_in, number_in, tag_in};
+pub use number::{integer_in, moment_in, number_in, tag_in};
 pub use reason::{BadLine, Reason, TextFault};
 pub use short::{Legend, Shape, short_value, short_word, short_words, tag_short};
+pub use store_model::MOMENT_LIMIT;
 pub use word::{is_word, rest_after, words};

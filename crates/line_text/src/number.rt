@@ -6,9 +6,7 @@ ghost use Rattle.line_text.specs.Numbers.{is_number, moment_in, number_in, tag_i
 ghost use Rattle.numerals.specs.Integers.{integer_of};
 
 use numerals::integer;
-
-/// The first moment, in seconds, that is too late for a store.
-pub const MOMENT_LIMIT: u64 = 1 << 40;
+use store_model::MOMENT_LIMIT;
 
 /// The number that a word spells, if it is within the bounds: decimal digits with no sign and no zero before others.
 pub fn number_in(low: u64, high: u64, word: &str) -> Option<u64>

@@ -12,7 +12,7 @@ use place_index::{place_of, places};
 use place_model::{Entry, History};
 use std::alloc::{AllocError, Global};
 use std::process::Abort;
-use wire_spelling::words_fit;
+use wire_spelling::command_fits;
 use wire_values::Words;
 
 /// A store, the history of its clients, and the names that rows have for byte strings.
@@ -136,7 +136,7 @@ impl PlayedStore {
     ) -> Result<Vec<u8>, AllocError>
         requires { at < moment_limit }
     {
-        assert!(rt; words_fit(&words));
+        assert!(rt; command_fits(&words));
         assert!(rt; is_running(&self.history, conn));
         let reply = self.store.apply(alloc, at, conn, &words)?;
         let shown = self.glossary.reply_text(alloc, &reply)?;

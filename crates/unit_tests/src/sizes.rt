@@ -2,7 +2,7 @@
 use crate::compared::same;
 use std::alloc::{AllocError, Global};
 use std::test::Fail;
-use wire_spelling::{fits, words_fit};
+use wire_spelling::{command_fits, fits};
 use wire_values::{Bytes, Value, Words};
 
 /// So many words of so many bytes.
@@ -37,13 +37,13 @@ const SIZES: [(&str, usize, usize, bool); 8] = [
 fn words_fit_up_to_each_limit(rt: HostRuntime) -> Result<(), Fail> {
     for (row, count, length, want) in SIZES {
         let words = words_of(rt.alloc(), count, length)?;
-        same(&rt, row, words_fit(&words), want);
+        same(&rt, row, command_fits(&words), want);
     }
     let words = words_of(rt.alloc(), 4_096, 2_038)?;
     same(
         &rt,
         "as long as they may be together",
-        words_fit(&words),
+        command_fits(&words),
         true,
     );
     Ok(())

@@ -12,8 +12,8 @@ use Rattle.wire_spelling.specs.Lengths.{joined, bulk_length, items_length, spell
 use Rattle.wire_spelling.proofs.Fitting.{array_told, bulk_told, fits_is, items_none}
 
 -- the test tells whether a command fits
-pub command_fits : (words : List (List ℕ)) (o : Option ℕ) → o ≡ spelled_length (Array (map Bulk words)) 4 → IfSome o (λ n. n ≤ value_limit) → IsTrue (is_some o) ↔ IsWithinLimits words
-command_fits words o e l =
+pub command_fits_is : (words : List (List ℕ)) (o : Option ℕ) → o ≡ spelled_length (Array (map Bulk words)) 4 → IfSome o (λ n. n ≤ value_limit) → IsTrue (is_some o) ↔ IsWithinLimits words
+command_fits_is words o e l =
     let h = fits_is (Array (map Bulk words)) o e l in
     (λ t. ∣ h.0 t ∣₁, λ w. ∥∥₁_elim w (hlevel props) (λ s. h.1 s))
 

@@ -8,4 +8,4 @@ mod encoding;
 mod room;
 
 pub use encoding::{encode, encode_onto};
-pub use room::{fits, words_fit};
+pub use room::{command_fits, fits};

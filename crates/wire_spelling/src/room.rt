@@ -19,7 +19,7 @@ pub fn fits(value: &Value) -> bool
 
 /// Whether a command of these words can be written, as the array of its words as bulk strings: at most `COUNT_LIMIT`
 /// words, each of at most `LENGTH_LIMIT` bytes, and all of it within `VALUE_LIMIT` bytes. It takes no memory.
-pub fn words_fit(words: &Words) -> bool
+pub fn command_fits(words: &Words) -> bool
     ensures { IsTrue result ↔ IsWithinLimits words.now }
 {
     command_length(words).is_some()
