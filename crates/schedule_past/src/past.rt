@@ -117,6 +117,26 @@ impl Past {
         ensures table { (history_of self.new.history).clients ≡ (history_of self.old.history).clients }
     {
         let reply = self.store.apply(alloc, self.moment, client, &words)?;
+        self.hear(alloc, client, words, reply, left)
+    }
+
+    /// The store answered a call of these words, which are the next of the client's block: the block goes on, and the call
+    /// is the next entry of the history.
+    fn hear(
+        &mut self,
+        alloc: Global,
+        client: u32,
+        words: Words,
+        reply: Reply,
+        left: &mut BlockLeft,
+    ) -> Result<(), AllocError>
+        requires known { has_number client (history_of self.old.history).clients ≡ true }
+        requires limits { IsWithinLimits words }
+        requires asked { has_more (script_left left.old) ≡ true }
+        ensures desk { OnOk result ((bs : FinMap nat_cmp ClientBook) → desk_with self.new bs ≡ record (desk_with self.old bs) { entries = (history_of self.old.history).entries ++ Call client self.old.moment words reply ∷ [] }) }
+        ensures left { OnOk result (script_left left.new ≡ after_answer (script_left left.old) reply.answer) }
+        ensures table { (history_of self.new.history).clients ≡ (history_of self.old.history).clients }
+    {
         let cost = answered(alloc, self.moment, self.cost, &words, &reply, left)?;
         self.note(alloc, client, words, reply, cost)
     }
