@@ -339,7 +339,7 @@ module _ (κ : Craft) (craft : IsCraft κ) where
   on_says : (go : ScheduleReader → Determined) (n : ℕ) (ls : List Bytes) (l : Bytes) (later : List Bytes) (r : Led) → LedHolds κ.setting r → LedAsks κ (of_lines (ls ++ l ∷ [])) r
       → ((d : ScheduleReader) → Holds κ.setting d → Asks κ (of_lines (ls ++ l ∷ [])) d → IsAskedFor κ ((ls ++ l ∷ []) ++ later) (go d)) → IsAskedFor κ (ls ++ l ∷ later) (led_on go n r)
   on_says go n ls l later (Went d) h a f = subst (λ z. IsAskedFor κ z (go d)) (append_assoc ls (l ∷ []) later) (f d h a)
-  on_says go n ls l later (Filled d) h a f = (d, ls ++ l ∷ [], refl, (later, append_assoc ls (l ∷ []) later), says κ craft (ls ++ l ∷ []) d h.0 a)
+  on_says go n ls l later (Filled d) h a f = (d, ls ++ l ∷ [], refl, refl, (later, append_assoc ls (l ∷ []) later), says κ craft (ls ++ l ∷ []) d h.0 a)
   on_says go n ls l later (Bad r) h a f = tt
 
   last_holds : (cut : Bool) (r : Led) → LedHolds κ.setting r → LedHolds κ.setting (last_led cut r)

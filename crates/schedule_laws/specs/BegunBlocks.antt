@@ -17,6 +17,7 @@ use Rattle.command_blocks.specs.PassBlocks.{PassEnd, IsPassBlock}
 use Rattle.command_blocks.specs.declared.side.Side.TheVariants.{Left, Right}
 use Rattle.place_model.specs.Histories.{calls_of}
 use Rattle.schedule_model.specs.Built.{waits}
+use Rattle.schedule_model.specs.Costs.{total_cost}
 use Rattle.schedule_model.specs.Desk.{ScheduleReader}
 use Rattle.schedule_model.specs.Faults.{Craft, is_busy}
 use Rattle.schedule_model.specs.Lines.{line_in}
@@ -87,7 +88,7 @@ SaysAsked κ ls d = (c s : ℕ) → Among (c, s) d.clients → AreAskedBlocks κ
 -- so does each client of a whole history, by all of the lines, and of one that was full, by those up to the line that was to add to it
 abbrev pub IsAskedFor : Craft → List Bytes → Determined → Type 0
 IsAskedFor κ ls (Whole d) = SaysAsked κ ls d
-IsAskedFor κ ls (Full n cost) = (d : ScheduleReader) × (front : List Bytes) × (length d.entries ≡ n) × IsPrefixOf front ls × SaysAsked κ front d
+IsAskedFor κ ls (Full n cost) = (d : ScheduleReader) × (front : List Bytes) × (length d.entries ≡ n) × (total_cost d.entries ≡ cost) × IsPrefixOf front ls × SaysAsked κ front d
 IsAskedFor κ ls (Bad_line n reason) = Unit {0}
 
 -- each schedule has its clients say what its lines ask for
