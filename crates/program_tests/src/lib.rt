@@ -9,6 +9,8 @@ mod played;
 #[cfg(test)]
 mod rows;
 #[cfg(test)]
+mod shows;
+#[cfg(test)]
 mod spelled;
 #[cfg(test)]
 mod tasks;

@@ -2,3 +2,4 @@
 pub mod bad_lines;
 pub mod limits;
 pub mod reports;
+pub mod streams;
