@@ -8,12 +8,12 @@ use Rattle.routes.proofs.Publishes.{lawful_push}
 use Rattle.routes.proofs.publish.publish_core.Goals as goal
 
 pub returns-clause-left : goal.returns-clause-left
-returns-clause-left c = c.new.ensures.left ∙ sym (direct_script (data_of c.args.envelope) c.requires (ap envelope_at (sym c.text.ensures.value) ∙ c.text.ensures.again))
+returns-clause-left c = c.new.ensures.left ∙ sym (direct_script (data_of c.args.envelope) c.requires (ap envelope_at (sym c.text-text.ensures.value) ∙ c.text-text.ensures.again))
 
 pub returns-clause-lawful : goal.returns-clause-lawful
-returns-clause-lawful c = lawful_push (data_of c.args.envelope) c.requires (ap envelope_at (sym c.text.ensures.value) ∙ c.text.ensures.again)
+returns-clause-lawful c = lawful_push (data_of c.args.envelope) c.requires (ap envelope_at (sym c.text-text.ensures.value) ∙ c.text-text.ensures.again)
 
 pub returns-clause-traced : goal.returns-clause-traced
 returns-clause-traced c s p =
-    let again : envelope_at (compact_text (data_of c.args.envelope)) ≡ Ok (data_of c.args.envelope) = ap envelope_at (sym c.text.ensures.value) ∙ c.text.ensures.again in
+    let again : envelope_at (compact_text (data_of c.args.envelope)) ≡ Ok (data_of c.args.envelope) = ap envelope_at (sym c.text-text.ensures.value) ∙ c.text-text.ensures.again in
     c.new.ensures.traced s p (Publish (compact_text (data_of c.args.envelope))) (sym (direct_script (data_of c.args.envelope) c.requires again)) (refl, again)
