@@ -6,8 +6,8 @@ ghost use Rattle.std.specs.Prelude.{◌≡◌, [], IfOk, IsUtf8};
 use crate::compared::same;
 use crate::samples::{content, edited, marked, repeated, usual, written};
 use envelope::{
-    Envelope, EnvelopeFault, Field, Seed, Tag, UnackedEntry, of_tree, read, read_entry, redelivered,
-    write, write_entry,
+    Envelope, EnvelopeFault, Field, Seed, Tag, UnackedEntry, of_tree, read, read_entry,
+    redelivered, write, write_entry,
 };
 use sealed_drafts::{Draft, seal};
 use serde_json::Value;
