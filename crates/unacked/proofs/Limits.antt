@@ -7,9 +7,9 @@ use Rattle.std.proofs.lemmas.List.Elements.{All-nil, All-cons, All-append}
 use Rattle.std.proofs.lemmas.Fmt.{length-decimal-le}
 use Rattle.uuid.proofs.TextLemmas.{by_index_length}
 use Rattle.envelope.specs.Entries.{EntryParts, entry_at, max_entry}
-use Rattle.envelope.specs.Tags.{tag_text}
-use Rattle.envelope.specs.declared.fault.EnvelopeFault.TheVariants.{TooLong}
-use Rattle.envelope.specs.Reading.{wanted}
+use Rattle.delivery_tags.specs.Tags.{tag_text}
+use Rattle.envelope_trees.specs.declared.fault.EnvelopeFault.TheVariants.{TooLong}
+use Rattle.envelope_trees.specs.Reading.{wanted}
 use Rattle.envelope.proofs.Said.{bind_ok, wanted_is}
 use Rattle.store_model.specs.Words.{Words}
 use Rattle.wire_grammar.specs.Fits.{IsShort, IsWithinLimits}
@@ -17,7 +17,7 @@ use Rattle.wire_grammar.proofs.Fitted.{words_fit}
 use Rattle.queue_keys.specs.Layouts.{plain}
 use Rattle.queue_keys.specs.Names.{Bytes, is_name}
 use Rattle.queue_keys.specs.QueueKeys.{keys_at, keys_by, pop_keys, queue_key}
-use Rattle.place_model.proofs.CommandLimits.{four_within, key_few}
+use Rattle.place_model.proofs.CommandLimits.{four_within, key_few, one_within, three_within}
 use Rattle.key_laws.proofs.Lists.{length-pop_keys}
 use Rattle.unacked.specs.Queues.{are_names}
 use Rattle.unacked.proofs.Names.{and_is}
@@ -63,6 +63,16 @@ pop_within qs e few =
     (All-cons IsKeyLong (codes "BRPOP") (pop_keys plain qs ++ codes "1" ∷ []) (omega arith) (All-append IsKeyLong (pop_keys plain qs) (codes "1" ∷ []) (by_few plain.steps qs e) (All-cons IsKeyLong (codes "1") [] (omega arith) (All-nil IsKeyLong))))
 
 -- ---- what a call that makes words answers
+
+-- one word
+pub one_made : (r : Result Words AllocError) (a : Bytes) → IfOk r (λ w. w ≡ a ∷ []) → IsShort a → IfOk r IsWithinLimits
+one_made (Ok w) a e x = subst IsWithinLimits (sym e) (one_within a x)
+one_made (Err f) a e x = tt
+
+-- words of three
+pub three_made : (r : Result Words AllocError) (a b c : Bytes) → IfOk r (λ w. w ≡ a ∷ b ∷ c ∷ []) → IsShort a → IsShort b → IsShort c → IfOk r IsWithinLimits
+three_made (Ok w) a b c e x y z = subst IsWithinLimits (sym e) (three_within a b c x y z)
+three_made (Err f) a b c e x y z = tt
 
 -- words of four, the last two of which are short
 pub four_made : (r : Result Words AllocError) (a b c d : Bytes) → IfOk r (λ w. w ≡ a ∷ b ∷ c ∷ d ∷ []) → IsShort a → IsShort b → IsShort c → IsShort d → IfOk r IsWithinLimits

@@ -1,10 +1,10 @@
 -- The words are those of the two commands that put an envelope into the table, and are short.
 use Rattle.std.proofs.Common.{◌∙◌, ap, arith, codes, sym, subst}
 use Rattle.serde_json.specs.View.{view as data_of}
-use Rattle.envelope.specs.Tags.{tag_text}
+use Rattle.delivery_tags.specs.Tags.{tag_text}
 use Rattle.unacked.proofs.Kept.{index_said, table_said}
 use Rattle.wire_grammar.specs.Fits.{IsShort}
-use Rattle.unacked.proofs.Limits.{decimal_short, entry_short, four_made, tag_short}
+use Rattle.unacked.proofs.Limits.{decimal_short, entry_short, four_made, one_made, tag_short}
 use Rattle.unacked.proofs.pop.keep_words.Goals as goal
 
 pub returns-in_ok-tag-in-Index-clause-words : goal.returns-in_ok-tag-in-Index-clause-words
@@ -28,3 +28,9 @@ returns-in_ok-entry-in-Table-clause-limits c =
     four_made c.four_words-in-Table.result (codes "HSET") (codes "unacked") c.as_slice-in-Table.result.now c.in_ok-entry-in-Table.entry c.four_words-in-Table.ensures (omega arith) (omega arith)
     (subst IsShort (sym (c.as_slice-in-Table.ensures ∙ c.text-tag.ensures.value)) (tag_short c.tag-in-Table.result.0))
     (entry_short c.in_ok-entry-in-Table.entry _ c.in_ok-entry-in-Table.ensures.again)
+
+pub returns-in-Begin-clause-limits : goal.returns-in-Begin-clause-limits
+returns-in-Begin-clause-limits c = one_made c.one_word.result (codes "MULTI") c.one_word.ensures (omega arith)
+
+pub returns-in-Run-clause-limits : goal.returns-in-Run-clause-limits
+returns-in-Run-clause-limits c = one_made c.one_word-in-Run.result (codes "EXEC") c.one_word-in-Run.ensures (omega arith)
