@@ -6,7 +6,7 @@ use Rattle.links.specs.Causes.{AppendsFront, Rose}
 use Rattle.links.specs.Ends.{HasReadUpTo, IsWholeInput}
 use Rattle.links.specs.Views.{SinkView, SourceView}
 use Rattle.top_call.proofs.Statuses.{consumed_all, consumed_front}
-use Rattle.top_call.specs.Endings.{HasTold, Tells, TellsShown, Took, Written, ended_of, text_of, told_of}
+use Rattle.top_call.specs.Endings.{HasTold, Tells, TellsShown, Took, Written, ended_of, telling, text_of, told_of}
 use Rattle.top_call.specs.Showings.{IsAllShown, IsByteWrong, IsEndWithin, IsMemoryCut, IsPastShowing, IsReadCut, IsShowing, IsWriteCut}
 use Rattle.top_call.specs.declared.ending.End.TheVariants.{BadByte, LongStream, Memory, ReadFault, Shown as ShownEnd, Unfinished}
 use Rattle.top_call.specs.declared.ending.End.{End}
@@ -19,6 +19,38 @@ use Rattle.wire_show.specs.declared.ending.ShowEnd.{ShowEnd}
 use Rattle.wire_show.specs.declared.ending.ShowEnd.TheVariants.{Bad, Long, Whole, WriteFault}
 use Rattle.wire_show.specs.declared.ending.ShowEnd.TheVariants as show
 use Rattle.wire_values.specs.declared.value.Value.{Value}
+
+none_is : {e : End} → None ≡ Some e → ⊥
+none_is e = cc
+
+some_is : {e : End} → Some e ≡ None → ⊥
+some_is e = cc
+
+abbrev told_or : Option End → End
+told_or None = Memory
+told_or (Some g) = g
+
+module _ (m x : SinkView) (r : Ended) where
+  tells_same : (e f : End) → Some f ≡ Some e → Tells e m x r → Tells f m x r
+  tells_same e f same tells = subst (λ (o : Option End). Tells (told_or o) m x r) (sym same) tells
+
+  pub told_some : (end : ShowEnd) (e : End) → telling end ≡ Some e → Tells e m x r → TellsShown end m x r
+  told_some Whole e same tells = tells_same e (told_of Whole) same tells
+  told_some (Bad kind place) e same tells = tells_same e (told_of (Bad kind place)) same tells
+  told_some (show.Unfinished place) e same tells = tells_same e (told_of (show.Unfinished place)) same tells
+  told_some Long e same tells = tells_same e (told_of Long) same tells
+  told_some show.ReadFault e same tells = tells_same e (told_of show.ReadFault) same tells
+  told_some show.Memory e same tells = tells_same e (told_of show.Memory) same tells
+  told_some WriteFault e same tells = absurd (none_is same)
+
+pub told_none : (end : ShowEnd) → telling end ≡ None → (m : SinkView) → TellsShown end m m (record { status = 5; place = 0; left = 0 })
+told_none Whole same m = absurd (some_is same)
+told_none (Bad kind place) same m = absurd (some_is same)
+told_none (show.Unfinished place) same m = absurd (some_is same)
+told_none Long same m = absurd (some_is same)
+told_none show.ReadFault same m = absurd (some_is same)
+told_none show.Memory same m = absurd (some_is same)
+told_none WriteFault same m = (refl, refl)
 
 -- a run of `show` by its three ways: its end is told, memory ends before that, or the sink fails
 data Way (b n : SourceView) (o x : SinkView) (r : Ended) : Type 0 where

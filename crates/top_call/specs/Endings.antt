@@ -1,6 +1,6 @@
 -- How a run ends: its text, its status, and why it may end so. Serves the proofs of code.
 use Rattle.std.specs.Io.KnownBytes.{Appends, Consumes}
-use Rattle.std.specs.Prelude.{List, Some, [], codes, false, true, decimal, length, ℕ, ◌++◌, ◌+◌, ◌≡◌, ◌≤◌, ◌⊎◌}
+use Rattle.std.specs.Prelude.{List, None, Option, Some, [], codes, false, true, decimal, length, ℕ, ◌++◌, ◌+◌, ◌≡◌, ◌≤◌, ◌⊎◌}
 use Rattle.line_text.specs.Reason.{reason_text}
 use Rattle.links.specs.Causes.{AppendsFront, Rose}
 use Rattle.links.specs.Ends.{IsWholeInput}
@@ -101,7 +101,17 @@ told_of show.ReadFault = ReadFault
 told_of show.Memory = Memory
 told_of WriteFault = ShownEnd
 
--- what is told of the end of a showing
+-- what is told of the end of a showing, where anything is
+abbrev pub telling : ShowEnd → Option End
+telling Whole = Some (told_of Whole)
+telling (Bad kind place) = Some (told_of (Bad kind place))
+telling (show.Unfinished place) = Some (told_of (show.Unfinished place))
+telling Long = Some (told_of Long)
+telling show.ReadFault = Some (told_of show.ReadFault)
+telling show.Memory = Some (told_of show.Memory)
+telling WriteFault = None
+
+-- what was told of the end of a showing
 abbrev pub TellsShown : ShowEnd → SinkView → SinkView → Ended → Type 0
 TellsShown Whole old new result = Tells (told_of Whole) old new result
 TellsShown (Bad kind place) old new result = Tells (told_of (Bad kind place)) old new result

@@ -1,7 +1,7 @@
 //! The top call: words, a source and a sink to a status.
 ghost use Rattle.std.specs.Io.KnownBytes.{Appends};
-ghost use Rattle.std.specs.Prelude.{Contains, List, [], map, ℕ, ◌∷◌, ◌≡◌, ◌≤◌, ◌⊎◌};
-ghost use Rattle.top_call.specs.Endings.{EndsAs, HasEnded, HasTold, Shown, Took, WritesText, Written, text_of};
+ghost use Rattle.std.specs.Prelude.{Contains, List, [], false, map, true, ℕ, ◌∷◌, ◌≡◌, ◌≤◌, ◌⊎◌};
+ghost use Rattle.top_call.specs.Endings.{EndsAs, HasEnded, HasTold, Shown, Took, WritesText, Written, telling, text_of};
 ghost use Rattle.top_call.specs.Replays.{calm_statuses, replay_run};
 ghost use Rattle.top_call.specs.Statuses.{IsAnswerTo, IsBadLine, IsBadWord, IsHistoryFull, IsReadFault, IsReported, IsWriteFault};
 ghost use Rattle.top_call.specs.Showings.{IsShowing};
@@ -85,19 +85,29 @@ fn show_stream<S: Source, K: Sink>(alloc: Global, src: &mut S, out: &mut K) -> E
         (source_view S.left S.read_faults S.ends src.old) (source_view S.left S.read_faults S.ends src.new)
         (sink_view K.taken K.write_faults out.old) (sink_view K.taken K.write_faults out.new) result }
 {
-    let end = show(alloc, src, out);
-    match end {
-        ShowEnd::WriteFault => Ended {
+    let shown = show(alloc, src, out);
+    match told(shown) {
+        Some(end) => finish(alloc, out, end),
+        None => Ended {
             status: 5,
             place: 0,
             left: 0,
         },
-        ShowEnd::Whole => finish(alloc, out, End::Shown),
-        ShowEnd::Bad { kind, place } => finish(alloc, out, End::BadByte { kind, place }),
-        ShowEnd::Unfinished { place } => finish(alloc, out, End::Unfinished(place)),
-        ShowEnd::Long => finish(alloc, out, End::LongStream),
-        ShowEnd::ReadFault => finish(alloc, out, End::ReadFault),
-        ShowEnd::Memory => finish(alloc, out, End::Memory),
+    }
+}
+
+/// The end of a run by that of its showing; none where the sink failed, so that nothing more is told.
+fn told(shown: ShowEnd) -> Option<End>
+    ensures { result ≡ telling shown }
+{
+    match shown {
+        ShowEnd::Whole => Some(End::Shown),
+        ShowEnd::Bad { kind, place } => Some(End::BadByte { kind, place }),
+        ShowEnd::Unfinished { place } => Some(End::Unfinished(place)),
+        ShowEnd::Long => Some(End::LongStream),
+        ShowEnd::ReadFault => Some(End::ReadFault),
+        ShowEnd::WriteFault => None,
+        ShowEnd::Memory => Some(End::Memory),
     }
 }
 
