@@ -5,7 +5,7 @@ use Rattle.net_links.specs.Traffics.{Traffic, traffic}
 use Rattle.net_links.specs.declared.link.NetFault.TheVariants.{Failed}
 use Rattle.net_links.specs.declared.link.NetFault.{NetFault}
 
--- a link in memory: the bytes that are left to receive, those received and those sent, the longest piece, which calls fail, and its counts
+-- a link in memory: the bytes that are left to receive, those received and those sent, the longest piece, which calls fail, and its counts of calls, faults, ends and receives that gave bytes
 pub record MemoryLinkView : Type 0 where
   pub left : List ℕ
   pub received : List ℕ
@@ -15,10 +15,11 @@ pub record MemoryLinkView : Type 0 where
   pub calls : ℕ
   pub faults : ℕ
   pub ends : ℕ
+  pub gains : ℕ
 
 -- a link that nobody used yet, with these bytes to receive
 abbrev pub memory_link : List ℕ → ℕ → List ℕ → MemoryLinkView
-memory_link incoming piece fails = record { left = incoming; received = []; sent = []; piece = piece; fails = fails; calls = 0; faults = 0; ends = 0 }
+memory_link incoming piece fails = record { left = incoming; received = []; sent = []; piece = piece; fails = fails; calls = 0; faults = 0; ends = 0; gains = 0 }
 
 -- whether the next call of a link fails
 abbrev pub link_fails : MemoryLinkView → Bool
@@ -44,6 +45,10 @@ received_count l room = min (min (length l.left) room) l.piece
 abbrev pub ends_by : ℕ → ℕ → ℕ → ℕ
 ends_by count room ends = if nat_eq count 0 && nat_lt 0 room then raised ends else ends
 
+-- the count of receives that gave bytes, after one that gave so many
+abbrev pub gains_by : ℕ → ℕ → ℕ
+gains_by count gains = if nat_eq count 0 then gains else raised gains
+
 -- the link after a receive into a slice of this length
 abbrev pub after_receive : MemoryLinkView → ℕ → MemoryLinkView
 after_receive l room = if link_fails l then after_failure l else record l {
@@ -51,6 +56,7 @@ after_receive l room = if link_fails l then after_failure l else record l {
   received = l.received ++ take (received_count l room) l.left;
   calls = raised l.calls;
   ends = ends_by (received_count l room) room l.ends;
+  gains = gains_by (received_count l room) l.gains;
 }
 
 -- a link that carried nothing, never failed and never ended

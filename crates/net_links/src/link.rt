@@ -3,7 +3,7 @@ ghost use Rattle.std.specs.Io.KnownBytes.{WriteAppends, Keeps};
 ghost use Rattle.std.specs.Io.{ReadsAtMost, WritesAtMost};
 ghost use Rattle.std.specs.Prelude.{◌<◌, ◌≡◌, ◌≤◌, IfOk, List, Option, length, ℕ};
 ghost use Rattle.links.specs.Causes.{HasCause, HasEnds};
-ghost use Rattle.net_links.specs.NetCauses.{HasNetCause};
+ghost use Rattle.net_links.specs.NetCauses.{HasGained, HasNetCause};
 
 use links::Failed;
 use std::alloc::Global;
@@ -31,6 +31,9 @@ pub trait Link {
     /// How often it answered that there is nothing more to receive.
     ghost ends: { Self → ℕ };
 
+    /// How often a receive gave bytes; a link that tells nothing may stand at the end of 64 bits always.
+    ghost gains: { Self → ℕ };
+
     /// Sends bytes from the front of a piece and answers how many: at least one of a piece that isn't empty. `Failed`
     /// comes where the link failed, `Memory` where it wants memory; it sent nothing then.
     fn send(&mut self, alloc: Global, piece: &[u8]) -> Result<usize, NetFault>
@@ -39,7 +42,8 @@ pub trait Link {
         ensures sent { WriteAppends (sent self.old) (sent self.new) result piece.now }
         ensures received { Keeps (received self.old) (received self.new) }
         ensures cause { HasNetCause (faults self.old) (faults self.new) result }
-        ensures ends { ends self.new ≡ ends self.old };
+        ensures ends { ends self.new ≡ ends self.old }
+        ensures gains { gains self.new ≡ gains self.old };
 
     /// Receives bytes into the front of a slice and answers how many: none only where the other side ended, or into an
     /// empty slice. `Failed` comes where the link failed; it received nothing then.
@@ -48,5 +52,6 @@ pub trait Link {
         ensures received { WriteAppends (received self.old) (received self.new) result into.new }
         ensures sent { Keeps (sent self.old) (sent self.new) }
         ensures cause { HasCause (faults self.old) (faults self.new) result }
-        ensures end { HasEnds (ends self.old) (ends self.new) (length into.old) result };
+        ensures end { HasEnds (ends self.old) (ends self.new) (length into.old) result }
+        ensures gains { HasGained (gains self.old) (gains self.new) result };
 }

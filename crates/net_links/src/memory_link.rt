@@ -3,8 +3,9 @@ ghost use Rattle.std.specs.Io.KnownBytes.{WriteAppends, Keeps};
 ghost use Rattle.std.specs.Io.{ReadsAtMost, WritesAtMost};
 ghost use Rattle.std.specs.Prelude.{◌<◌, ◌≡◌, ◌↔◌, ◌≤◌, IfOk, IsErr, IsErrOf, IsTrue, OnOk, Some, false, length, drop, nat_eq, not, take, ◌&&◌};
 ghost use Rattle.links.specs.Causes.{HasCause, HasEnds, Rose};
-ghost use Rattle.net_links.specs.MemoryForms.{MemoryLinkView, after_failure, after_receive, after_sending, ends_by, link_fails, memory_link, received_count, sent_count};
-ghost use Rattle.net_links.specs.NetCauses.{HasNetCause};
+ghost use Rattle.links.specs.Counts.{raised};
+ghost use Rattle.net_links.specs.MemoryForms.{MemoryLinkView, after_failure, after_receive, after_sending, ends_by, gains_by, link_fails, memory_link, received_count, sent_count};
+ghost use Rattle.net_links.specs.NetCauses.{HasGained, HasNetCause};
 ghost use Rattle.net_links.specs.declared.link.NetFault.TheVariants.{Failed as net_failed, Memory};
 
 use crate::counts::raise;
@@ -26,6 +27,7 @@ pub struct MemoryLink {
     calls: u64,
     faults: u64,
     ends: u64,
+    gains: u64,
 }
 
 impl Model for MemoryLink {
@@ -40,6 +42,7 @@ impl Model for MemoryLink {
       calls = s.calls;
       faults = s.faults;
       ends = s.ends;
+      gains = s.gains;
     } };
 
     ghost invariant = { λ s. (s.at ≤ length s.incoming) × (1 ≤ s.piece) };
@@ -60,6 +63,7 @@ impl MemoryLink {
             calls: 0,
             faults: 0,
             ends: 0,
+            gains: 0,
         }
     }
 
@@ -103,6 +107,8 @@ impl Link for MemoryLink {
 
     ghost ends = { λ s. s.ends };
 
+    ghost gains = { λ s. s.gains };
+
     fn send(&mut self, alloc: Global, piece: &[u8]) -> Result<usize, NetFault>
         ensures bound { WritesAtMost result piece.now }
         ensures moves { 0 < length piece.now → IfOk result (λ n. 1 ≤ n) }
@@ -110,6 +116,7 @@ impl Link for MemoryLink {
         ensures received { Keeps (Some self.old.received) (Some self.new.received) }
         ensures cause { HasNetCause self.old.faults self.new.faults result }
         ensures ends { self.new.ends ≡ self.old.ends }
+        ensures gains { self.new.gains ≡ self.old.gains }
         ensures fails { IsErrOf result net_failed ↔ IsTrue (link_fails self.old) }
         ensures count { IfOk result (λ n. n ≡ sent_count self.old (length piece.now)) }
         ensures after { OnOk result (self.new ≡ after_sending self.old piece.now) }
@@ -127,13 +134,14 @@ impl Link for MemoryLink {
         Ok(count)
     }
 
-    #[tactic(auto, using(crate::proofs::Counted::link_failed, crate::proofs::Counted::received_piece))]
+    #[tactic(auto, using(crate::proofs::Counted::link_failed, crate::proofs::Counted::gained))]
     fn receive(&mut self, into: &mut [u8]) -> Result<usize, Failed>
         ensures bound { ReadsAtMost result into.new }
         ensures received { WriteAppends (Some self.old.received) (Some self.new.received) result into.new }
         ensures sent { Keeps (Some self.old.sent) (Some self.new.sent) }
         ensures cause { HasCause self.old.faults self.new.faults result }
         ensures end { HasEnds self.old.ends self.new.ends (length into.old) result }
+        ensures gains { HasGained self.old.gains self.new.gains result }
         ensures fails { IsErr result ↔ IsTrue (link_fails self.old) }
         ensures count { IfOk result (λ n. n ≡ received_count self.old (length into.old)) }
         ensures after { self.new ≡ after_receive self.old (length into.old) }
@@ -147,6 +155,7 @@ impl Link for MemoryLink {
         into[..count].copy_from_slice(&left[..count]);
         self.at += count;
         count_end(count, into.len(), &mut self.ends);
+        count_gain(count, &mut self.gains);
         Ok(count)
     }
 }
@@ -157,5 +166,16 @@ fn count_end(count: usize, room: usize, ends: &mut u64)
 {
     if count == 0 && room > 0 {
         raise(ends);
+    }
+}
+
+/// Counts a receive that gave bytes.
+fn count_gain(count: usize, gains: &mut u64)
+    ensures is { gains.new ≡ gains_by count gains.old }
+    ensures zero { count ≡ 0 → gains.new ≡ gains.old }
+    ensures some { 0 < count → gains.new ≡ raised gains.old }
+{
+    if count != 0 {
+        raise(gains);
     }
 }

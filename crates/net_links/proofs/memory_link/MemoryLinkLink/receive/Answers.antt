@@ -20,4 +20,4 @@ returns-clause-after c =
     let gave : n ≡ received_count c.args.self.now (length c.args.into.now) = grind (arith, common_steps) in
     let fails : link_fails c.args.self.now ≡ false = sym c.fails_now.ensures.is ∙ c.if-fails_now.false in
     let room : length (c.copy_from_slice.new.self ++ drop n c.args.into.now) ≡ length c.args.into.now = grind (arith, common_steps) in
-    received_view s.incoming s.at s.sent s.piece s.fails.items s.calls s.faults s.ends (length c.args.into.now) n _ _ c.args.self.now c.self.invariant.0 (c.self.view_is ∙ c.if-fails_now.ensures.same refl) fails gave c.raise.ensures.risen (c.count_end.ensures ∙ ap (λ m. ends_by n m s.ends) room)
+    received_view s.incoming s.at s.sent s.piece s.fails.items s.calls s.faults s.ends s.gains (length c.args.into.now) n _ _ _ c.args.self.now c.self.invariant.0 (c.self.view_is ∙ c.if-fails_now.ensures.same refl) fails gave c.raise.ensures.risen (c.count_end.ensures ∙ ap (λ m. ends_by n m s.ends) room) c.count_gain.ensures.is
