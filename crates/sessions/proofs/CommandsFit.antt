@@ -111,9 +111,9 @@ all_short d (v ∷ vs) body words s is = by (bulk_of v) (contents vs) (λ ws f. 
   by None p rest e f is = absurd (grind arith)
   by (Some w) None rest e f is = absurd (grind arith)
   by (Some w) (Some ws) rest e f is =
-    let r = rest ws f in
-    let g : w ∷ ws ≡ words = grind arith in
-    subst (λ ws. (length ws ≡ suc (length vs)) × All IsShort ws) g (ap suc r.0, All-cons IsShort w ws (short_word d v s.0 w s.3 e) r.1)
+      let r = rest ws f in
+      let g : w ∷ ws ≡ words = grind arith in
+      subst (λ ws. (length ws ≡ suc (length vs)) × All IsShort ws) g (ap suc r.0, All-cons IsShort w ws (short_word d v s.0 w s.3 e) r.1)
 
 items_short : (d : ℕ) (v : Value) (b : List ℕ) (words : Words) → IsArray (SpellsWithin d) v b → command_in v ≡ Some words → IsWithinLimits words
 items_short d v b words a is =
@@ -122,9 +122,9 @@ items_short d v b words a is =
     let r = all_short d a.0 a.2 words a.5 c in
     let few : length a.0 ≤ 4096 = a.4.2 in
     (omega (arith, few, r.0), r.1) where
-  whole : (vs : List Value) → command_items vs ≡ Some words → contents vs ≡ Some words
-  whole [] e = absurd (grind arith)
-  whole (v ∷ vs) e = e
+      whole : (vs : List Value) → command_items vs ≡ Some words → contents vs ≡ Some words
+      whole [] e = absurd (grind arith)
+      whole (v ∷ vs) e = e
 
 -- the words of a command that was received
 pub fits : (v : Value) (words : Words) → HasSpelling v → command_in v ≡ Some words → IsWithinLimits words

@@ -24,9 +24,13 @@ pub fn store_moment(now: u64) -> u64
     (now / 1_000_000).min((1 << 40) - 1)
 }
 
-/// Asks what a value spells, and appends the bytes of the reply.
+/// Asks what a value that was received spells, at the clock's moment, and appends the bytes of the reply: the values that
+/// were pushed before it, and the answer. `commands` counts what was asked, 2^64 - 1 for all numbers above.
+///
+/// `NotWords` comes exactly where the value spells no command; nothing is asked then. `Full` and `Closed` come where the
+/// desk answers so, `Memory` where there is no memory or the desk answers another fault.
 #[tactic(auto, using(crate::proofs::CommandsFit::fits))]
-pub(crate) fn answer<D: Desk, C: Clock>(
+pub fn answer<D: Desk, C: Clock>(
     alloc: Global,
     desk: &mut D,
     clock: &C,

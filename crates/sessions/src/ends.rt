@@ -21,10 +21,3 @@ pub enum Why {
     /// There was no memory.
     Memory,
 }
-
-/// The end of a session, and how many commands it asked, 2^64 - 1 for all numbers above.
-#[derive(Clone, Copy, Drop)]
-pub struct SessionEnd {
-    pub why: Why,
-    pub commands: u64,
-}
