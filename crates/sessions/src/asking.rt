@@ -1,5 +1,6 @@
 //! Asking a desk what was received, and writing down what it answers.
 ghost use Rattle.std.specs.Prelude.{IfErr, IfOk, OnErr, OnOk, Some, [], ◌++◌, ◌<◌, ◌^◌, ◌∷◌, ◌≡◌};
+ghost use Rattle.links.specs.Counts.{raised};
 ghost use Rattle.store_model.specs.Words.{IsWithinLimits};
 ghost use Rattle.desks.specs.Deeds.{DidAsk};
 ghost use Rattle.desks.specs.Faults.{IsOpen};
@@ -66,16 +67,27 @@ fn answer_words<D: Desk, C: Clock>(
 {
     let at = store_moment(clock.now());
     match asked(alloc, desk, at, words) {
-        Ok(reply) => {
-            let so_far = *commands;
-            *commands = so_far.saturating_add(1);
-            match reply_onto(alloc, out, &reply) {
-                Ok(()) => Ok(()),
-                Err(_) => Err(Why::Memory),
-            }
-        }
+        Ok(reply) => match counted(alloc, reply, out, commands) {
+            Ok(()) => Ok(()),
+            Err(_) => Err(Why::Memory),
+        },
         Err(why) => Err(why),
     }
+}
+
+/// Counts a command that was asked, and appends the bytes of its reply.
+fn counted(
+    alloc: Global,
+    reply: Reply,
+    out: &mut Vec<u8>,
+    commands: &mut u64,
+) -> Result<(), AllocError>
+    ensures written { OnOk result (out.new.items ≡ out.old.items ++ reply_bytes reply) }
+    ensures count { commands.new ≡ raised commands.old }
+{
+    let so_far = *commands;
+    *commands = so_far.saturating_add(1);
+    reply_onto(alloc, out, &reply)
 }
 
 /// Asks a command.
