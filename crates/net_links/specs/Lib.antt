@@ -1,0 +1,3 @@
+pub mod MemoryForms
+pub mod NetCauses
+pub mod Traffics

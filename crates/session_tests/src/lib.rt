@@ -1,0 +1,10 @@
+//! Tests of links, nets and clocks, of a desk that has its store, and of the parts of a session, by rows of what is given
+//! and what comes of it.
+#![tactic(auto)]
+
+#[cfg(test)]
+mod answers;
+#[cfg(test)]
+mod compared;
+#[cfg(test)]
+mod outside;

@@ -1,0 +1,4 @@
+pub mod Askings
+pub mod CommandValues
+pub mod Sendings
+pub mod Talks

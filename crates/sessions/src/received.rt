@@ -1,0 +1,52 @@
+//! The words of a command, read off a value that was received.
+ghost use Rattle.std.specs.Prelude.{IfOk, MatchOption, None, Some, ◌≡◌};
+ghost use Rattle.command_blocks.specs.Answers.{bulk_of, items_of};
+ghost use Rattle.sessions.specs.CommandValues.{command_in, command_items};
+
+use command_blocks::answer::items;
+use std::alloc::{AllocError, Global};
+use wire_values::{Bytes, List, Value, Words};
+
+/// The words of a command that a value spells, as an array of one or more bulk strings; None of any other value. It
+/// fails only where there is no memory.
+pub fn command_in(alloc: Global, value: &Value) -> Result<Option<Words>, AllocError>
+    ensures { IfOk result (λ words. words ≡ command_in value.now) }
+{
+    match items(value) {
+        Some(values) => words_in(alloc, values),
+        None => Ok(None),
+    }
+}
+
+/// The contents of one or more bulk strings.
+fn words_in(alloc: Global, values: &[Value]) -> Result<Option<Words>, AllocError>
+    ensures { IfOk result (λ words. words ≡ command_items values.now) }
+{
+    if values.is_empty() {
+        return Ok(None);
+    }
+    let mut words = List::new();
+    for value in values {
+        let Some(word) = content(value) else {
+            return Ok(None);
+        };
+        words.push(alloc, word.copy(alloc)?)?;
+    }
+    Ok(Some(words))
+}
+
+/// The content of a bulk string.
+#[tactic(auto, using(crate::proofs::Contents::array_layer), unfolding(wire_values::specs::Layer::layer))]
+fn content(value: &Value) -> Option<&Bytes>
+    ensures { MatchOption result (bulk_of value.now ≡ None) (λ bytes. bulk_of value.now ≡ Some bytes.now) }
+{
+    match value {
+        Value::Bulk(bytes) => Some(bytes),
+        Value::Status(_)
+        | Value::Error(_)
+        | Value::Integer(_)
+        | Value::Array(_)
+        | Value::NullBulk
+        | Value::NullArray => None,
+    }
+}
