@@ -1,0 +1,3 @@
+pub mod CivilBack
+pub mod KitCalendar
+pub mod TextsBack

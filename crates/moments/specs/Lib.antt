@@ -1,0 +1,4 @@
+pub mod CivilDays
+pub mod CivilTimes
+pub mod MomentTexts
+pub mod Shown
