@@ -1,0 +1,5 @@
+pub mod Drafted
+pub mod Put
+pub mod Reading
+pub mod Shown
+pub mod Tasks
