@@ -1,3 +1,4 @@
+pub mod Again
 pub mod Drafted
 pub mod Put
 pub mod Reading

@@ -101,6 +101,14 @@ call_of_items (item a (item k (item e (item x xs)))) = None
 abbrev pub call_in : Data → Option TaskCall
 call_in d = option_and_then call_of_items (as_array d)
 
+-- a call of an array, an object and an object
+unfoldable pub fit_call : TaskCall → Result TaskCall TaskFault
+fit_call call = do
+  args ← needed (BadField part.Args) (if_array call.args)
+  kwargs ← needed (BadField part.Kwargs) (if_object call.kwargs)
+  embed ← needed (BadField part.Embed) (if_object call.embed)
+  Ok (record { args = args; kwargs = kwargs; embed = embed })
+
 -- ---- tasks
 
 -- the task of version 2: its name, id and settings in the headers, its arguments in the content
@@ -109,17 +117,20 @@ second_task headers c = do
   call ← needed (BadField part.Body) (call_in c)
   name ← needed (BadField part.Name) (word_at (codes "task") headers)
   id ← needed (BadField part.Id) (word_at (codes "id") headers)
-  args ← needed (BadField part.Args) (if_array call.args)
-  kwargs ← needed (BadField part.Kwargs) (if_object call.kwargs)
-  embed ← needed (BadField part.Embed) (if_object call.embed)
+  fit ← fit_call call
   settings ← settings_in headers
-  Ok (record { version = 2; name = name; id = id; args = args; kwargs = kwargs; settings = settings })
+  Ok (record { version = 2; name = name; id = id; args = fit.args; kwargs = fit.kwargs; settings = settings })
+
+-- the name that a content of version 1 tells
+unfoldable pub told_name : Data → Result (List ℕ) TaskFault
+told_name c = do
+  text ← needed NoTask (text_at (codes "task") c)
+  needed (BadField part.Name) (if_word text)
 
 -- the task of version 1: all of it in the content
 unfoldable pub first_task : Data → Result TaskParts TaskFault
 first_task c = do
-  text ← needed NoTask (text_at (codes "task") c)
-  name ← needed (BadField part.Name) (if_word text)
+  name ← told_name c
   id ← needed (BadField part.Id) (word_at (codes "id") c)
   args ← needed (BadField part.Args) (array_at (codes "args") c)
   kwargs ← needed (BadField part.Kwargs) (object_at (codes "kwargs") c)

@@ -1,8 +1,8 @@
 //! The content of a drafted task.
 ghost use Rattle.std.specs.Prelude.{◌≡◌, IfOk, OnOk, true};
-ghost use Rattle.serde_json.specs.Data.{number, unsigned};
+ghost use Rattle.serde_json.specs.Data.{array, item, no_items};
 ghost use Rattle.serde_json.specs.View.{members_view, view as data_of};
-ghost use Rattle.task_message.specs.Drafted.{call_tree, can_draft, drafted_content, told_tree};
+ghost use Rattle.task_message.specs.Drafted.{call_tree, can_draft, drafted_content, nothing_after, told_tree};
 ghost use Rattle.task_message.specs.Put.{with_arguments, with_names, with_settings};
 ghost use Rattle.task_message.specs.Shown.{task_view};
 
@@ -27,12 +27,26 @@ pub(crate) fn content_tree(alloc: Global, t: &Task) -> Result<Value, AllocError>
 fn call_tree(alloc: Global, t: &Task) -> Result<Value, AllocError>
     ensures { IfOk result (λ v. data_of v ≡ call_tree (task_view t.now)) }
 {
-    let args = t.args.clone()?;
     let kwargs = t.kwargs.clone()?;
-    let after = json!(in alloc;
-        {"callbacks": null, "chain": null, "chord": null, "errbacks": null}
-    )?;
-    json!(in alloc; [args, kwargs, after])
+    let after = nothing_after(alloc)?;
+    let args = t.args.clone()?;
+    array_of(alloc, args, kwargs, after)
+}
+
+/// Nothing is called after the task.
+fn nothing_after(alloc: Global) -> Result<Value, AllocError>
+    ensures { IfOk result (λ v. data_of v ≡ nothing_after) }
+{
+    json!(in alloc; {"callbacks": null, "chain": null, "chord": null, "errbacks": null})
+}
+
+/// An array of three values.
+fn array_of(alloc: Global, a: Value, b: Value, c: Value) -> Result<Value, AllocError>
+    ensures { IfOk result (λ v. data_of v
+        ≡ array (item (data_of a) (item (data_of b) (item (data_of c) no_items)))) }
+{
+    let items = vec![in alloc; a, b, c]?;
+    Ok(Value::Array(items))
 }
 
 /// The content of version 1: an object that tells all of the task.

@@ -1,6 +1,5 @@
 //! Drafting a task that is to be sent.
 ghost use Rattle.std.specs.Prelude.{◌≡◌, IfOk, IsUtf8, true};
-ghost use Rattle.std.specs.Str.{is_utf8};
 ghost use Rattle.serde_json.specs.View.{view as data_of};
 ghost use Rattle.serde_json.specs.Written.{compact_text};
 ghost use Rattle.envelope.specs.Envelopes.{json_at};
@@ -39,15 +38,8 @@ pub fn can_draft(t: &Task) -> bool
 fn is_filled(bytes: &[u8]) -> bool
     ensures { result ≡ is_filled bytes.now }
 {
-    is_text(bytes) && bytes.len() >= 1
-}
-
-/// Whether bytes are UTF-8.
-fn is_text(bytes: &[u8]) -> bool
-    ensures { result ≡ is_utf8 bytes.now }
-{
     match str::from_utf8(bytes) {
-        Ok(_) => true,
+        Ok(_) => bytes.len() >= 1,
         Err(_) => false,
     }
 }

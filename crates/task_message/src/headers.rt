@@ -1,6 +1,6 @@
 //! The headers of a drafted task.
 ghost use Rattle.std.specs.Prelude.{◌≡◌, IfOk, OnOk, false, true};
-ghost use Rattle.serde_json.specs.Data.{put as with_member, string};
+ghost use Rattle.serde_json.specs.Data.{array, item, no_items, null, put as with_member, string};
 ghost use Rattle.serde_json.specs.Written.{compact_text, has_float};
 ghost use Rattle.serde_json.specs.View.{members_view, view as data_of};
 ghost use Rattle.task_message.specs.Drafted.{can_draft, drafted_headers, headers_of};
@@ -46,8 +46,14 @@ fn put_fixed(alloc: Global, members: &mut Map<String, Value>) -> Result<(), Allo
     put_text(alloc, members, "lang", "py")?;
     put_text(alloc, members, "origin", "node")?;
     put(members, alloc, "parent_id", Value::Null)?;
-    let limits = json!(in alloc; [null, null])?;
-    put(members, alloc, "timelimit", limits)
+    put(members, alloc, "timelimit", no_limits(alloc)?)
+}
+
+/// No limits of time.
+fn no_limits(alloc: Global) -> Result<Value, AllocError>
+    ensures { IfOk result (λ v. data_of v ≡ array (item null (item null no_items))) }
+{
+    json!(in alloc; [null, null])
 }
 
 /// Puts the spellings of a task's arguments and keywords, for those who look at a message.

@@ -13,8 +13,8 @@ ghost use Rattle.task_message.specs.declared.fault.TaskFault.TheVariants.{BadFie
 ghost use Rattle.moments.specs.MomentTexts.{moment_of};
 ghost use Rattle.envelope.specs.Members.{text_at};
 
-use crate::task::Task;
 use crate::fault::{Part, TaskFault};
+use crate::task::Task;
 use envelope::Tree;
 use envelope::find::{is_nothing_at, text};
 use moments::Moment;

@@ -1,26 +1,26 @@
 //! Reading the task that an envelope carries.
-ghost use Rattle.std.specs.Prelude.{◌≡◌, false, option_map};
+ghost use Rattle.std.specs.Prelude.{◌≡◌, IfOk, Ok, option_map};
 ghost use Rattle.serde_json.specs.Find.{as_array};
 ghost use Rattle.serde_json.specs.View.{items_view, view as data_of};
 ghost use Rattle.envelope.specs.Envelopes.{json_at};
 ghost use Rattle.task_message.specs.Reading.{Gives, needed};
 ghost use Rattle.task_message.specs.Shown.{call_view, found_view, settings_view, task_view};
-ghost use Rattle.task_message.specs.Tasks.{call_in, call_of_items, content_in, first_task, headers_in, is_second, second_task, settings_in, task_in, task_of};
+ghost use Rattle.task_message.specs.Tasks.{call_in, call_of_items, content_in, first_task, fit_call, headers_in, is_second, second_task, settings_in, task_in, task_of, told_name};
 ghost use Rattle.task_message.specs.declared.fault.Part.TheVariants as part;
 ghost use Rattle.task_message.specs.declared.fault.TaskFault.TheVariants.{BadField};
 
 use crate::fault::{Part, TaskFault};
 use crate::found::{Call, Found, Settings};
 use crate::members::{
-    array, if_array, if_object, moment, needed, needed_name, needed_retries, needed_word, some_word,
-    want, word,
+    array, if_array, if_object, moment, needed, needed_name, needed_retries, needed_word,
+    some_word, want, word,
 };
 use crate::task::Task;
 use envelope::Envelope;
 use envelope::find::{object, text};
 use envelope::walk::{holds_float, nests_within};
 use serde_json::Value;
-use std::alloc::Global;
+use std::alloc::{AllocError, Global};
 use wire_values::Bytes;
 
 /// The deepest nesting of a content.
@@ -106,17 +106,30 @@ fn second<'a>(headers: &'a Value, content: &'a Value) -> Result<Found<'a>, TaskF
     let call = needed_call(content)?;
     let name = needed_word(word(headers, "task"), Part::Name)?;
     let id = needed_word(word(headers, "id"), Part::Id)?;
-    let args = needed(if_array(call.args), Part::Args)?;
-    let kwargs = needed(if_object(call.kwargs), Part::Kwargs)?;
-    needed(if_object(call.embed), Part::Embed)?;
+    let fit = fit_call(&call)?;
     let settings = settings(headers)?;
     Ok(Found {
         version: 2,
         name,
         id,
+        args: fit.args,
+        kwargs: fit.kwargs,
+        settings,
+    })
+}
+
+/// The call, where its three parts are of the right kinds.
+#[tactic(auto, unfolding(crate::specs::Tasks::fit_call))]
+fn fit_call<'a>(call: &Call<'a>) -> Result<Call<'a>, TaskFault>
+    ensures { Gives call_view result (fit_call (call_view call.now)) }
+{
+    let args = needed(if_array(call.args), Part::Args)?;
+    let kwargs = needed(if_object(call.kwargs), Part::Kwargs)?;
+    let embed = needed(if_object(call.embed), Part::Embed)?;
+    Ok(Call {
         args,
         kwargs,
-        settings,
+        embed,
     })
 }
 
@@ -157,8 +170,7 @@ fn three_of(items: &[Value]) -> Option<Call<'_>>
 fn first(content: &Value) -> Result<Found<'_>, TaskFault>
     ensures { Gives found_view result (first_task (data_of content.now)) }
 {
-    let told = needed_name(text(content, "task"))?;
-    let name = needed_word(some_word(told), Part::Name)?;
+    let name = told_name(content)?;
     let id = needed_word(word(content, "id"), Part::Id)?;
     let args = needed(array(content, "args"), Part::Args)?;
     let kwargs = needed(object(content, "kwargs"), Part::Kwargs)?;
@@ -171,6 +183,15 @@ fn first(content: &Value) -> Result<Found<'_>, TaskFault>
         kwargs,
         settings,
     })
+}
+
+/// The name that a content of version 1 tells.
+#[tactic(auto, unfolding(crate::specs::Tasks::told_name))]
+fn told_name(content: &Value) -> Result<&str, TaskFault>
+    ensures { Gives (λ s. s.now) result (told_name (data_of content.now)) }
+{
+    let told = needed_name(text(content, "task"))?;
+    needed_word(some_word(told), Part::Name)
 }
 
 /// The settings that an object tells.
@@ -194,16 +215,32 @@ fn taken(alloc: Global, found: &Found<'_>) -> Result<Task, TaskFault>
 {
     let name = Bytes::from_slice(alloc, found.name.as_bytes())?;
     let id = Bytes::from_slice(alloc, found.id.as_bytes())?;
-    let args = found.args.clone()?;
-    let kwargs = found.kwargs.clone()?;
+    let trees = trees_of(found)?;
     Ok(Task {
         version: found.version,
         name,
         id,
-        args,
-        kwargs,
+        args: trees.args,
+        kwargs: trees.kwargs,
         retries: found.settings.retries,
         eta: found.settings.eta,
         expires: found.settings.expires,
     })
+}
+
+/// The arguments and the keywords of a task.
+#[derive(Drop)]
+struct Trees {
+    args: Value,
+    kwargs: Value,
+}
+
+/// Copies of the arguments and the keywords of a task.
+fn trees_of(found: &Found<'_>) -> Result<Trees, AllocError>
+    ensures args { IfOk result (λ made. data_of made.args ≡ data_of found.now.args.now) }
+    ensures kwargs { IfOk result (λ made. data_of made.kwargs ≡ data_of found.now.kwargs.now) }
+{
+    let args = found.args.clone()?;
+    let kwargs = found.kwargs.clone()?;
+    Ok(Trees { args, kwargs })
 }
