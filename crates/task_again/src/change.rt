@@ -128,7 +128,8 @@ fn renew_properties(alloc: Global, properties: &mut Value, tag: Tag) -> Result<(
 {
     unmark_at(properties, "delivery_info");
     let text = tag.text();
-    put_text(alloc, properties, "delivery_tag", text_of(&text))
+    put_text(alloc, properties, "delivery_tag", text_of(&text))?;
+    Ok(())
 }
 
 /// Puts another tag into the properties of an envelope's tree.

@@ -4,7 +4,7 @@ ghost use Rattle.serde_json.specs.View.{view as data_of};
 ghost use Rattle.envelope.specs.Envelopes.{parts_in};
 ghost use Rattle.moments.specs.CivilTimes.{is_within_years};
 ghost use Rattle.task_message.specs.Again.{again_of, again_tree, body_again, if_short, with_body};
-ghost use Rattle.task_again.specs.Whole.{IsWhole};
+ghost use Rattle.task_again.specs.Whole.{IsBody, IsOfLength, IsWhole, refused};
 ghost use Rattle.task_message.specs.Reading.{Gives};
 ghost use Rattle.task_message.specs.Shown.{task_view};
 ghost use Rattle.task_message.specs.Tasks.{task_of};
@@ -53,8 +53,9 @@ fn tree_again(
     next: Retry,
 ) -> Result<Value, AllocError>
     requires { task_of (data_of e.now) ≡ Ok (task_view t.now) }
-    ensures { IfOk result (λ v. data_of v
+    ensures tree { IfOk result (λ v. data_of v
         ≡ again_tree (data_of e.now) t.now.version next.retries tag.0 next.eta.0) }
+    ensures whole { IfOk result (λ v. IsWhole (data_of v)) }
 {
     let mut tree = e.tree().clone()?;
     renew_headers_in(alloc, &mut tree, t.version, next)?;
@@ -72,16 +73,17 @@ fn renew_body(
     next: Retry,
 ) -> Result<(), AllocError>
     requires { task_of (data_of e.now) ≡ Ok (task_view t.now) }
-    ensures { OnOk result (data_of tree.new ≡ with_body t.now.version
+    ensures tree { OnOk result (data_of tree.new ≡ with_body t.now.version
         (body_again next.retries next.eta.0 (parts_in (data_of e.now)).content)
         (data_of tree.old)) }
+    ensures body { OnOk result (t.now.version ≡ 1
+        → IsBody (body_again next.retries next.eta.0 (parts_in (data_of e.now)).content)) }
 {
     if t.version == 1 {
         let body = new_body(alloc, e.content(), next)?;
-        put_text(alloc, tree, "body", body.as_str())
-    } else {
-        Ok(())
+        put_text(alloc, tree, "body", body.as_str())?;
     }
+    Ok(())
 }
 
 /// The envelope of a tree that is one but for its length.
@@ -91,8 +93,23 @@ fn short_tree(alloc: Global, tree: Value) -> Result<Envelope, TaskFault>
 {
     match of_tree(alloc, tree) {
         Ok(envelope) => Ok(envelope),
-        Err(EnvelopeFault::TooLong) => Err(TaskFault::TooLong),
-        Err(EnvelopeFault::Memory) => Err(TaskFault::Memory),
-        Err(_) => unreachable!(),
+        Err(fault) => Err(refused(fault)),
+    }
+}
+
+/// The fault of a task, where its envelope is too long or memory is wanting.
+fn refused(fault: EnvelopeFault) -> TaskFault
+    requires { IsOfLength fault }
+    ensures { result ≡ refused fault }
+{
+    match fault {
+        EnvelopeFault::TooLong => TaskFault::TooLong,
+        EnvelopeFault::Memory => TaskFault::Memory,
+        EnvelopeFault::NotJson => unreachable!(),
+        EnvelopeFault::TooDeep => unreachable!(),
+        EnvelopeFault::Float => unreachable!(),
+        EnvelopeFault::Missing(_) => unreachable!(),
+        EnvelopeFault::Compressed => unreachable!(),
+        EnvelopeFault::BadBody => unreachable!(),
     }
 }
