@@ -2,8 +2,10 @@
 #![tactic(auto)]
 
 mod civil;
+mod laws;
 mod moment;
 mod reading;
 mod writing;
 
+pub use laws::moments_come_back;
 pub use moment::Moment;
