@@ -1,0 +1,4 @@
+pub mod CivilBack
+pub mod KitCalendar
+pub mod MomentsBack
+pub mod TextsBack

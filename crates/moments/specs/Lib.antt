@@ -1,0 +1,5 @@
+pub mod CivilDays
+pub mod CivilTimes
+pub mod Laws
+pub mod MomentTexts
+pub mod Shown

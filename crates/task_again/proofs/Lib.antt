@@ -1,0 +1,4 @@
+pub mod KeptTrees
+pub mod Removed
+pub mod Texts
+pub mod WholeAgain

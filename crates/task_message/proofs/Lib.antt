@@ -1,0 +1,2 @@
+pub mod Draftable
+pub mod ReadTexts
