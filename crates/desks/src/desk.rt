@@ -1,6 +1,6 @@
 //! What a desk is.
 ghost use Rattle.std.specs.Prelude.{Bool, IfErr, IfOk, List, OnErr, OnOk, Option, [], ℕ, ◌++◌, ◌<◌, ◌^◌, ◌∷◌, ◌≡◌};
-ghost use Rattle.store_model.specs.Words.{IsWithinLimits};
+ghost use Rattle.wire_grammar.specs.Fits.{IsWithinLimits};
 ghost use Rattle.desks.specs.Deeds.{Deed, DidAsk, DidNote, DidStop};
 ghost use Rattle.desks.specs.Faults.{HasCounts, HasShown, HasStopped, IsFaultOf};
 ghost use Rattle.desks.specs.declared.desk.DeskFault.{DeskFault as Fault};

@@ -1,7 +1,7 @@
 //! A desk that has its store.
 ghost use Rattle.std.specs.Prelude.{OnErr, OnOk, IfErr, IfOk, [], ◌<◌, ◌^◌, ◌∷◌, ◌≡◌};
 ghost use Rattle.store_model.specs.Store.{gone_of};
-ghost use Rattle.store_model.specs.Words.{IsWithinLimits};
+ghost use Rattle.wire_grammar.specs.Fits.{IsWithinLimits};
 ghost use Rattle.desks.specs.Deeds.{DidAsk};
 ghost use Rattle.desks.specs.Faults.{HasCounts, HasShown, IsFaultOf, IsOpen};
 ghost use Rattle.plain_desk.specs.StoreRuns.{LeadsOn, open_state};

@@ -1,10 +1,9 @@
 //! Asking a desk what was received, and writing down what it answers.
 ghost use Rattle.std.specs.Prelude.{IfErr, IfOk, OnErr, OnOk, Some, [], ◌++◌, ◌<◌, ◌^◌, ◌∷◌, ◌≡◌};
 ghost use Rattle.links.specs.Counts.{raised};
-ghost use Rattle.store_model.specs.Words.{IsWithinLimits};
 ghost use Rattle.desks.specs.Deeds.{DidAsk};
 ghost use Rattle.desks.specs.Faults.{IsOpen};
-ghost use Rattle.wire_spelling.specs.Spellings.{HasSpelling};
+ghost use Rattle.wire_grammar.specs.Fits.{HasSpelling, IsWithinLimits};
 ghost use Rattle.sessions.specs.Askings.{HasAnswered, HasAnsweredWords, IsDeskWhy};
 ghost use Rattle.sessions.specs.Talks.{reply_bytes, store_moment};
 

@@ -8,7 +8,7 @@ use Rattle.serde_json.specs.Data.{Data, null, boolean, number, string, array, ob
 use Rattle.serde_json.specs.Find.{get, get_member}
 use Rattle.serde_json.specs.Written.{has_float, members_have_float}
 use Rattle.serde_json.proofs.Views.{get_member-put, get_member-put_other}
-use Rattle.envelope.specs.Marks.{change, on_object}
+use Rattle.envelope_trees.specs.Marks.{change, on_object}
 use Rattle.task_message.specs.Again.{without}
 
 -- a change of members that makes nothing deeper and puts no float in

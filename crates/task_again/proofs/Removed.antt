@@ -9,7 +9,7 @@ use Rattle.serde_json.specs.Find.{as_object}
 use Rattle.serde_json.specs.View.{view, members_view}
 use Rattle.serde_json.specs.declared.value.Value.{Value, Object}
 use Rattle.serde_json.proofs.Views.{Entry, view-Object}
-use Rattle.envelope.proofs.Changes.{is_object}
+use Rattle.envelope_trees.proofs.Changes.{is_object}
 use Rattle.task_message.specs.Again.{unmarked, without}
 
 at_name : List ℕ → String Global → Ordering

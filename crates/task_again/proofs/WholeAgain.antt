@@ -6,15 +6,15 @@ use Rattle.serde_json.specs.Find.{get, as_str}
 use Rattle.serde_json.specs.Written.{compact_text}
 use Rattle.std.proofs.lemmas.Bool.Decides.{nat_tests}
 use Rattle.envelope.specs.Envelopes.{Parts, content_of, envelope_of, max_bytes, max_levels, max_text, parts_in, said_by}
-use Rattle.envelope.specs.Marks.{marked, on_object, with_member}
-use Rattle.envelope.specs.Members.{if_object, is_nothing, is_word_any_case, object_at, says_word, text_at}
-use Rattle.envelope.specs.Reading.{◌>>=◌, Fails, wanted}
-use Rattle.envelope.specs.Tags.{tag_of_text, tag_text}
-use Rattle.envelope.specs.declared.fault.EnvelopeFault.{EnvelopeFault}
-use Rattle.envelope.specs.declared.fault.EnvelopeFault.TheVariants.{TooLong, NotJson, TooDeep, Float, Missing, Compressed, BadBody, Memory}
+use Rattle.envelope_trees.specs.Marks.{marked, on_object, with_member}
+use Rattle.envelope_trees.specs.Members.{if_object, is_nothing, is_word_any_case, object_at, says_word, text_at}
+use Rattle.envelope_trees.specs.Reading.{◌>>=◌, Fails, wanted}
+use Rattle.delivery_tags.specs.Tags.{tag_of_text, tag_text}
+use Rattle.envelope_trees.specs.declared.fault.EnvelopeFault.{EnvelopeFault}
+use Rattle.envelope_trees.specs.declared.fault.EnvelopeFault.TheVariants.{TooLong, NotJson, TooDeep, Float, Missing, Compressed, BadBody, Memory}
 use Rattle.envelope.proofs.MarkedSaid.{get_other, get_same}
 use Rattle.envelope.proofs.Said.{said_is}
-use Rattle.envelope.proofs.TagTexts.{tag_of_text-tag_text}
+use Rattle.delivery_tags.proofs.TagTexts.{tag_of_text-tag_text}
 use Rattle.envelope.proofs.Told.{IsPropertiesTold, IsTold, told_by, told_from}
 use Rattle.moments.specs.MomentTexts.{moment_text}
 use Rattle.task_message.specs.Again.{again_tree, body_again, headers_again, if_short, properties_again, retried, unmarked, with_body, without}

@@ -2,8 +2,8 @@
 ghost use Rattle.std.specs.Prelude.{◌≡◌, ◌+◌, ◌<◌, ◌^◌, IsUtf8, OnOk, codes, suc, true};
 ghost use Rattle.serde_json.specs.Data.{number, put as with_put, string, unsigned};
 ghost use Rattle.serde_json.specs.View.{members_view, view as data_of};
-ghost use Rattle.envelope.specs.Marks.{on_object, with_member};
-ghost use Rattle.envelope.specs.Tags.{tag_text};
+ghost use Rattle.envelope_trees.specs.Marks.{on_object, with_member};
+ghost use Rattle.delivery_tags.specs.Tags.{tag_text};
 ghost use Rattle.moments.specs.CivilTimes.{is_within_years};
 ghost use Rattle.moments.specs.MomentTexts.{moment_text};
 ghost use Rattle.task_message.specs.Again.{headers_again, properties_again, retried, unmarked};

@@ -7,9 +7,9 @@ use Rattle.serde_json.specs.Find.{as_array, as_object, get}
 use Rattle.serde_json.specs.View.{view as data_of}
 use Rattle.serde_json.specs.Written.{compact_text, has_float}
 use Rattle.envelope.specs.Envelopes.{json_at, max_levels, parts_in, parts_or_none, said_by}
-use Rattle.envelope.specs.Members.{if_object, is_nothing}
-use Rattle.envelope.specs.Sealed.{seal_of, sealed}
-use Rattle.envelope.specs.declared.sealing.Draft.{Draft}
+use Rattle.envelope_trees.specs.Members.{if_object, is_nothing}
+use Rattle.sealed_drafts.specs.Sealed.{seal_of, sealed}
+use Rattle.sealed_drafts.specs.declared.sealing.Draft.{Draft}
 use Rattle.envelope_laws.proofs.SealsSay.{seals_say}
 use Rattle.moments.specs.CivilTimes.{is_within_years}
 use Rattle.moments.specs.MomentTexts.{moment_of, moment_text}

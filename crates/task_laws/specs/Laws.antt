@@ -1,8 +1,8 @@
 -- Laws of tasks.
 use Rattle.std.specs.Prelude.{◌≡◌, ◌<◌, ◌^◌, ℕ, ℤ, true, List, Ok}
 use Rattle.serde_json.specs.Data.{Data}
-use Rattle.envelope.specs.Sealed.{seal_of}
-use Rattle.envelope.specs.declared.sealing.Draft.{Draft}
+use Rattle.sealed_drafts.specs.Sealed.{seal_of}
+use Rattle.sealed_drafts.specs.declared.sealing.Draft.{Draft}
 use Rattle.task_message.specs.Drafted.{IsDrafted, can_draft}
 use Rattle.task_message.specs.Tasks.{TaskParts, task_of}
 

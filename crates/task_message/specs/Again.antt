@@ -7,8 +7,8 @@ use Rattle.base64.specs.GeneralPurpose.{encode_of}
 use Rattle.serde_json.specs.Data.{Data, null, number, unsigned, string, Members, no_members, member, put}
 use Rattle.serde_json.specs.Written.{compact_text}
 use Rattle.envelope.specs.Envelopes.{json_at, max_bytes, max_text, parts_in}
-use Rattle.envelope.specs.Marks.{marked, on_object, with_member}
-use Rattle.envelope.specs.Tags.{tag_text}
+use Rattle.envelope_trees.specs.Marks.{marked, on_object, with_member}
+use Rattle.delivery_tags.specs.Tags.{tag_text}
 use Rattle.moments.specs.MomentTexts.{moment_text}
 use Rattle.task_message.specs.declared.fault.TaskFault.{TaskFault}
 use Rattle.task_message.specs.declared.fault.TaskFault.TheVariants.{TooLong}

@@ -7,7 +7,7 @@ use Rattle.serde_json.specs.Find.{as_array, as_object}
 use Rattle.serde_json.specs.View.{view as data_of}
 use Rattle.serde_json.specs.Written.{compact_text, has_float}
 use Rattle.envelope.specs.Envelopes.{json_at}
-use Rattle.envelope.specs.declared.sealing.Draft.{Draft}
+use Rattle.sealed_drafts.specs.declared.sealing.Draft.{Draft}
 use Rattle.moments.specs.CivilTimes.{is_within_years}
 use Rattle.moments.specs.MomentTexts.{moment_text}
 use Rattle.task_message.specs.Tasks.{TaskParts}

@@ -4,7 +4,7 @@ use Rattle.serde_json.specs.Data.{Data, null, array, Items, no_items, item, dept
 use Rattle.serde_json.specs.Find.{get, as_array, as_number, as_u64}
 use Rattle.serde_json.specs.Written.{has_float}
 use Rattle.envelope.specs.Envelopes.{json_at, parts_in, max_levels}
-use Rattle.envelope.specs.Members.{if_object, is_nothing, object_at, text_at}
+use Rattle.envelope_trees.specs.Members.{if_object, is_nothing, object_at, text_at}
 use Rattle.moments.specs.MomentTexts.{moment_of}
 use Rattle.task_message.specs.declared.fault.TaskFault.{TaskFault}
 use Rattle.task_message.specs.declared.fault.TaskFault.TheVariants.{NoTask, Float, BadField, BadMoment}

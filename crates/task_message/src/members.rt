@@ -2,7 +2,7 @@
 ghost use Rattle.std.specs.Prelude.{◌≡◌, IfOk, IsUtf8, None, OnOk, Some, option_and_then, option_map, string_bytes, true};
 ghost use Rattle.serde_json.specs.Data.{put as with_member, string};
 ghost use Rattle.serde_json.specs.View.{members_view, view as data_of};
-ghost use Rattle.envelope.specs.Members.{if_object};
+ghost use Rattle.envelope_trees.specs.Members.{if_object};
 ghost use Rattle.task_message.specs.Drafted.{can_draft, is_writable, moment_data};
 ghost use Rattle.task_message.specs.Put.{with_settings};
 ghost use Rattle.task_message.specs.Reading.{Gives, needed, wanted};
@@ -11,12 +11,12 @@ ghost use Rattle.task_message.specs.Tasks.{array_at, if_32_bits, if_array, if_wo
 ghost use Rattle.task_message.specs.declared.fault.Part.TheVariants as part;
 ghost use Rattle.task_message.specs.declared.fault.TaskFault.TheVariants.{BadField, BadMoment, NoTask};
 ghost use Rattle.moments.specs.MomentTexts.{moment_of};
-ghost use Rattle.envelope.specs.Members.{text_at};
+ghost use Rattle.envelope_trees.specs.Members.{text_at};
 
 use crate::fault::{Part, TaskFault};
 use crate::task::Task;
 use envelope::Tree;
-use envelope::find::{is_nothing_at, text};
+use envelope_trees::find::{is_nothing_at, text};
 use moments::Moment;
 use serde_json::{Map, Value, put};
 use std::alloc::{AllocError, Global};

@@ -17,8 +17,8 @@ use crate::members::{
 };
 use crate::task::Task;
 use envelope::Envelope;
-use envelope::find::{object, text};
-use envelope::walk::{holds_float, nests_within};
+use envelope_trees::find::{object, text};
+use envelope_trees::walk::{holds_float, nests_within};
 use serde_json::Value;
 use std::alloc::{AllocError, Global};
 use wire_values::Bytes;

@@ -2,9 +2,9 @@ use Rattle.std.proofs.Common.{sym, subst, ap, ◌∙◌, codes}
 use Rattle.std.specs.Prelude.{IsUtf8}
 use Rattle.serde_json.specs.Data.{put, string}
 use Rattle.serde_json.specs.View.{view as data_of}
-use Rattle.envelope.proofs.TagTexts.{tag_ascii}
-use Rattle.envelope.specs.Marks.{on_object}
-use Rattle.envelope.specs.Tags.{tag_text}
+use Rattle.delivery_tags.proofs.TagTexts.{tag_ascii}
+use Rattle.envelope_trees.specs.Marks.{on_object}
+use Rattle.delivery_tags.specs.Tags.{tag_text}
 use Rattle.task_again.proofs.change.renew_properties.Goals as goal
 
 pub text_of-requires : goal.text_of-requires

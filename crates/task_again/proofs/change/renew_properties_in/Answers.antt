@@ -1,5 +1,5 @@
 use Rattle.std.proofs.Common.{ap, rules, codes}
-use Rattle.envelope.proofs.Changes.{member_changed, member_absent}
+use Rattle.envelope_trees.proofs.Changes.{member_changed, member_absent}
 use Rattle.task_message.specs.Again.{properties_again}
 use Rattle.task_again.proofs.change.renew_properties_in.Goals as goal
 

@@ -1,5 +1,5 @@
 use Rattle.std.proofs.Common.{ap, rules}
-use Rattle.envelope.proofs.Changes.{member_changed, member_absent}
+use Rattle.envelope_trees.proofs.Changes.{member_changed, member_absent}
 use Rattle.task_message.specs.Again.{unmarked}
 use Rattle.task_again.proofs.change.unmark_at.Goals as goal
 
