@@ -9,7 +9,7 @@ use Rattle.schedule_model.specs.Programs.{program_craft}
 use Rattle.schedule_model.specs.Schedules.{Determined, Whole, Full, Bad_line, reader_history, schedule_run}
 use Rattle.schedule_laws.specs.Sound.{IsSoundlyDetermined}
 
--- the messages of a whole history are in their places after each prefix, and so are those of one that was full, which has these many entries and this cost
+-- the messages of a whole history are in their places after each prefix; where one was full, there is one so that is full, with these many entries and this cost
 abbrev pub ArePlaced : Determined → Type 0
 ArePlaced (Whole d) = IsEachPlaced (reader_history d)
 ArePlaced (Full n cost) = (d : ScheduleReader) × IsEachPlaced (reader_history d) × (is_full d.entries ≡ true) × (length d.entries ≡ n) × (total_cost d.entries ≡ cost)

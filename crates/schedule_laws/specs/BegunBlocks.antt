@@ -85,7 +85,7 @@ AreAskedBlocks κ s n p (a ∷ b ∷ bs) l = (whole : List Call) × (rest : List
 abbrev pub SaysAsked : Craft → List Bytes → ScheduleReader → Type 0
 SaysAsked κ ls d = (c s : ℕ) → Among (c, s) d.clients → AreAskedBlocks κ s 0 0 (asked_by c ls) (calls_of c d.entries)
 
--- so does each client of a whole history, by all of the lines, and of one that was full, by those up to the line that was to add to it
+-- so does each client of a whole history, by all of the lines; where the history was full, there is one with these many entries and this cost in which each client does, by a front of the lines
 abbrev pub IsAskedFor : Craft → List Bytes → Determined → Type 0
 IsAskedFor κ ls (Whole d) = SaysAsked κ ls d
 IsAskedFor κ ls (Full n cost) = (d : ScheduleReader) × (front : List Bytes) × (length d.entries ≡ n) × (total_cost d.entries ≡ cost) × IsPrefixOf front ls × SaysAsked κ front d

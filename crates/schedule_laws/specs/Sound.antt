@@ -43,7 +43,7 @@ pub record IsSoundDesk (σ : Setting) (d : ScheduleReader) : Type 0 where
   pub moments : RisesTo 0 d.entries d.moment
   pub present : d.moment < moment_limit
 
--- a whole history is sound, and so is one that was full, which has these many entries and this cost
+-- a whole history is sound; where one was full, there is a sound one that is full, with these many entries and this cost
 abbrev pub IsSoundlyDetermined : Setting → Determined → Type 0
 IsSoundlyDetermined σ (Whole d) = IsSoundDesk σ d
 IsSoundlyDetermined σ (Full n cost) = (d : ScheduleReader) × IsSoundDesk σ d × (is_full d.entries ≡ true) × (length d.entries ≡ n) × (total_cost d.entries ≡ cost)

@@ -1,4 +1,4 @@
--- The limits that a store keeps, and which values it answers: no key, text, element, member, field or message that it holds is too long for the wire, and no value is empty.
+-- The limits that a store keeps, and which values it answers: no key, text, element, member, field or message that it holds is too long for the wire, and no list, set, hash or sorted set is empty.
 use Rattle.std.specs.Prelude.{◌≡◌, ◌≢◌, ◌≤◌, ◌^◌, ◌⊎◌, ℕ, ℤ, pos, negsuc, Bool, true, List, [], length, is_some, nat_lt, None, Some, Option, All}
 use Rattle.std.specs.List.{list_all}
 use Rattle.std.specs.FinMap.{FinMap, get, len}
