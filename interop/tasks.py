@@ -1,10 +1,10 @@
 #!/usr/bin/env python3
-"""Compares our reading and sending again of tasks with Celery's own code.
+"""Compares our reading, sending again and drafting of tasks with Celery's own code.
 
 Run by hand, with Debian's python3-celery and python3-redis, after the program task_lines was built by `rt run` in
 crates/task_lines: /usr/bin/python3 interop/tasks.py
 Celery's client publishes to a fake connection of Redis that keeps what is pushed; each message is read by our program,
-and what our program sends again is read by Celery's code as the same call with one retry more.
+what our program sends again is read by Celery's code as the same call with one retry more, and what it drafts as the same call.
 """
 
 import datetime
@@ -13,10 +13,10 @@ import os
 import subprocess
 import sys
 
-from celery import Celery, chain, group, signature
+from celery import Celery
 from celery.worker.request import Request
 from celery.worker.strategy import proto1_to_proto2
-from kombu.transport.virtual import Channel, Message
+from kombu.transport.virtual import Message
 
 ROOT = os.path.dirname(os.path.dirname(os.path.abspath(__file__)))
 PROGRAM = os.path.join(ROOT, "crates", "task_lines", "out", "task_lines")
@@ -43,6 +43,7 @@ def client(version):
         pushed.append(json.dumps(message))
 
     kind._put = put
+    app.reading = app.connection_for_read().default_channel
 
     @app.task(name="tasks.add")
     def add(*args, **kwargs):
@@ -94,15 +95,17 @@ def published(app, add, pushed, call, version):
 
 
 def asked(lines):
-    """The program's answers."""
-    done = subprocess.run([PROGRAM], input="".join(line + "\n" for line in lines).encode(), stdout=subprocess.PIPE, check=True)
-    return done.stdout.decode().split("\n")[:-1]
+    """The program's answers; where it isn't built yet, those of its sources, without their proof."""
+    command = [PROGRAM] if os.path.exists(PROGRAM) else ["rt", "try"]
+    given = "".join(line + "\n" for line in lines).encode()
+    done = subprocess.run(command, input=given, stdout=subprocess.PIPE, stderr=subprocess.PIPE, cwd=os.path.join(ROOT, "crates", "task_lines"))
+    return done.stdout.decode().split("\n")[: len(lines)]
 
 
 def request_of(app, text):
     """What Celery's worker reads of an envelope's text."""
     payload = json.loads(text)
-    message = Message(payload, channel=Channel(app.connection_for_read()))
+    message = Message(payload, channel=app.reading)
     if "task" in message.headers:
         return message, None
     body, headers, decoded, utc = proto1_to_proto2(message, message.decode())
@@ -121,7 +124,7 @@ def call_of(app, text):
         request = Request(message, app=app, task=task, body=body, headers=headers, decoded=True)
         args, kwargs, _ = body
     retries = request.request_dict["retries"] or 0
-    return [request.name, request.id, list(args), kwargs, retries, micros(request.eta) if request.eta else None, micros(request.expires) if request.expires else None]
+    return [request.type, request.id, list(args), kwargs, retries, micros(request.eta) if request.eta else None, micros(request.expires) if request.expires else None]
 
 
 def told(line):
@@ -130,34 +133,50 @@ def told(line):
     return [name, ident, json.loads(args), json.loads(kwargs), int(retries), None if eta == "none" else int(eta), None if expires == "none" else int(expires)], int(version)
 
 
+NEXT_ETA = 1714564980500000
+TAGS = {"again": "00000000-0000-0008-0000-000000000001", "drafts": "00000000-0000-0007-0000-000000000001"}
+
+
+def wrong(version, call, what, *shown):
+    """Ends with what was not alike."""
+    sys.exit("\n".join([f"version {version}, {call}: {what}", *map(str, shown)]))
+
+
+def compared(app, version, call, text, ident, answers):
+    """Compares one message as it is read, sent again and drafted with what Celery reads."""
+    read, again, drafted = answers
+    if "\t" not in read:
+        wrong(version, call, read, text)
+    ours, our_version = told(read)
+    theirs = call_of(app, text)
+    if our_version != version or ours != theirs or ours[1] != ident:
+        wrong(version, call, "read", ours, theirs, text)
+    retried = theirs[:4] + [theirs[4] + 1, NEXT_ETA, theirs[6]]
+    for word, made, want in (("again", again, retried), ("drafts", drafted, theirs)):
+        if not made.startswith("{"):
+            wrong(version, call, word, made)
+        if call_of(app, made) != want or json.loads(made)["properties"]["delivery_tag"] != TAGS[word]:
+            wrong(version, call, word, call_of(app, made), want, made)
+
+
 def main():
     """Compares both versions, and says how many messages were alike."""
-    alike = again = 0
+    messages = []
     for version in (2, 1):
         app, add, pushed = client(version)
-        texts, ids = [], []
         for call in CALLS:
-            text, ident, options = published(app, add, pushed, call, version)
-            texts.append(text)
-            ids.append(ident)
-        answers = asked([f"task\t{text}" for text in texts])
-        next_eta = 1714564980500000
-        sent = asked([f"again\t{next_eta}\t{text}" for text in texts])
-        for call, text, ident, answer, retry in zip(CALLS, texts, ids, answers, sent):
-            if "\t" not in answer:
-                sys.exit(f"version {version}, {call}: {answer}\n{text}")
-            ours, our_version = told(answer)
-            theirs = call_of(app, text)
-            if our_version != version or ours != theirs or ours[1] != ident:
-                sys.exit(f"version {version}, {call}:\n{ours}\n{theirs}\n{text}")
-            alike += 1
-            expected = theirs[:4] + [theirs[4] + 1, next_eta, theirs[6]]
-            if call_of(app, retry) != expected:
-                sys.exit(f"version {version}, again, {call}:\n{call_of(app, retry)}\n{expected}\n{retry}")
-            if json.loads(retry)["properties"]["delivery_tag"] != "00000000-0000-0008-0000-000000000001":
-                sys.exit(f"version {version}, again, {call}: the tag\n{retry}")
-            again += 1
-    print(f"{alike} messages of Celery's client read alike, {again} sent again and read by Celery as the same call, a retry later")
+            text, ident, _ = published(app, add, pushed, call, version)
+            messages.append((app, version, call, text, ident))
+    lines = []
+    for _, _, _, text, _ in messages:
+        lines += [f"task\t{text}", f"again\t{NEXT_ETA}\t{text}", f"drafts\t1\t{text}"]
+    answers = asked(lines)
+    if len(answers) != len(lines):
+        sys.exit(f"{len(lines)} lines, {len(answers)} answers")
+    for place, (app, version, call, text, ident) in enumerate(messages):
+        compared(app, version, call, text, ident, answers[3 * place: 3 * place + 3])
+    print(f"{len(messages)} messages of Celery's client read alike, sent again and drafted; Celery reads these as the same calls")
 
 
-main()
+if __name__ == "__main__":
+    main()

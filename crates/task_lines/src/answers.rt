@@ -5,10 +5,10 @@ ghost use Rattle.task_message.specs.Shown.{task_view};
 ghost use Rattle.task_message.specs.Tasks.{task_of};
 
 use crate::faults::fault_name;
-use envelope::{Envelope, Tag, read as read_envelope};
+use envelope::{Envelope, Tag, read as read_envelope, seal};
 use std::alloc::{AllocError, Global};
 use task_again::again;
-use task_message::{Moment, Task, read};
+use task_message::{Moment, Task, can_draft, draft, read};
 
 /// The answer to a line.
 pub(crate) fn answer(alloc: Global, line: &str) -> Result<String, AllocError> {
@@ -20,6 +20,7 @@ pub(crate) fn answer(alloc: Global, line: &str) -> Result<String, AllocError> {
         "write" => written(alloc, rest),
         "task" => task(alloc, rest),
         "rounds" => rounds(alloc, rest),
+        "drafts" => drafts(alloc, rest),
         "again" => sent_again(alloc, rest),
         _ => String::from_str(alloc, "no such word"),
     }
@@ -120,6 +121,45 @@ fn rounds(alloc: Global, rest: &str) -> Result<String, AllocError> {
         told = task(alloc, text)?;
     }
     Ok(told)
+}
+
+/// Drafts and seals the task of an envelope, under the tag 7:1, as often as a line says.
+fn drafts(alloc: Global, rest: &str) -> Result<String, AllocError> {
+    let Some((count, text)) = rest.split_once('\t') else {
+        return String::from_str(alloc, "no fields");
+    };
+    let Ok(count) = count.parse::<u32>() else {
+        return String::from_str(alloc, "no number");
+    };
+    match read_envelope(alloc, text.as_bytes()) {
+        Ok(e) => drafted(alloc, &e, count),
+        Err(_) => String::from_str(alloc, "no envelope"),
+    }
+}
+
+/// The envelope of the task of an envelope, drafted so often.
+fn drafted(alloc: Global, e: &Envelope, count: u32) -> Result<String, AllocError> {
+    let t = match read(alloc, e) {
+        Ok(t) => t,
+        Err(fault) => return String::from_str(alloc, fault_name(fault)),
+    };
+    let mut told = String::new(alloc);
+    for _ in 0..count {
+        told = sealed(alloc, e, &t)?;
+    }
+    Ok(told)
+}
+
+/// The envelope of a task, sent the way of another envelope.
+fn sealed(alloc: Global, e: &Envelope, t: &Task) -> Result<String, AllocError> {
+    if !can_draft(t) {
+        return String::from_str(alloc, "no draft");
+    }
+    let made = draft(alloc, t, e.exchange(), e.routing_key(), e.priority() as i64)?;
+    match seal(alloc, &made, Tag::of(7, 1)) {
+        Ok(next) => copied(alloc, next.text()),
+        Err(_) => String::from_str(alloc, "no envelope"),
+    }
 }
 
 /// The envelope of a task that is sent again under the tag 8:1, at a moment.

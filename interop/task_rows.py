@@ -1,0 +1,148 @@
+#!/usr/bin/env python3
+"""Writes the rows that task_lines is tested by: crates/task_lines/stdin and what it must answer, crates/task_lines/stdout.
+
+Run by hand where a row is added: python3 interop/task_rows.py. The answers come from here, by Celery's message protocol and
+Python's datetime, never from our own code.
+"""
+
+import base64
+import copy
+import json
+import os
+
+import moments
+
+ROOT = os.path.dirname(os.path.dirname(os.path.abspath(__file__)))
+CRATE = os.path.join(ROOT, "crates", "task_lines")
+EMBED = {"callbacks": None, "errbacks": None, "chain": None, "chord": None}
+ETA = 1714564980500000
+rows = []
+
+
+def compact(tree):
+    """A tree as our code writes it."""
+    return json.dumps(tree, sort_keys=True, separators=(",", ":"), ensure_ascii=False)
+
+
+def envelope(headers, content):
+    """An envelope of headers and a content's text, as Kombu writes it."""
+    return {
+        "body": base64.b64encode(content.encode()).decode(), "content-encoding": "utf-8", "content-type": "application/json", "headers": headers,
+        "properties": {"correlation_id": "c1", "reply_to": "r1", "delivery_mode": 2, "delivery_info": {"exchange": "", "routing_key": "celery"},
+                       "priority": 0, "body_encoding": "base64", "delivery_tag": "00000000-0000-0007-0000-000000000001"},
+    }
+
+
+def usual():
+    """The headers and the content of a usual message of version 2."""
+    headers = {"lang": "py", "task": "tasks.add", "id": "c1", "shadow": None, "eta": "2024-05-01T12:00:00.500000+00:00", "expires": None, "group": None,
+               "group_index": None, "retries": 0, "timelimit": [None, None], "root_id": "c1", "parent_id": None, "argsrepr": "(2, 2)", "kwargsrepr": "{}",
+               "origin": "gen1@host", "ignore_result": False, "replaced_task_nesting": 0, "stamped_headers": None, "stamps": {}}
+    return headers, [[2, 2], {}, dict(EMBED)]
+
+
+def first():
+    """The same in version 1."""
+    return {}, {"task": "tasks.add", "id": "c1", "args": [2, 2], "kwargs": {}, "retries": 1, "eta": None, "expires": "2024-05-01T12:00:00+02:00", "utc": True}
+
+
+def row(word, text, want):
+    """Adds a line with its answer."""
+    rows.append((f"{word}\t{text}", want))
+
+
+def task(headers, content, want):
+    """Adds the row of a message; a content may be a text or a tree."""
+    text = content if isinstance(content, str) else json.dumps(content)
+    row("task", json.dumps(envelope(headers, text)), want)
+
+
+# The faults in their order, each with what brings it about: in headers h and content c, which may become a text.
+SECOND = [
+    ("bad Body", lambda h, c: "[" + json.dumps(c)),
+    ("float", lambda h, c: [c[0] + [2.5]] + c[1:]),
+    ("bad Body", lambda h, c: c[:-1] if isinstance(c, list) else c),
+    ("bad Name", lambda h, c: h.update(task="")),
+    ("bad Id", lambda h, c: h.update(id=5)),
+    ("bad Args", lambda h, c: c.__setitem__(0, {"a": 1})),
+    ("bad Kwargs", lambda h, c: c.__setitem__(1, [])),
+    ("bad Embed", lambda h, c: c.__setitem__(2, None)),
+    ("bad Retries", lambda h, c: h.update(retries=-1)),
+    ("bad moment", lambda h, c: h.update(eta="2024-02-30T00:00:00Z")),
+    ("bad moment", lambda h, c: h.update(expires=5)),
+]
+FIRST = [
+    ("bad Body", lambda h, c: "{" + json.dumps(c)),
+    ("float", lambda h, c: c.update(more=1e2)),
+    ("no task", lambda h, c: c.update(task=None)),
+    ("bad Name", lambda h, c: c.update(task="") if c["task"] else None),
+    ("bad Id", lambda h, c: c.pop("id") and None),
+    ("bad Args", lambda h, c: c.update(args="x")),
+    ("bad Kwargs", lambda h, c: c.update(kwargs=None)),
+    ("bad Retries", lambda h, c: c.update(retries="1")),
+    ("bad moment", lambda h, c: c.update(eta="later")),
+    ("bad moment", lambda h, c: c.update(expires="2024-05-01")),
+]
+
+
+def faulty(faults, parts, indices):
+    """A message with these faults, the later ones put in first."""
+    headers, content = copy.deepcopy(parts)
+    for index in sorted(indices, reverse=True):
+        changed = faults[index][1](headers, content)
+        content = content if changed is None else changed
+    return headers, content
+
+
+def main():
+    """Gathers the rows and writes them."""
+    for text in moments.ALONE:
+        row("moment", text, moments.wanted(text))
+    for minutes in (1, 59, 23 * 60 + 59):
+        for sign in "+-":
+            text = f"2024-03-01T00:00:00.25{sign}{minutes // 60:02}:{minutes % 60:02}"
+            row("moment", text, moments.wanted(text))
+    low, high = -62_135_596_800_000_000, 253_402_300_799_999_999
+    for micros in (0, -1, 500_000, 1714564980500000, 951_782_400_000_000, low, high, low - 1, high + 1):
+        row("write", micros, "none" if not low <= micros <= high else (moments.EPOCH + micros * moments.MICROSECOND).isoformat())
+
+    headers, content = usual()
+    task(headers, content, "2\ttasks.add\tc1\t0\t1714564800500000\tnone\t[2,2]\t{}")
+    task(headers, content[:2] + [{}], "2\ttasks.add\tc1\t0\t1714564800500000\tnone\t[2,2]\t{}")
+    task({**headers, "retries": 2**32 - 1, "eta": None}, content, "2\ttasks.add\tc1\t4294967295\tnone\tnone\t[2,2]\t{}")
+    task({**headers, "retries": 2**32}, content, "bad Retries")
+    task({**headers, "retries": None, "task": None}, content, "bad Name")
+    none, told = first()
+    task(none, told, "1\ttasks.add\tc1\t1\tnone\t1714557600000000\t[2,2]\t{}")
+    task(none, {k: v for k, v in told.items() if k not in ("retries", "eta", "expires", "utc")}, "1\ttasks.add\tc1\t0\tnone\tnone\t[2,2]\t{}")
+    task(none, {**told, "args": [2.5]}, "float")
+    row("task", json.dumps(envelope({"compression": "application/x-gzip"}, json.dumps(told))), "no envelope")
+    task(none, [], "no task")
+    task(none, "[" * 101 + "]" * 101, "bad Body")
+    task(none, "[" * 100 + "]" * 100, "no task")
+    for faults, parts in ((SECOND, usual()), (FIRST, first())):
+        for index, (name, _) in enumerate(faults):
+            task(*faulty(faults, parts, [index]), name)
+            if index + 1 < len(faults):
+                task(*faulty(faults, parts, [index, index + 1]), name)
+
+    marks = envelope(headers, json.dumps(content))
+    marks["headers"]["redelivered"] = True
+    marks["properties"]["delivery_info"]["redelivered"] = True
+    want = envelope({**headers, "retries": 1, "eta": "2024-05-01T12:03:00.500000+00:00"}, json.dumps(content))
+    want["headers"].pop("redelivered", None)
+    want["properties"]["delivery_tag"] = "00000000-0000-0008-0000-000000000001"
+    row("again", f"{ETA}\t{json.dumps(marks)}", compact(want))
+    want = envelope({}, compact({**told, "retries": 2, "eta": "2024-05-01T12:03:00.500000+00:00"}))
+    want["properties"]["delivery_tag"] = "00000000-0000-0008-0000-000000000001"
+    row("again", f"{ETA}\t{json.dumps(envelope(none, json.dumps(told)))}", compact(want))
+    row("again", f"{ETA}\t{json.dumps(envelope(none, '[]'))}", "no task")
+
+    with open(os.path.join(CRATE, "stdin"), "w", encoding="utf-8") as lines:
+        lines.writelines(line + "\n" for line, _ in rows)
+    with open(os.path.join(CRATE, "stdout"), "w", encoding="utf-8") as answers:
+        answers.writelines(want + "\n" for _, want in rows)
+    print(f"{len(rows)} rows")
+
+
+main()
