@@ -11,7 +11,10 @@ pub(crate) fn call_cost(words: &[Bytes], reply: &Reply) -> Option<u64>
     ensures { IsCounted (64 + words_size words.now + reply_size reply.now) result }
 {
     let said = sum(Some(64), words_size(words));
-    let heard = sum(values_size(reply.pushed.as_slice()), bulk_size(&reply.answer));
+    let heard = sum(
+        values_size(reply.pushed.as_slice()),
+        bulk_size(&reply.answer),
+    );
     sum(said, heard)
 }
 
