@@ -56,7 +56,13 @@ fn bulk_size(value: &Value) -> Option<u64>
 {
     match value {
         Value::Bulk(bytes) => Some(bytes.len() as u64),
-        Value::Array(items) => values_size(items.as_slice()),
+        Value::Array(items) => {
+            let mut size = Some(0);
+            for item in items.as_slice() {
+                size = sum(size, bulk_size(item));
+            }
+            size
+        }
         Value::Status(_)
         | Value::Error(_)
         | Value::Integer(_)
