@@ -1,7 +1,7 @@
 -- The bytes of a value's bulk strings, and what entries cost.
-use Rattle.std.proofs.Common.{Option, subst, ◌≡◌, ◌+◌, ◌≤◌, ℕ, List, [], ◌∷◌, ◌++◌, length, take, sym, ap, ◌∙◌, sum_by, zero-add, arith}
+use Rattle.std.proofs.Common.{Option, get_or, subst, ◌<◌, ◌≡◌, ◌+◌, ◌≤◌, ℕ, List, [], ◌∷◌, ◌++◌, length, take, sym, ap, ◌∙◌, sum_by, zero-add, arith}
 use Rattle.std.proofs.lemmas.Grind.{common_steps}
-use Rattle.std.proofs.lemmas.List.Sums.{sum-map, sum_by-append}
+use Rattle.std.proofs.lemmas.List.Sums.{sum-map, sum_by-append, sum_by_more}
 use Rattle.wire_values.specs.declared.value.Value.{Value}
 use Rattle.wire_values.specs.declared.value.Value.TheFolds.{fold-roll-Value}
 use Rattle.wire_values.specs.declared.value.Value.TheOpen.{Value-F}
@@ -17,6 +17,12 @@ bulk_size-array items = ap bulk_size (sym (rolls-Array items)) ∙ (fold-roll-Va
 
 take_whole : {A : Type 0} (i : ℕ) (xs : List A) → length xs ≤ i → take i xs ≡ xs
 take_whole i xs h = grind (arith, common_steps)
+
+-- and one more: what is counted with the next item
+pub counted_more : {A : Type 0} (f : A → ℕ) (xs : List A) (i : ℕ) (x : A) (size second more : Option ℕ) → i < length xs → x ≡ get_or xs i x → IsCounted (f x) second
+    → ((n m : ℕ) → IsCounted n size → IsCounted m second → IsCounted (n + m) more) → IsCounted (sum_by f (take i xs)) size → IsCounted (sum_by f (take (i + 1) xs)) more
+counted_more f xs i x size second more lt at counted adds so_far =
+    subst (λ n. IsCounted n more) (sym (sum_by_more f xs i x lt ∙ ap (λ y. sum_by f (take i xs) + f y) (sym at))) (adds (sum_by f (take i xs)) (f x) so_far counted)
 
 -- what was counted of all items is what was to be counted of their array
 pub counted_array : (v : Value) (items found : List Value) (i : ℕ) (size : Option ℕ) → IsCounted (sum_by bulk_size (take i found)) size → length found ≤ i → found ≡ items → v ≡ Array items → IsCounted (bulk_size v) size
