@@ -1,7 +1,7 @@
 -- The bytes of a value's bulk strings, and what entries cost.
-use Rattle.std.proofs.Common.{◌≡◌, ◌+◌, ◌≤◌, ℕ, List, [], ◌∷◌, ◌++◌, length, take, sym, ap, ◌∙◌, sum_by, zero-add, arith}
+use Rattle.std.proofs.Common.{Option, get_or, subst, ◌<◌, ◌≡◌, ◌+◌, ◌≤◌, ℕ, List, [], ◌∷◌, ◌++◌, length, take, sym, ap, ◌∙◌, sum_by, zero-add, arith}
 use Rattle.std.proofs.lemmas.Grind.{common_steps}
-use Rattle.std.proofs.lemmas.List.Sums.{sum-map, sum_by-append}
+use Rattle.std.proofs.lemmas.List.Sums.{sum-map, sum_by-append, sum_by_more}
 use Rattle.wire_values.specs.declared.value.Value.{Value}
 use Rattle.wire_values.specs.declared.value.Value.TheFolds.{fold-roll-Value}
 use Rattle.wire_values.specs.declared.value.Value.TheOpen.{Value-F}
@@ -9,6 +9,7 @@ use Rattle.wire_values.specs.declared.value.Value.TheVariants.{Array, rolls-Arra
 use Rattle.place_model.specs.declared.heard.Heard.{Heard}
 use Rattle.place_model.specs.declared.history.Entry.{Entry}
 use Rattle.schedule_model.specs.Costs.{bulk_size, bulk_step, cost, total_cost}
+use Rattle.schedule_past.specs.Counted.{IsCounted}
 
 -- those of an array are those of its items
 pub bulk_size-array : (items : List Value) → bulk_size (Array items) ≡ sum_by bulk_size items
@@ -17,9 +18,16 @@ bulk_size-array items = ap bulk_size (sym (rolls-Array items)) ∙ (fold-roll-Va
 take_whole : {A : Type 0} (i : ℕ) (xs : List A) → length xs ≤ i → take i xs ≡ xs
 take_whole i xs h = grind (arith, common_steps)
 
--- those of all items
-pub whole_array : (v : Value) (items found : List Value) (i size : ℕ) → size ≡ sum_by bulk_size (take i found) → length found ≤ i → found ≡ items → v ≡ Array items → size ≡ bulk_size v
-whole_array v items found i size e h f is = e ∙ (ap (sum_by bulk_size) (take_whole i found h) ∙ (ap (sum_by bulk_size) f ∙ (sym (bulk_size-array items) ∙ ap bulk_size (sym is))))
+-- and one more: what is counted with the next item
+pub counted_more : {A : Type 0} (f : A → ℕ) (xs : List A) (i : ℕ) (x : A) (size second more : Option ℕ) → i < length xs → x ≡ get_or xs i x → IsCounted (f x) second
+    → ((n m : ℕ) → IsCounted n size → IsCounted m second → IsCounted (n + m) more) → IsCounted (sum_by f (take i xs)) size → IsCounted (sum_by f (take (i + 1) xs)) more
+counted_more f xs i x size second more lt at counted adds so_far =
+    subst (λ n. IsCounted n more) (sym (sum_by_more f xs i x lt ∙ ap (λ y. sum_by f (take i xs) + f y) (sym at))) (adds (sum_by f (take i xs)) (f x) so_far counted)
+
+-- what was counted of all items is what was to be counted of their array
+pub counted_array : (v : Value) (items found : List Value) (i : ℕ) (size : Option ℕ) → IsCounted (sum_by bulk_size (take i found)) size → length found ≤ i → found ≡ items → v ≡ Array items → IsCounted (bulk_size v) size
+counted_array v items found i size counted h f is =
+    subst (λ n. IsCounted n size) (ap (sum_by bulk_size) (take_whole i found h) ∙ (ap (sum_by bulk_size) f ∙ (sym (bulk_size-array items) ∙ ap bulk_size (sym is)))) counted
 
 one_cost : (e : Entry Heard) → sum_by cost (e ∷ []) ≡ cost e
 one_cost e = zero-add (cost e)
