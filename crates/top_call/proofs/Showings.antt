@@ -1,5 +1,5 @@
 -- What each status of a run of `show` says.
-use Rattle.std.proofs.Common.{Contains, List, None, Option, Some, [], ap, append-nil, append_assoc, arith, inl, inr, length, length-append, lit<, refl, subst, suc, sym, ℕ, ◌+◌, ◌++◌, ◌≡◌, ◌∙◌, ◌∷◌, ◌≤◌, ◌⊎◌}
+use Rattle.std.proofs.Common.{Contains, List, None, Option, Some, [], ap, append-nil, append_assoc, arith, inl, inr, length, length-append, lit<, refl, subst, suc, sym, zero, ℕ, ◌+◌, ◌++◌, ◌≡◌, ◌∙◌, ◌∷◌, ◌≤◌, ◌⊎◌}
 use Rattle.std.proofs.KnownBytes.{Appends-trans}
 use Rattle.std.specs.Io.KnownBytes.{Appends}
 use Rattle.links.specs.Causes.{AppendsFront, Rose}
@@ -94,18 +94,18 @@ module _ (b n : SourceView) (o x : SinkView) (r : Ended) where
       (subst (λ (y : SinkView). o.faults ≤ y.faults) (sym same) cut.1) (subst (λ (y : SinkView). Rose o.faults y.faults) (sym same) cut.2)
 
   whole : Way b n o x r → r.status ≡ 0 → IsAllShown b n o x
-  whole (Told bytes vs end read ends other is text kept) zero = by end read ends other (sym (ap (λ v. v.status) is) ∙ zero) text
+  whole (Told bytes vs end read ends other is text kept) nought = by end read ends other (sym (ap (λ v. v.status) is) ∙ nought) text
     where
       by : (e : ShowEnd) → HasReadFor e b n bytes → EndsShown bytes vs e → (e ≡ WriteFault → ⊥) → (ended_of (told_of e)).status ≡ 0 → Appends o.taken x.taken (value_lines vs ++ text_of (told_of e)) → IsAllShown b n o x
-      by Whole read ends other zero text = (bytes, vs, read, ends, subst (Appends o.taken x.taken) (append-nil (value_lines vs)) text)
-      by WriteFault read ends other zero text = absurd (other refl)
-      by (Bad kind place) read ends other zero text = absurd (omega (arith, zero))
-      by (show.Unfinished place) read ends other zero text = absurd (omega (arith, zero))
-      by Long read ends other zero text = absurd (omega (arith, zero))
-      by show.ReadFault read ends other zero text = absurd (omega (arith, zero))
-      by show.Memory read ends other zero text = absurd (omega (arith, zero))
-  whole (Starved bytes vs end read ends is text kept) zero = let eleven = sym (ap (λ v. v.status) is) ∙ zero in absurd (omega (arith, eleven))
-  whole (Cut bytes vs read end source ends is front later rose) zero = let five = sym (ap (λ v. v.status) is) ∙ zero in absurd (omega (arith, five))
+      by Whole read ends other nought text = (bytes, vs, read, ends, subst (Appends o.taken x.taken) (append-nil (value_lines vs)) text)
+      by WriteFault read ends other nought text = absurd (other refl)
+      by (Bad kind place) read ends other nought text = absurd (omega (arith, nought))
+      by (show.Unfinished place) read ends other nought text = absurd (omega (arith, nought))
+      by Long read ends other nought text = absurd (omega (arith, nought))
+      by show.ReadFault read ends other nought text = absurd (omega (arith, nought))
+      by show.Memory read ends other nought text = absurd (omega (arith, nought))
+  whole (Starved bytes vs end read ends is text kept) nought = let eleven = sym (ap (λ v. v.status) is) ∙ nought in absurd (omega (arith, eleven))
+  whole (Cut bytes vs read end source ends is front later rose) nought = let five = sym (ap (λ v. v.status) is) ∙ nought in absurd (omega (arith, five))
 
   wrong : Way b n o x r → r.status ≡ 3 → IsByteWrong b n o x r.place ⊎ (IsEndWithin b n o x r.place ⊎ IsPastShowing b n o x r.place)
   wrong (Told bytes vs end read ends other is text kept) three = by end read ends other (sym (ap (λ v. v.status) is) ∙ three) (ap (λ v. v.place) is) text
@@ -233,11 +233,11 @@ module _ (b n : SourceView) (o x : SinkView) (r : Ended) where
   told_among told = by (among (way_of told))
     where
       by : Contains (0 ∷ 3 ∷ 4 ∷ 5 ∷ 11 ∷ []) r.status → Contains (0 ∷ 2 ∷ 3 ∷ 4 ∷ 5 ∷ 9 ∷ 11 ∷ []) r.status
-      by (0, l, e) = (0, lit< tt, e)
-      by (1, l, e) = (2, lit< tt, e)
-      by (2, l, e) = (3, lit< tt, e)
-      by (3, l, e) = (4, lit< tt, e)
-      by (4, l, e) = (6, lit< tt, e)
+      by (zero, l, e) = (0, lit< tt, e)
+      by (suc (zero), l, e) = (2, lit< tt, e)
+      by (suc (suc (zero)), l, e) = (3, lit< tt, e)
+      by (suc (suc (suc (zero))), l, e) = (4, lit< tt, e)
+      by (suc (suc (suc (suc (zero)))), l, e) = (6, lit< tt, e)
       by (suc (suc (suc (suc (suc i)))), l, e) = absurd (omega (arith, l))
 
   -- neither is status 2 or 9
