@@ -5,7 +5,8 @@ ghost use Rattle.task_message.specs.Shown.{task_view};
 ghost use Rattle.task_message.specs.Tasks.{task_of};
 
 use crate::faults::fault_name;
-use envelope::{Envelope, Tag, read as read_envelope, seal};
+use envelope::{Envelope, Tag, read as read_envelope};
+use sealed_drafts::seal;
 use std::alloc::{AllocError, Global};
 use task_again::again;
 use task_message::{Moment, Task, can_draft, draft, read};
