@@ -1,3 +1,4 @@
+pub mod Counted
 pub mod Desks
 pub mod Rooms
 pub mod Running
