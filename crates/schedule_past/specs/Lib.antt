@@ -1,4 +1,3 @@
-pub mod Counted
 pub mod Desks
 pub mod Rooms
 pub mod Running

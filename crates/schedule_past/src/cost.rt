@@ -1,59 +1,57 @@
 //! What an entry of a history costs.
-ghost use Rattle.std.specs.Prelude.{◌+◌, ℕ, sum_by};
+ghost use Rattle.std.specs.Prelude.{◌≡◌, ◌+◌, IfSome, sum_by};
 ghost use Rattle.schedule_model.specs.Costs.{bulk_size, reply_size, words_size};
-ghost use Rattle.schedule_past.specs.Counted.{IsCounted};
 
 use store_model::Reply;
 use wire_values::{Bytes, Value};
 
 /// What a call costs: 64, and the bytes of its words and of its reply's bulk strings. None where that passes 64 bits.
 pub(crate) fn call_cost(words: &[Bytes], reply: &Reply) -> Option<u64>
-    ensures { IsCounted (64 + words_size words.now + reply_size reply.now) result }
+    ensures { IfSome result (λ n. n ≡ 64 + words_size words.now + reply_size reply.now) }
 {
-    let said = sum(Some(64), words_size(words));
-    let heard = sum(values_size(reply.pushed.as_slice()), bulk_size(&reply.answer));
-    sum(said, heard)
-}
-
-/// The sum of two numbers, each of which 64 bits may not hold. None where they don't hold the sum.
-fn sum(first: Option<u64>, second: Option<u64>) -> Option<u64>
-    ensures { (n m : ℕ) → IsCounted n first → IsCounted m second → IsCounted (n + m) result }
-{
-    match (first, second) {
-        (Some(first), Some(second)) => first.checked_add(second),
-        _ => None,
-    }
+    let said = words_size(words)?;
+    let pushed = values_size(reply.pushed.as_slice())?;
+    let answer = bulk_size(&reply.answer)?;
+    let heard = pushed.checked_add(answer)?;
+    let spoken = 64u64.checked_add(said)?;
+    spoken.checked_add(heard)
 }
 
 /// The bytes of words. None where that passes 64 bits.
 fn words_size(words: &[Bytes]) -> Option<u64>
-    ensures { IsCounted (words_size words.now) result }
+    ensures { IfSome result (λ n. n ≡ words_size words.now) }
 {
-    let mut size = Some(0);
+    let mut size = 0u64;
     for word in words {
-        size = sum(size, Some(word.len() as u64));
+        size = size.checked_add(word.len() as u64)?;
     }
-    size
+    Some(size)
 }
 
 /// The bytes of the bulk strings of values. None where that passes 64 bits.
 fn values_size(values: &[Value]) -> Option<u64>
-    ensures { IsCounted (sum_by bulk_size values.now) result }
+    ensures { IfSome result (λ n. n ≡ sum_by bulk_size values.now) }
 {
-    let mut size = Some(0);
+    let mut size = 0u64;
     for value in values {
-        size = sum(size, bulk_size(value));
+        size = size.checked_add(bulk_size(value)?)?;
     }
-    size
+    Some(size)
 }
 
 /// The bytes of a value's bulk strings, those of an array's items too. None where that passes 64 bits.
 fn bulk_size(value: &Value) -> Option<u64>
-    ensures { IsCounted (bulk_size value.now) result }
+    ensures { IfSome result (λ n. n ≡ bulk_size value.now) }
 {
     match value {
         Value::Bulk(bytes) => Some(bytes.len() as u64),
-        Value::Array(items) => values_size(items.as_slice()),
+        Value::Array(items) => {
+            let mut size = 0u64;
+            for item in items.as_slice() {
+                size = size.checked_add(bulk_size(item)?)?;
+            }
+            Some(size)
+        }
         Value::Status(_)
         | Value::Error(_)
         | Value::Integer(_)
