@@ -15,8 +15,8 @@ use line_text::INPUT_LIMIT;
 use links::{ReadEnd, Sink, Source, read_to_end, write_all};
 use replay::{RunFault, report_ran, run_whole};
 use std::alloc::Global;
-use wire_values::Bytes;
 use wire_show::{ShowEnd, show};
+use wire_values::Bytes;
 
 /// Runs the program that the words name, over a source and a sink.
 ///
