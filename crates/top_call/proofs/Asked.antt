@@ -8,11 +8,11 @@ use Rattle.top_call.specs.Words.{bad_place, is_replay, is_show}
 bool_clash : false ≡ true → ⊥
 bool_clash e = cc
 
-good_by : (a b : Bool) → a ≡ true → (if a || b then None else Some 0) ≡ None
+good_by : (a b : Bool) → a ≡ true → if◌then◌else◌ {A = Option ℕ} (a || b) None (Some 0) ≡ None
 good_by true b e = refl
 good_by false b e = absurd (bool_clash e)
 
-good_by_other : (a b : Bool) → b ≡ true → (if a || b then None else Some 0) ≡ None
+good_by_other : (a b : Bool) → b ≡ true → if◌then◌else◌ {A = Option ℕ} (a || b) None (Some 0) ≡ None
 good_by_other true b e = refl
 good_by_other false true e = refl
 good_by_other false false e = absurd (bool_clash e)
@@ -37,12 +37,12 @@ show_lawful words place show bad = none-some place (sym (show_good words show) �
 some_none : {n : ℕ} → Some n ≡ None → ⊥
 some_none e = cc
 
-asked_by : (a b : Bool) → b ≡ false → (if a || b then None else Some 0) ≡ None → a ≡ true
+asked_by : (a b : Bool) → b ≡ false → if◌then◌else◌ {A = Option ℕ} (a || b) None (Some 0) ≡ None → a ≡ true
 asked_by true b e good = refl
 asked_by false true e good = absurd (bool_clash (sym e))
 asked_by false false e good = absurd (some_none good)
 
-asked_more : (a : Bool) → (if a then Some 1 else Some 0) ≡ None → ⊥
+asked_more : (a : Bool) → if◌then◌else◌ {A = Option ℕ} a (Some 1) (Some 0) ≡ None → ⊥
 asked_more true e = some_none e
 asked_more false e = some_none e
 

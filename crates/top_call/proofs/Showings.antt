@@ -1,5 +1,5 @@
 -- What each status of a run of `show` says.
-use Rattle.std.proofs.Common.{Contains, List, None, Option, Some, [], ap, append-nil, append_assoc, arith, inl, inr, length, length-append, lit<, refl, subst, suc, sym, ℕ, ◌+◌, ◌++◌, ◌≡◌, ◌∙◌, ◌∷◌, ◌≤◌, ◌⊎◌}
+use Rattle.std.proofs.Common.{Contains, List, None, Option, Some, [], ap, append-nil, append_assoc, arith, inl, inr, length, length-append, lit<, refl, subst, suc, sym, zero, ℕ, ◌+◌, ◌++◌, ◌≡◌, ◌∙◌, ◌∷◌, ◌≤◌, ◌⊎◌}
 use Rattle.std.proofs.KnownBytes.{Appends-trans}
 use Rattle.std.specs.Io.KnownBytes.{Appends, Consumes}
 use Rattle.links.specs.Causes.{AppendsFront, Rose}
@@ -254,11 +254,11 @@ module _ (b n : SourceView) (o x : SinkView) (r : Ended) where
   told_among told = by (among (way_of told))
     where
       by : Contains (0 ∷ 3 ∷ 4 ∷ 5 ∷ 11 ∷ []) r.status → Contains (0 ∷ 2 ∷ 3 ∷ 4 ∷ 5 ∷ 9 ∷ 11 ∷ []) r.status
-      by (0, l, e) = (0, lit< tt, e)
-      by (1, l, e) = (2, lit< tt, e)
-      by (2, l, e) = (3, lit< tt, e)
-      by (3, l, e) = (4, lit< tt, e)
-      by (4, l, e) = (6, lit< tt, e)
+      by (zero, l, e) = (0, lit< tt, e)
+      by (suc (zero), l, e) = (2, lit< tt, e)
+      by (suc (suc (zero)), l, e) = (3, lit< tt, e)
+      by (suc (suc (suc (zero))), l, e) = (4, lit< tt, e)
+      by (suc (suc (suc (suc (zero)))), l, e) = (6, lit< tt, e)
       by (suc (suc (suc (suc (suc i)))), l, e) = absurd (omega (arith, l))
 
   -- neither is status 2 or 9
