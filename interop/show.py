@@ -71,8 +71,8 @@ def command(chance):
         [b"SADD", key, word(chance)], [b"SMEMBERS", key], [b"HSET", key, word(chance), word(chance)], [b"HGETALL", key],
         [b"ZADD", key, number, word(chance)], [b"ZREVRANGEBYSCORE", key, b"1000", b"0", b"LIMIT", b"0", b"10"],
         [b"BRPOP", b"nothing", b"0.001"], [b"MULTI"], [b"EXEC"], [b"DISCARD"], [b"WATCH", key], [b"UNWATCH"], [b"ECHO", word(chance)],
-        [b"NOSUCH", word(chance)], [b"SET", key], [b"COMMAND", b"INFO", b"get", b"no-such"], [b"CONFIG", b"GET", b"maxmemory"], [b"TYPE", key],
-        [b"EVAL", b"return {1,{2,{3,{'a'}}},false}", b"0"], [b"KEYS", b"*"],
+        [b"NOSUCH", word(chance)], [b"SET", key], [b"CONFIG", b"GET", b"maxmemory"], [b"TYPE", key],
+        [b"EVAL", b"return {1,{2,{'a'}},false}", b"0"], [b"KEYS", b"*"],
     ))
 
 
@@ -104,6 +104,15 @@ def replies(link, chance, count):
     return bytes(raw), said
 
 
+def deep_reply(link):
+    """The raw bytes of a reply whose arrays are nested deeper than four, and of one after it."""
+    link.sendall(spelled([b"COMMAND", b"INFO", b"get"]) + spelled([b"PING"]))
+    raw = bytearray()
+    while not raw.endswith(b"+PONG\r\n"):
+        raw += link.recv(65536)
+    return bytes(raw)
+
+
 def shown(raw, unproved):
     """The text and the status of `show` over the bytes."""
     words = [PROGRAM, "show"]
@@ -126,20 +135,27 @@ def main():
         server, link = started(free_port(), folder)
         try:
             raw, said = replies(link, random.Random(args.seed), args.commands)
+            deep = deep_reply(link)
         finally:
             link.close()
             server.terminate()
             server.wait()
     want, status, _ = wire_reader.show(raw)
-    found = shown(raw, args.unproved)
     kinds = Counter(chr(line[0]) for line in want.splitlines())
     print(f"redis-server {version}: {sum(said.values())} commands of {len(said)} names, {len(raw)} bytes of replies")
     print(f"lines by their first byte: {dict(kinds)}")
     print(f"the independent reading: status {status}, {len(want)} bytes of lines")
+    found = shown(raw, args.unproved)
     if found != (want, status):
         print(f"show: status {found[1]}, {len(found[0])} bytes of lines, and they differ")
         return 1
     print("show: the same status and the same lines")
+    want, status, _ = wire_reader.show(deep)
+    found = shown(deep, args.unproved)
+    print(f"the reply of COMMAND INFO: {found[0].decode().strip()}, status {found[1]}")
+    if found != (want, status):
+        print(f"the independent reading: {want.decode().strip()}, status {status}")
+        return 1
     return 0
 
 

@@ -114,18 +114,18 @@ module _ (b n : SourceView) (o x : SinkView) (r : Ended) where
       (subst (λ (y : SinkView). o.faults ≤ y.faults) (sym same) cut.1) (subst (λ (y : SinkView). Rose o.faults y.faults) (sym same) cut.2)
 
   whole : Way b n o x r → r.status ≡ 0 → IsAllShown b n o x
-  whole (Told bytes vs end read ends other is text kept) zero = by end read ends other (sym (ap (λ v. v.status) is) ∙ zero) text
+  whole (Told bytes vs end read ends other is text kept) nought = by end read ends other (sym (ap (λ v. v.status) is) ∙ nought) text
     where
       by : (e : ShowEnd) → HasReadFor e b n bytes → EndsShown bytes vs e → (e ≡ WriteFault → ⊥) → (ended_of (told_of e)).status ≡ 0 → Appends o.taken x.taken (value_lines vs ++ text_of (told_of e)) → IsAllShown b n o x
-      by Whole read ends other zero text = (bytes, vs, read, ends, subst (Appends o.taken x.taken) (append-nil (value_lines vs)) text)
-      by WriteFault read ends other zero text = absurd (other refl)
-      by (Bad kind place) read ends other zero text = absurd (omega (arith, zero))
-      by (show.Unfinished place) read ends other zero text = absurd (omega (arith, zero))
-      by Long read ends other zero text = absurd (omega (arith, zero))
-      by show.ReadFault read ends other zero text = absurd (omega (arith, zero))
-      by show.Memory read ends other zero text = absurd (omega (arith, zero))
-  whole (Starved bytes vs end read ends calm is text kept) zero = let eleven = sym (ap (λ v. v.status) is) ∙ zero in absurd (omega (arith, eleven))
-  whole (Cut bytes vs read end source ends is front later rose) zero = let five = sym (ap (λ v. v.status) is) ∙ zero in absurd (omega (arith, five))
+      by Whole read ends other nought text = (bytes, vs, read, ends, subst (Appends o.taken x.taken) (append-nil (value_lines vs)) text)
+      by WriteFault read ends other nought text = absurd (other refl)
+      by (Bad kind place) read ends other nought text = absurd (omega (arith, nought))
+      by (show.Unfinished place) read ends other nought text = absurd (omega (arith, nought))
+      by Long read ends other nought text = absurd (omega (arith, nought))
+      by show.ReadFault read ends other nought text = absurd (omega (arith, nought))
+      by show.Memory read ends other nought text = absurd (omega (arith, nought))
+  whole (Starved bytes vs end read ends calm is text kept) nought = let eleven = sym (ap (λ v. v.status) is) ∙ nought in absurd (omega (arith, eleven))
+  whole (Cut bytes vs read end source ends is front later rose) nought = let five = sym (ap (λ v. v.status) is) ∙ nought in absurd (omega (arith, five))
 
   wrong : Way b n o x r → r.status ≡ 3 → IsByteWrong b n o x r.place ⊎ (IsEndWithin b n o x r.place ⊎ IsPastShowing b n o x r.place)
   wrong (Told bytes vs end read ends other is text kept) three = by end read ends other (sym (ap (λ v. v.status) is) ∙ three) (ap (λ v. v.place) is) text

@@ -1,7 +1,7 @@
 //! The top call: words, a source and a sink to a status.
 ghost use Rattle.std.specs.Prelude.{Contains, List, [], false, map, true, ℕ, ◌∷◌, ◌≡◌, ◌≤◌, ◌⊎◌};
 ghost use Rattle.top_call.specs.Endings.{EndsAs, HasEnded, HasTold, Shown, Tells, Took, WritesText, Written, telling};
-ghost use Rattle.top_call.specs.Mappings.{end_given, input_given};
+ghost use Rattle.top_call.specs.Mappings.{end_given};
 ghost use Rattle.top_call.specs.Replays.{calm_statuses, replay_run};
 ghost use Rattle.top_call.specs.Statuses.{IsAnswerTo, IsBadLine, IsBadWord, IsHistoryFull, IsOutOfMemory, IsReadFault, IsReported, IsWriteFault};
 ghost use Rattle.top_call.specs.Showings.{IsShowing};
@@ -16,7 +16,6 @@ use links::{ReadEnd, Sink, Source, read_to_end, write_all};
 use replay::{RunFault, report_ran, run_whole};
 use std::alloc::Global;
 use wire_show::{ShowEnd, show};
-use wire_values::Bytes;
 
 /// Runs the program that the words name, over a source and a sink.
 ///
@@ -146,21 +145,11 @@ fn judge<S: Source>(alloc: Global, words: &[&str], src: &mut S) -> End
     if let Some(place) = bad_word(words) {
         return End::BadWord(place);
     }
-    match input_of(read_to_end(alloc, src, INPUT_LIMIT as u64)) {
+    match read_to_end(alloc, src, INPUT_LIMIT as u64) {
         Ok(bytes) => replayed(alloc, bytes.as_slice()),
-        Err(end) => end,
-    }
-}
-
-/// The bytes to be looked at: all of an input, or of a longer one as many as were read; or the end of a run whose
-/// reading failed.
-fn input_of(read: Result<Bytes, ReadEnd>) -> Result<Bytes, End>
-    ensures { result ≡ input_given read }
-{
-    match read {
-        Ok(bytes) | Err(ReadEnd::Long(bytes)) => Ok(bytes),
-        Err(ReadEnd::Fault) => Err(End::ReadFault),
-        Err(ReadEnd::Memory) => Err(End::Memory),
+        Err(ReadEnd::Long(bytes)) => replayed(alloc, bytes.as_slice()),
+        Err(ReadEnd::Fault) => End::ReadFault,
+        Err(ReadEnd::Memory) => End::Memory,
     }
 }
 

@@ -2,6 +2,7 @@
 ghost use Rattle.std.specs.Prelude.{List, ℕ, ◌⊎◌};
 ghost use Rattle.links.specs.Views.{sink_view, source_view};
 ghost use Rattle.top_call.specs.Endings.{HasEnded, Written};
+ghost use Rattle.top_call.specs.declared.ending.End.TheVariants.{Memory};
 
 use crate::ending::Ended;
 use crate::node::{out_of_memory, run};
@@ -19,7 +20,7 @@ pub fn answer<R: Env, S: Source, K: Sink>(rt: &R, alloc: Global, src: &mut S, ou
     ensures { ((words : List (List ℕ)) × HasEnded words
         (source_view S.left S.read_faults S.ends src.old) (source_view S.left S.read_faults S.ends src.new)
         (sink_view K.taken K.write_faults out.old) (sink_view K.taken K.write_faults out.new) result)
-        ⊎ Written (sink_view K.taken K.write_faults out.old) (sink_view K.taken K.write_faults out.new) End.Memory result }
+        ⊎ Written (sink_view K.taken K.write_faults out.old) (sink_view K.taken K.write_faults out.new) Memory result }
 {
     let Ok(texts) = read_words(rt, alloc) else {
         return out_of_memory(out);
