@@ -2,19 +2,10 @@
 #![tactic(auto)]
 
 use links::{StdSink, StdSource};
-use std::process::ExitCode;
-use top_call::{out_of_memory, read_words, run, views};
+use top_call::{Ended, answer};
 
-fn main(rt: HostRuntime) -> ExitCode {
-    let alloc = rt.alloc();
+fn main(rt: HostRuntime) -> Ended {
     let mut src = StdSource::new(rt.stdin());
     let mut out = StdSink::new(rt.stdout());
-    let ended = match read_words(&rt, alloc) {
-        Ok(texts) => match views(alloc, texts.as_slice()) {
-            Ok(words) => run(alloc, words.as_slice(), &mut src, &mut out),
-            Err(_) => out_of_memory(&mut out),
-        },
-        Err(_) => out_of_memory(&mut out),
-    };
-    ended.exit_code()
+    answer(&rt, rt.alloc(), &mut src, &mut out)
 }

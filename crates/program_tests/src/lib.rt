@@ -7,6 +7,8 @@ mod ends;
 #[cfg(test)]
 mod played;
 #[cfg(test)]
+mod process;
+#[cfg(test)]
 mod rows;
 #[cfg(test)]
 mod shows;

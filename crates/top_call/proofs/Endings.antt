@@ -37,7 +37,7 @@ shown_whole words before now bytes LongStream lawful whole ends = absurd ends
 shown_whole words before now bytes (BadLine bad) lawful whole ends = (lawful, (bytes, inl whole, ends))
 shown_whole words before now bytes ReadFault lawful whole ends = absurd ends
 shown_whole words before now bytes (Full entries cost) lawful whole ends = (lawful, (bytes, inl whole, ends))
-shown_whole words before now bytes Memory lawful whole ends = tt
+shown_whole words before now bytes Memory lawful whole ends = whole.kept
 
 -- an input past the limit
 pub shown_past : (words : List (List ℕ)) (before now : SourceView) (bytes : List ℕ) (end : End) → is_replay words ≡ true → IsPast 67108864 before now bytes → EndsAs bytes end → Shown words before now end
@@ -50,4 +50,4 @@ shown_past words before now bytes LongStream lawful past ends = absurd ends
 shown_past words before now bytes (BadLine bad) lawful past ends = (lawful, (bytes, inr past, ends))
 shown_past words before now bytes ReadFault lawful past ends = absurd ends
 shown_past words before now bytes (Full entries cost) lawful past ends = (lawful, (bytes, inr past, ends))
-shown_past words before now bytes Memory lawful past ends = tt
+shown_past words before now bytes Memory lawful past ends = past.kept

@@ -1,7 +1,7 @@
 -- What each status of a run of `show` says.
 use Rattle.std.proofs.Common.{Contains, List, None, Option, Some, [], ap, append-nil, append_assoc, arith, inl, inr, length, length-append, lit<, refl, subst, suc, sym, zero, ℕ, ◌+◌, ◌++◌, ◌≡◌, ◌∙◌, ◌∷◌, ◌≤◌, ◌⊎◌}
 use Rattle.std.proofs.KnownBytes.{Appends-trans}
-use Rattle.std.specs.Io.KnownBytes.{Appends}
+use Rattle.std.specs.Io.KnownBytes.{Appends, Consumes}
 use Rattle.links.specs.Causes.{AppendsFront, Rose}
 use Rattle.links.specs.Ends.{HasReadUpTo, IsWholeInput}
 use Rattle.links.specs.Views.{SinkView, SourceView}
@@ -56,7 +56,7 @@ told_none WriteFault same m = (refl, refl)
 data Way (b n : SourceView) (o x : SinkView) (r : Ended) : Type 0 where
   Told : (bytes : List ℕ) (vs : List Value) (end : ShowEnd) → HasReadFor end b n bytes → EndsShown bytes vs end → (end ≡ WriteFault → ⊥)
       → r ≡ ended_of (told_of end) → Appends o.taken x.taken (value_lines vs ++ text_of (told_of end)) → x.faults ≡ o.faults → Way b n o x r
-  Starved : (bytes : List ℕ) (vs : List Value) (end : ShowEnd) → HasReadFor end b n bytes → EndsShown bytes vs end
+  Starved : (bytes : List ℕ) (vs : List Value) (end : ShowEnd) → HasReadFor end b n bytes → EndsShown bytes vs end → (end ≡ show.ReadFault → ⊥)
       → r ≡ ended_of Memory → Appends o.taken x.taken (value_lines vs ++ text_of Memory) → x.faults ≡ o.faults → Way b n o x r
   Cut : (bytes : List ℕ) (vs : List Value) (read : ShowEnd) (end : ShowEnd) → HasReadFor read b n bytes → EndsShown bytes vs end → r ≡ record { status = 5; place = 0; left = 0 }
       → AppendsFront o.taken x.taken (value_lines vs ++ text_of (told_of end)) → o.faults ≤ x.faults → Rose o.faults x.faults → Way b n o x r
@@ -67,20 +67,40 @@ module _ (b n : SourceView) (o m x : SinkView) (r : Ended) (bytes lines : List �
       let w = written_more o m x lines (text_of written) wrote text kept in
       Told bytes vs end read ends other (is ∙ ap ended_of same)
       (subst (λ (e : End). Appends o.taken x.taken (value_lines vs ++ text_of e)) same (subst (λ (l : List ℕ). Appends o.taken x.taken (l ++ text_of written)) are w.0)) w.1
-  tells_way end read ends other (written, inr same, inl (is, text, kept)) =
+  tells_way end read ends other (written, inr (same, calm), inl (is, text, kept)) =
       let w = written_more o m x lines (text_of written) wrote text kept in
-      Starved bytes vs end read ends (is ∙ ap ended_of same)
+      Starved bytes vs end read ends (λ e. calm (ap told_of e)) (is ∙ ap ended_of same)
       (subst (λ (e : End). Appends o.taken x.taken (value_lines vs ++ text_of e)) same (subst (λ (l : List ℕ). Appends o.taken x.taken (l ++ text_of written)) are w.0)) w.1
   tells_way end read ends other (written, inl same, inr (is, front, later, rose)) =
       let w = cut_more o m x lines (text_of written) wrote (front, later, rose) in
       Cut bytes vs end end read ends is
       (subst (λ (e : End). AppendsFront o.taken x.taken (value_lines vs ++ text_of e)) same (subst (λ (l : List ℕ). AppendsFront o.taken x.taken (l ++ text_of written)) are w.0)) w.1 w.2
-  tells_way end read ends other (written, inr same, inr (is, front, later, rose)) =
+  tells_way end read ends other (written, inr (same, calm), inr (is, front, later, rose)) =
       let w = cut_more o m x lines (text_of written) wrote (front, later, rose) in
       Cut bytes vs end show.Memory read (ends_begun bytes vs end ends) is
       (subst (λ (e : End). AppendsFront o.taken x.taken (value_lines vs ++ text_of e)) same (subst (λ (l : List ℕ). AppendsFront o.taken x.taken (l ++ text_of written)) are w.0)) w.1 w.2
 
 module _ (b n : SourceView) (o x : SinkView) (r : Ended) where
+  -- what was read
+  consumed_for : (bytes : List ℕ) (e : ShowEnd) → HasReadFor e b n bytes → Consumes b.left n.left bytes
+  consumed_for bytes Whole read = read.consumed
+  consumed_for bytes (show.Unfinished place) read = read.consumed
+  consumed_for bytes Long read = read.read.consumed
+  consumed_for bytes show.ReadFault read = read.0.consumed
+  consumed_for bytes (Bad kind place) read = read.0.consumed
+  consumed_for bytes WriteFault read = read.0.consumed
+  consumed_for bytes show.Memory read = read.0.consumed
+
+  -- the source fails at no other end
+  calm_for : (bytes : List ℕ) (e : ShowEnd) → HasReadFor e b n bytes → (e ≡ show.ReadFault → ⊥) → n.faults ≡ b.faults
+  calm_for bytes Whole read other = read.kept
+  calm_for bytes (show.Unfinished place) read other = read.kept
+  calm_for bytes Long read other = read.kept
+  calm_for bytes show.ReadFault read other = absurd (other refl)
+  calm_for bytes (Bad kind place) read other = read.1
+  calm_for bytes WriteFault read other = read.1
+  calm_for bytes show.Memory read other = read.1
+
   way_of : HasTold b n o x r → Way b n o x r
   way_of (Whole, m, (bytes, lines, read, (vs, ends, are), wrote), tells) = tells_way b n o m x r bytes lines vs are wrote Whole read ends (λ e. cc) tells
   way_of (Bad kind place, m, (bytes, lines, read, (vs, ends, are), wrote), tells) = tells_way b n o m x r bytes lines vs are wrote (Bad kind place) read ends (λ e. cc) tells
@@ -104,7 +124,7 @@ module _ (b n : SourceView) (o x : SinkView) (r : Ended) where
       by Long read ends other nought text = absurd (omega (arith, nought))
       by show.ReadFault read ends other nought text = absurd (omega (arith, nought))
       by show.Memory read ends other nought text = absurd (omega (arith, nought))
-  whole (Starved bytes vs end read ends is text kept) nought = let eleven = sym (ap (λ v. v.status) is) ∙ nought in absurd (omega (arith, eleven))
+  whole (Starved bytes vs end read ends calm is text kept) nought = let eleven = sym (ap (λ v. v.status) is) ∙ nought in absurd (omega (arith, eleven))
   whole (Cut bytes vs read end source ends is front later rose) nought = let five = sym (ap (λ v. v.status) is) ∙ nought in absurd (omega (arith, five))
 
   wrong : Way b n o x r → r.status ≡ 3 → IsByteWrong b n o x r.place ⊎ (IsEndWithin b n o x r.place ⊎ IsPastShowing b n o x r.place)
@@ -119,7 +139,7 @@ module _ (b n : SourceView) (o x : SinkView) (r : Ended) where
       by Long read ends other three at text = inr (inr (at, (bytes, vs, read, ends, text)))
       by show.ReadFault read ends other three at text = absurd (omega (arith, three))
       by show.Memory read ends other three at text = absurd (omega (arith, three))
-  wrong (Starved bytes vs end read ends is text kept) three = let eleven = sym (ap (λ v. v.status) is) ∙ three in absurd (omega (arith, eleven))
+  wrong (Starved bytes vs end read ends calm is text kept) three = let eleven = sym (ap (λ v. v.status) is) ∙ three in absurd (omega (arith, eleven))
   wrong (Cut bytes vs read end source ends is front later rose) three = let five = sym (ap (λ v. v.status) is) ∙ three in absurd (omega (arith, five))
 
   read_cut : Way b n o x r → r.status ≡ 4 → IsReadCut b n o x
@@ -133,7 +153,7 @@ module _ (b n : SourceView) (o x : SinkView) (r : Ended) where
       by Long read ends other four text = absurd (omega (arith, four))
       by show.ReadFault read ends other four text = (read.1, read.2, (bytes, vs, read.0, ends.1, text))
       by show.Memory read ends other four text = absurd (omega (arith, four))
-  read_cut (Starved bytes vs end read ends is text kept) four = let eleven = sym (ap (λ v. v.status) is) ∙ four in absurd (omega (arith, eleven))
+  read_cut (Starved bytes vs end read ends calm is text kept) four = let eleven = sym (ap (λ v. v.status) is) ∙ four in absurd (omega (arith, eleven))
   read_cut (Cut bytes vs read end source ends is front later rose) four = let five = sym (ap (λ v. v.status) is) ∙ four in absurd (omega (arith, five))
 
   write_cut : Way b n o x r → r.status ≡ 5 → IsWriteCut b n o x
@@ -147,21 +167,22 @@ module _ (b n : SourceView) (o x : SinkView) (r : Ended) where
       by Long five = absurd (omega (arith, five))
       by show.ReadFault five = absurd (omega (arith, five))
       by show.Memory five = absurd (omega (arith, five))
-  write_cut (Starved bytes vs end read ends is text kept) five = let eleven = sym (ap (λ v. v.status) is) ∙ five in absurd (omega (arith, eleven))
-  write_cut (Cut bytes vs read end source ends is front later rose) five = (later, rose, (bytes, vs, end, ends, front))
+  write_cut (Starved bytes vs end read ends calm is text kept) five = let eleven = sym (ap (λ v. v.status) is) ∙ five in absurd (omega (arith, eleven))
+  write_cut (Cut bytes vs read end source ends is front later rose) five = (later, rose, (bytes, vs, end, consumed_for bytes read source, ends, front))
 
   memory_cut : Way b n o x r → r.status ≡ 11 → IsMemoryCut b n o x
-  memory_cut (Told bytes vs end read ends other is text kept) eleven = by end ends (sym (ap (λ v. v.status) is) ∙ eleven) text
+  memory_cut (Told bytes vs end read ends other is text kept) eleven = by end read ends (sym (ap (λ v. v.status) is) ∙ eleven) text
     where
-      by : (e : ShowEnd) → EndsShown bytes vs e → (ended_of (told_of e)).status ≡ 11 → Appends o.taken x.taken (value_lines vs ++ text_of (told_of e)) → IsMemoryCut b n o x
-      by Whole ends eleven text = absurd (omega (arith, eleven))
-      by WriteFault ends eleven text = absurd (omega (arith, eleven))
-      by (Bad kind place) ends eleven text = absurd (omega (arith, eleven))
-      by (show.Unfinished place) ends eleven text = absurd (omega (arith, eleven))
-      by Long ends eleven text = absurd (omega (arith, eleven))
-      by show.ReadFault ends eleven text = absurd (omega (arith, eleven))
-      by show.Memory ends eleven text = (bytes, vs, ends, text)
-  memory_cut (Starved bytes vs end read ends is text kept) eleven = (bytes, vs, ends_begun bytes vs end ends, text)
+      by : (e : ShowEnd) → HasReadFor e b n bytes → EndsShown bytes vs e → (ended_of (told_of e)).status ≡ 11 → Appends o.taken x.taken (value_lines vs ++ text_of (told_of e)) → IsMemoryCut b n o x
+      by Whole read ends eleven text = absurd (omega (arith, eleven))
+      by WriteFault read ends eleven text = absurd (omega (arith, eleven))
+      by (Bad kind place) read ends eleven text = absurd (omega (arith, eleven))
+      by (show.Unfinished place) read ends eleven text = absurd (omega (arith, eleven))
+      by Long read ends eleven text = absurd (omega (arith, eleven))
+      by show.ReadFault read ends eleven text = absurd (omega (arith, eleven))
+      by show.Memory read ends eleven text = (read.1, (bytes, vs, read.0.consumed, ends, text))
+  memory_cut (Starved bytes vs end read ends calm is text kept) eleven =
+      (calm_for bytes end read calm, (bytes, vs, consumed_for bytes end read, ends_begun bytes vs end ends, text))
   memory_cut (Cut bytes vs read end source ends is front later rose) eleven = let five = sym (ap (λ v. v.status) is) ∙ eleven in absurd (omega (arith, five))
 
   among : Way b n o x r → Contains (0 ∷ 3 ∷ 4 ∷ 5 ∷ 11 ∷ []) r.status
@@ -175,7 +196,7 @@ module _ (b n : SourceView) (o x : SinkView) (r : Ended) where
       by Long is = rw is (1, lit< tt, refl)
       by show.ReadFault is = rw is (2, lit< tt, refl)
       by show.Memory is = rw is (4, lit< tt, refl)
-  among (Starved bytes vs end read ends is text kept) = let eleven = ap (λ v. v.status) is in rw eleven (4, lit< tt, refl)
+  among (Starved bytes vs end read ends calm is text kept) = let eleven = ap (λ v. v.status) is in rw eleven (4, lit< tt, refl)
   among (Cut bytes vs read end source ends is front later rose) = let five = ap (λ v. v.status) is in rw five (3, lit< tt, refl)
 
   complete : Way b n o x r → (stream : List ℕ) (ws : List Value) → b.left ≡ Some stream → IsWholeStream stream ws → ¬ (Rose b.faults n.faults) → ¬ (Rose o.faults x.faults) → Contains (0 ∷ 11 ∷ []) r.status
@@ -195,7 +216,7 @@ module _ (b n : SourceView) (o x : SinkView) (r : Ended) where
           absurd (omega (arith, ap length split, length-append bytes more, read.over, good.0))
       by show.ReadFault read ends other is = absurd (calm_source read.2)
       by show.Memory read ends other is = rw is (1, lit< tt, refl)
-  complete (Starved bytes vs end read ends is text kept) stream ws told good calm_source calm_sink = let eleven = ap (λ v. v.status) is in rw eleven (1, lit< tt, refl)
+  complete (Starved bytes vs end read ends calm is text kept) stream ws told good calm_source calm_sink = let eleven = ap (λ v. v.status) is in rw eleven (1, lit< tt, refl)
   complete (Cut bytes vs read end source ends is front later rose) stream ws told good calm_source calm_sink = absurd (calm_sink rose)
 
   pub showing_of : HasTold b n o x r → IsShowing b n o x r
@@ -223,7 +244,7 @@ module _ (b n : SourceView) (o x : SinkView) (r : Ended) where
 
   later_by : Way b n o x r → o.faults ≤ x.faults
   later_by (Told bytes vs end read ends other is text kept) = omega (arith, kept)
-  later_by (Starved bytes vs end read ends is text kept) = omega (arith, kept)
+  later_by (Starved bytes vs end read ends calm is text kept) = omega (arith, kept)
   later_by (Cut bytes vs read end source ends is front later rose) = later
 
   pub told_later : HasTold b n o x r → o.faults ≤ x.faults
@@ -259,8 +280,8 @@ module _ (b n : SourceView) (o x : SinkView) (r : Ended) where
       by show.ReadFault is (inr c) = omega (arith, is, c)
       by show.Memory is (inl c) = omega (arith, is, c)
       by show.Memory is (inr c) = omega (arith, is, c)
-  told_other (Starved bytes vs end read ends is text kept) (inl c) = omega (arith, ap (λ v. v.status) is, c)
-  told_other (Starved bytes vs end read ends is text kept) (inr c) = omega (arith, ap (λ v. v.status) is, c)
+  told_other (Starved bytes vs end read ends calm is text kept) (inl c) = omega (arith, ap (λ v. v.status) is, c)
+  told_other (Starved bytes vs end read ends calm is text kept) (inr c) = omega (arith, ap (λ v. v.status) is, c)
   told_other (Cut bytes vs read end source ends is front later rose) (inl c) = omega (arith, ap (λ v. v.status) is, c)
   told_other (Cut bytes vs read end source ends is front later rose) (inr c) = omega (arith, ap (λ v. v.status) is, c)
 

@@ -8,19 +8,34 @@ use Rattle.schedule_model.specs.Programs.{program_craft}
 use Rattle.schedule_model.specs.Schedules.{Bad_line, Determined, Whole}
 use Rattle.schedule_model.specs.Schedules as schedules
 use Rattle.top_call.proofs.Fronts.{schedule_run-front}
-use Rattle.top_call.specs.Endings.{HasAnswered, Shown, ended_of, text_of}
+use Rattle.top_call.specs.Endings.{HasAnswered, IsToldFor, Shown, ended_of, text_of}
 use Rattle.top_call.specs.Replays.{HasInput, IsReport, calm_statuses, replay_run}
-use Rattle.top_call.specs.Statuses.{IsAnswerTo, IsBadLine, IsBadWord, IsHistoryFull, IsReadFault, IsReported, IsWriteFault, WritesBadLine, WritesFull, WritesReport}
+use Rattle.top_call.specs.Statuses.{IsAnswerTo, IsBadLine, IsBadWord, IsHistoryFull, IsOutOfMemory, IsReadFault, IsReported, IsWriteFault, WritesBadLine, WritesFull, WritesReport}
 use Rattle.top_call.specs.Words.{bad_place, is_replay}
 use Rattle.top_call.proofs.Asked.{lawful_good}
 use Rattle.top_call.specs.declared.ending.End.TheVariants.{BadByte, BadLine, BadWord, Full, LongStream, Memory, ReadFault, Reported, Shown as ShownEnd, Unfinished}
 use Rattle.top_call.specs.declared.ending.End.{End}
 use Rattle.top_call.specs.declared.ending.Ended.{Ended}
 
--- want of memory is shown by nothing, so a run may always end so
-pub shown_memory : (words : List (List ℕ)) (b n : SourceView) (end written : End) → Shown words b n end → ((written ≡ end) ⊎ (written ≡ Memory)) → Shown words b n written
-shown_memory words b n end written shown (inl same) = subst (Shown words b n) (sym same) shown
-shown_memory words b n end written shown (inr memory) = subst (Shown words b n) (sym memory) tt
+-- a run that ends so for another cause has a source that didn't fail
+calm_source_of : (words : List (List ℕ)) (b n : SourceView) (end : End) → Shown words b n end → (end ≡ ReadFault → ⊥) → n.faults ≡ b.faults
+calm_source_of words b n (Reported report) (lawful, (bytes, whole, is)) other = whole.kept
+calm_source_of words b n ShownEnd shown other = absurd shown
+calm_source_of words b n (BadByte kind place) shown other = absurd shown
+calm_source_of words b n (Unfinished place) shown other = absurd shown
+calm_source_of words b n LongStream shown other = absurd shown
+calm_source_of words b n (BadWord place) (bad, same) other = ap (λ v. v.faults) same
+calm_source_of words b n (BadLine bad) (lawful, (bytes, inl whole, is)) other = whole.kept
+calm_source_of words b n (BadLine bad) (lawful, (bytes, inr past, is)) other = past.kept
+calm_source_of words b n ReadFault shown other = absurd (other refl)
+calm_source_of words b n (Full entries cost) (lawful, (bytes, inl whole, is)) other = whole.kept
+calm_source_of words b n (Full entries cost) (lawful, (bytes, inr past, is)) other = past.kept
+calm_source_of words b n Memory shown other = shown
+
+-- so it may also end for want of memory
+pub shown_memory : (words : List (List ℕ)) (b n : SourceView) (end told : End) → Shown words b n end → IsToldFor end told → Shown words b n told
+shown_memory words b n end told shown (inl same) = subst (Shown words b n) (sym same) shown
+shown_memory words b n end told shown (inr (memory, other)) = subst (Shown words b n) (sym memory) (calm_source_of words b n end shown other)
 
 module _ (words : List (List ℕ)) (b n : SourceView) (o x : SinkView) (r : Ended) where
   pub status_reported : HasAnswered words b n o x r → r.status ≡ 0 → IsReported words b n o x
@@ -83,12 +98,12 @@ module _ (words : List (List ℕ)) (b n : SourceView) (o x : SinkView) (r : Ende
       by _ shown text nine = absurd (omega (arith, nine))
   status_history_full (e, shown, inr (is, front, later, rose)) nine = let five = sym (ap (λ v. v.status) is) ∙ nine in absurd (omega (arith, five))
 
-  pub status_out_of_memory : HasAnswered words b n o x r → r.status ≡ 11 → Appends o.taken x.taken (text_of Memory)
-  status_out_of_memory (e, shown, inl (is, text, kept)) eleven = by e text (sym (ap (λ v. v.status) is) ∙ eleven)
+  pub status_out_of_memory : HasAnswered words b n o x r → r.status ≡ 11 → IsOutOfMemory b n o x
+  status_out_of_memory (e, shown, inl (is, text, kept)) eleven = by e shown text (sym (ap (λ v. v.status) is) ∙ eleven)
     where
-      by : (e : End) → Appends o.taken x.taken (text_of e) → (ended_of e).status ≡ 11 → Appends o.taken x.taken (text_of Memory)
-      by Memory text eleven = text
-      by _ text eleven = absurd (omega (arith, eleven))
+      by : (e : End) → Shown words b n e → Appends o.taken x.taken (text_of e) → (ended_of e).status ≡ 11 → IsOutOfMemory b n o x
+      by Memory shown text eleven = (shown, text)
+      by _ shown text eleven = absurd (omega (arith, eleven))
   status_out_of_memory (e, shown, inr (is, front, later, rose)) eleven = let five = sym (ap (λ v. v.status) is) ∙ eleven in absurd (omega (arith, five))
 
   pub sink_later : HasAnswered words b n o x r → o.faults ≤ x.faults

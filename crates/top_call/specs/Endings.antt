@@ -65,7 +65,7 @@ Shown words before now (BadWord place) = (bad_place words ≡ Some place) × (no
 Shown words before now (BadLine bad) = (is_replay words ≡ true) × ((bytes : List ℕ) × HasInput before now bytes × IsFirstBad bytes bad)
 Shown words before now ReadFault = (is_replay words ≡ true) × (before.faults ≤ now.faults) × Rose before.faults now.faults
 Shown words before now (Full entries cost) = (is_replay words ≡ true) × ((bytes : List ℕ) × HasInput before now bytes × IsFull bytes entries cost)
-Shown words before now Memory = Unit {0}
+Shown words before now Memory = now.faults ≡ before.faults
 
 -- the whole text was written and this is answered, or the sink failed within it and the status is 5
 abbrev pub WritesText : SinkView → SinkView → List ℕ → Ended → Ended → Type 0
@@ -87,9 +87,13 @@ pub record Took (before now : SourceView) : Type 0 where
 abbrev pub HasAnswered : List (List ℕ) → SourceView → SourceView → SinkView → SinkView → Ended → Type 0
 HasAnswered words before now old new result = (end : End) × Shown words before now end × Written old new end result
 
--- the text of this ending was written, or that of want of memory in its place, or the sink failed within it
+-- which ending is told of one: itself, or want of memory, but that a source failed is told as it is
+abbrev pub IsToldFor : End → End → Type 0
+IsToldFor end told = (told ≡ end) ⊎ ((told ≡ Memory) × (end ≡ ReadFault → ⊥))
+
+-- the text of the ending that is told was written, or the sink failed within it
 abbrev pub Tells : End → SinkView → SinkView → Ended → Type 0
-Tells end old new result = (written : End) × ((written ≡ end) ⊎ (written ≡ Memory)) × Written old new written result
+Tells end old new result = (told : End) × IsToldFor end told × Written old new told result
 
 -- the ending of a run of `show` by that of its showing; where the sink failed nothing more is told
 abbrev pub told_of : ShowEnd → End

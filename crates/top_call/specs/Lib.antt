@@ -1,4 +1,5 @@
 pub mod Endings
+pub mod Mappings
 pub mod Replays
 pub mod Showings
 pub mod Statuses

@@ -1,5 +1,5 @@
 -- What each status of a run of `show` says by itself.
-use Rattle.std.specs.Io.KnownBytes.{Appends}
+use Rattle.std.specs.Io.KnownBytes.{Appends, Consumes}
 use Rattle.std.specs.Prelude.{Contains, List, Some, [], ℕ, ◌++◌, ◌∷◌, ◌≡◌, ◌≤◌, ◌⊎◌}
 use Rattle.links.specs.Causes.{AppendsFront, Rose}
 use Rattle.links.specs.Ends.{HasReadUpTo, IsPast, IsWholeInput}
@@ -44,11 +44,12 @@ IsReadCut before now old new = (before.faults ≤ now.faults) × Rose before.fau
 -- status 5: the sink's count rose, within the lines of values that begin what was read, or within the text after them
 abbrev pub IsWriteCut : SourceView → SourceView → SinkView → SinkView → Type 0
 IsWriteCut before now old new = (old.faults ≤ new.faults) × Rose old.faults new.faults × ((bytes : List ℕ) × (vs : List Value) × (end : ShowEnd)
-    × EndsShown bytes vs end × AppendsFront old.taken new.taken (value_lines vs ++ text_of (told_of end)))
+    × Consumes before.left now.left bytes × EndsShown bytes vs end × AppendsFront old.taken new.taken (value_lines vs ++ text_of (told_of end)))
 
--- status 11: the lines of values that begin what was read were written, and then its text
+-- status 11: the source didn't fail; the lines of values that begin what was read were written, and then its text
 abbrev pub IsMemoryCut : SourceView → SourceView → SinkView → SinkView → Type 0
-IsMemoryCut before now old new = (bytes : List ℕ) × (vs : List Value) × IsBegunStream bytes vs × WritesLines old new vs (text_of Memory)
+IsMemoryCut before now old new = (now.faults ≡ before.faults) × ((bytes : List ℕ) × (vs : List Value)
+    × Consumes before.left now.left bytes × IsBegunStream bytes vs × WritesLines old new vs (text_of Memory))
 
 -- what each status of `show` says, and which it can have
 pub record IsShowing (before now : SourceView) (old new : SinkView) (result : Ended) : Type 0 where

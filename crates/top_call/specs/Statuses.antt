@@ -8,7 +8,7 @@ use Rattle.links.specs.Views.{SinkView, SourceView}
 use Rattle.top_call.specs.Endings.{Shown, text_of}
 use Rattle.top_call.specs.Replays.{HasInput, IsFirstBad, IsFull, IsReport}
 use Rattle.top_call.specs.Words.{bad_place, is_replay}
-use Rattle.top_call.specs.declared.ending.End.TheVariants.{BadWord, BadLine, Full, ReadFault}
+use Rattle.top_call.specs.declared.ending.End.TheVariants.{BadWord, BadLine, Full, Memory, ReadFault}
 use Rattle.top_call.specs.declared.ending.End.{End}
 use Rattle.top_call.specs.declared.ending.Ended.{Ended}
 
@@ -55,6 +55,10 @@ IsWriteFault words before now old new = (old.faults ≤ new.faults) × Rose old.
 abbrev pub IsHistoryFull : List (List ℕ) → SourceView → SourceView → SinkView → SinkView → Type 0
 IsHistoryFull words before now old new = (is_replay words ≡ true)
     × ((bytes : List ℕ) × HasInput before now bytes × WritesFull old new bytes)
+
+-- status 11: the source didn't fail, and the text of want of memory was written
+abbrev pub IsOutOfMemory : SourceView → SourceView → SinkView → SinkView → Type 0
+IsOutOfMemory before now old new = (now.faults ≡ before.faults) × Appends old.taken new.taken (text_of Memory)
 
 -- status and text are those of the whole input, where the source told it
 pub record IsAnswerTo (schedule : List ℕ) (old new : SinkView) (result : Ended) : Type 0 where

@@ -3,8 +3,10 @@
 
 mod ending;
 mod node;
+mod process;
 mod words;
 
 pub use ending::Ended;
 pub use node::{out_of_memory, run};
+pub use process::answer;
 pub use words::{read_words, views};

@@ -1,9 +1,9 @@
 //! The top call: words, a source and a sink to a status.
-ghost use Rattle.std.specs.Io.KnownBytes.{Appends};
 ghost use Rattle.std.specs.Prelude.{Contains, List, [], false, map, true, ℕ, ◌∷◌, ◌≡◌, ◌≤◌, ◌⊎◌};
-ghost use Rattle.top_call.specs.Endings.{EndsAs, HasEnded, HasTold, Shown, Took, WritesText, Written, telling, text_of};
+ghost use Rattle.top_call.specs.Endings.{EndsAs, HasEnded, HasTold, Shown, Tells, Took, WritesText, Written, telling};
+ghost use Rattle.top_call.specs.Mappings.{end_given};
 ghost use Rattle.top_call.specs.Replays.{calm_statuses, replay_run};
-ghost use Rattle.top_call.specs.Statuses.{IsAnswerTo, IsBadLine, IsBadWord, IsHistoryFull, IsReadFault, IsReported, IsWriteFault};
+ghost use Rattle.top_call.specs.Statuses.{IsAnswerTo, IsBadLine, IsBadWord, IsHistoryFull, IsOutOfMemory, IsReadFault, IsReported, IsWriteFault};
 ghost use Rattle.top_call.specs.Showings.{IsShowing};
 ghost use Rattle.top_call.specs.Words.{bad_place, is_replay, is_show};
 ghost use Rattle.links.specs.Causes.{Rose};
@@ -60,7 +60,9 @@ pub fn run<S: Source, K: Sink>(alloc: Global, words: &[&str], src: &mut S, out: 
     ensures history_full { result.status ≡ 9 → IsHistoryFull (map (λ w. w.now) words.now)
         (source_view S.left S.read_faults S.ends src.old) (source_view S.left S.read_faults S.ends src.new)
         (sink_view K.taken K.write_faults out.old) (sink_view K.taken K.write_faults out.new) }
-    ensures out_of_memory { is_show (map (λ w. w.now) words.now) ≡ false → result.status ≡ 11 → Appends (K.taken out.old) (K.taken out.new) (text_of End.Memory) }
+    ensures out_of_memory { is_show (map (λ w. w.now) words.now) ≡ false → result.status ≡ 11 → IsOutOfMemory
+        (source_view S.left S.read_faults S.ends src.old) (source_view S.left S.read_faults S.ends src.new)
+        (sink_view K.taken K.write_faults out.old) (sink_view K.taken K.write_faults out.new) }
     ensures show { is_show (map (λ w. w.now) words.now) ≡ true → IsShowing
         (source_view S.left S.read_faults S.ends src.old) (source_view S.left S.read_faults S.ends src.new)
         (sink_view K.taken K.write_faults out.old) (sink_view K.taken K.write_faults out.new) result }
@@ -111,12 +113,15 @@ fn told(shown: ShowEnd) -> Option<End>
     }
 }
 
-/// Writes the text of an end, or of want of memory where there is none for that text.
+/// Writes the text of an end, or of want of memory where there is none for that text; that the source failed is written
+/// without memory.
 fn finish<K: Sink>(alloc: Global, out: &mut K, end: End) -> Ended
-    ensures { (written : End) × ((written ≡ end) ⊎ (written ≡ End.Memory))
-        × Written (sink_view K.taken K.write_faults out.old) (sink_view K.taken K.write_faults out.new) written result }
+    ensures { Tells end (sink_view K.taken K.write_faults out.old) (sink_view K.taken K.write_faults out.new) result }
 {
     let ended = end.ended();
+    if let End::ReadFault = end {
+        return write_text(out, ended, b"read fault\n");
+    }
     match end.into_text(alloc) {
         Ok(text) => write_text(out, ended, text.as_slice()),
         Err(_) => out_of_memory(out),
@@ -157,9 +162,18 @@ fn replayed(alloc: Global, schedule: &[u8]) -> End
             Ok(text) => End::Reported(text),
             Err(_) => End::Memory,
         },
-        Err(RunFault::Bad(bad)) => End::BadLine(bad),
-        Err(RunFault::Full { entries, bytes }) => End::Full { entries, bytes },
-        Err(RunFault::Memory) => End::Memory,
+        Err(fault) => end_of(fault),
+    }
+}
+
+/// The end of a run whose schedule gave no history.
+fn end_of(fault: RunFault) -> End
+    ensures { result ≡ end_given fault }
+{
+    match fault {
+        RunFault::Bad(bad) => End::BadLine(bad),
+        RunFault::Full { entries, bytes } => End::Full { entries, bytes },
+        RunFault::Memory => End::Memory,
     }
 }
 
