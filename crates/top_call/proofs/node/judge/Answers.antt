@@ -10,3 +10,9 @@ returns-in-Err-Long-clause-shown g c =
     let lawful : is_replay words ≡ true = asks_replay words c.requires (sym c.in_default.ensures) in
     let past = rw c.in-Err-Long.field-0-is at c.in-Err-Long.ensures.end in
     shown_past words _ _ _ c.replayed-in-Err-Long.result lawful past (rw (← c.as_slice-in-Err-Long.ensures) c.replayed-in-Err-Long.ensures)
+
+pub returns-in-Ok-clause-shown : goal.returns-in-Ok-clause-shown
+returns-in-Ok-clause-shown g c =
+    let words = map (λ w. w.now) c.args.words.now in
+    let lawful : is_replay words ≡ true = asks_replay words c.requires (sym c.in_default.ensures) in
+    shown_whole words _ _ _ c.replayed.result lawful c.in-Ok.ensures.all (rw (← c.as_slice.ensures) c.replayed.ensures)
