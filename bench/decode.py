@@ -21,14 +21,19 @@ PROGRAM = os.path.join(ROOT, "crates", "celery_node", "out", "celery_node")
 SIZE = 64 << 20
 
 
-def small_replies(size):
-    """Replies as a broker gives them: statuses, integers, short bulk strings and arrays of two."""
-    unit = b"+OK\r\n:1\r\n$5\r\nhello\r\n*2\r\n$6\r\ncelery\r\n$12\r\n{\"body\":\"\"}a\r\n$-1\r\n:1234567\r\n"
-    return unit * (size // len(unit))
+# Replies as a broker gives them: statuses, integers, short bulk strings and arrays of two.
+SMALL = b"+OK\r\n:1\r\n$5\r\nhello\r\n*2\r\n$6\r\ncelery\r\n$12\r\n{\"body\":\"\"}a\r\n$-1\r\n:1234567\r\n"
+BULK = b"$1048576\r\n" + b"x" * 1048576 + b"\r\n"
 
 
-def bulks(count):
-    return (b"$1048576\r\n" + b"x" * 1048576 + b"\r\n") * count
+def written(path, unit, count):
+    """Writes so many times a unit, and answers how many bytes these are. No more than a few are held: a child counts the
+    memory of the process that made it as its own."""
+    part = unit * max(1, (1 << 18) // len(unit))
+    with open(path, "wb") as out:
+        for _ in range(count * len(unit) // len(part)):
+            out.write(part)
+    return os.path.getsize(path)
 
 
 def timed(words, path):
@@ -65,22 +70,18 @@ def main():
     resource.setrlimit(resource.RLIMIT_CORE, (0, 0))
     with tempfile.TemporaryDirectory() as folder:
         other = hiredis(folder)
-        streams = {"small replies": small_replies(SIZE), "bulk strings": bulks(60)}
-        for name, stream in streams.items():
-            path = os.path.join(folder, "stream")
-            with open(path, "wb") as out:
-                out.write(stream)
+        path = os.path.join(folder, "stream")
+        for name, unit, count in (("small replies", SMALL, SIZE // len(SMALL)), ("bulk strings", BULK, 60)):
+            size = written(path, unit, count)
             for piece in (1, 7, 4096, 65536):
-                line(f"{name}, pieces of {piece}: decoder", [DECODER, str(piece)], path, len(stream))
+                line(f"{name}, pieces of {piece}: decoder", [DECODER, str(piece)], path, size)
                 if other:
-                    line(f"{name}, pieces of {piece}: hiredis", [other, str(piece)], path, len(stream))
+                    line(f"{name}, pieces of {piece}: hiredis", [other, str(piece)], path, size)
             if os.path.exists(PROGRAM):
-                line(f"{name}: show", [PROGRAM, "show"], path, len(stream))
+                line(f"{name}: show", [PROGRAM, "show"], path, size)
         for part in (8, 4, 2, 1):
-            stream = small_replies(SIZE // part)
-            with open(path, "wb") as out:
-                out.write(stream)
-            line(f"small replies, 1/{part} of them: decoder", [DECODER, "4096"], path, len(stream))
+            size = written(path, SMALL, SIZE // len(SMALL) // part)
+            line(f"small replies, 1/{part} of them: decoder", [DECODER, "4096"], path, size)
 
 
 if __name__ == "__main__":
