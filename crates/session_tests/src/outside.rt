@@ -36,14 +36,14 @@ fn handed_out(alloc: Global, failing: u64) -> Result<u64, AllocError> {
     let link = MemoryLink::new(Bytes::new(), 1, Vec::new(alloc));
     let links = vec![in alloc; link]?;
     let mut net = MemoryNet::new(links, vec![in alloc; failing]?);
-    let mut count = 0;
+    let mut count = 0u64;
     if net.listen(alloc, "here").is_err() {
-        count += 10;
+        count = 10;
     }
     for _ in 0..2 {
         if let Ok(link) = net.accept(alloc) {
             net.close(link);
-            count += 1;
+            count = count.wrapping_add(1);
         }
     }
     Ok(count)
