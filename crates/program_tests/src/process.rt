@@ -12,6 +12,7 @@ use top_call::{Ended, answer};
 use wire_values::Bytes;
 
 /// A process with these words after its name.
+#[derive(Clone, Copy, Drop)]
 struct Process<'a> {
     words: &'a [&'a [u8]],
 }
