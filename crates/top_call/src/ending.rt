@@ -83,8 +83,18 @@ impl End {
     pub fn into_text(self, alloc: Global) -> Result<Bytes, AllocError>
         ensures { IfOk result (λ text. text ≡ text_of self) }
     {
+        match self {
+            End::Reported(report) => Ok(report),
+            other => other.text(alloc),
+        }
+    }
+
+    /// The text that is written; a report is copied.
+    fn text(&self, alloc: Global) -> Result<Bytes, AllocError>
+        ensures { IfOk result (λ text. text ≡ text_of self.now) }
+    {
         let text = match self {
-            End::Reported(report) => return Ok(report),
+            End::Reported(report) => return Bytes::from_slice(alloc, report.as_slice()),
             End::Shown => String::new(alloc),
             End::BadWord(place) => format!(in alloc; "bad word {place}\n")?,
             End::BadLine(BadLine { line, reason }) => {
@@ -92,7 +102,7 @@ impl End {
                 format!(in alloc; "bad line {line}: {why}\n")?
             }
             End::BadByte { kind, place } => {
-                let name = kind_name(kind);
+                let name = kind_name(*kind);
                 format!(in alloc; "fault {name} at {place}\n")?
             }
             End::Unfinished(place) => format!(in alloc; "unfinished at {place}\n")?,
