@@ -9,7 +9,7 @@ use Rattle.wire_grammar.specs.declared.kind.WireKind.TheVariants.{TooLong}
 use Rattle.wire_grammar.specs.Limits.{depth_limit, value_limit}
 use Rattle.wire_grammar.specs.Spells.{SpellsWithin, Spells, BeginsNone, IsFront}
 use Rattle.wire_grammar.specs.Reads.{Reading, Got, Front, Wrong, read_on, limited, read, fault_of, wire_fault, wire_value_at}
-use Rattle.wire_grammar.specs.Faults.{IsWrongAt, HasFault, OneHolds, BeginsWithOne}
+use Rattle.wire_grammar.specs.Faults.{IsWrongAt, HasFault, OneHolds, BeginsWithOne, IsWrongWithin}
 use Rattle.wire_grammar.proofs.Readers.{Tells, AtFront, Within, AtByte}
 use Rattle.wire_grammar.proofs.Readings.{value_reader, reads_spelled}
 
@@ -100,14 +100,14 @@ module _ (p : ℕ) (b : List ℕ) where
       let is : read p b ≡ Wrong TooLong (p + value_limit) = ap (read p) (sym (append-nil b)) ∙ there [] in
       subst (Says p b) (sym is) (inr (record { long = long; place = refl; is = refl; goes_on = (v, more, r); none = none_wrong p b TooLong (p + value_limit) is }), there)
 
-  said : (t : List ℕ) → t ≡ take value_limit b → Tells (wire_value_at depth_limit) (SpellsWithin depth_limit) t → Says p b (read p b)
+  said : (t : List ℕ) → t ≡ take value_limit b → Tells (wire_value_at depth_limit) (SpellsWithin depth_limit) (IsWrongWithin depth_limit) t → Says p b (read p b)
   said t is (AtFront v front rest e r) =
       let cut : b ≡ front ++ (rest ++ drop value_limit b) = sym (take_drop value_limit b) ∙ ap (λ l. l ++ drop value_limit b) (sym is ∙ e) ∙ append_assoc front rest (drop value_limit b) in
       let small : length front ≤ value_limit = omega (arith, ap length is, length-take value_limit b, ap length e, length-append front rest) in
       let s : Spells v front = (r, small) in
       subst (Says p b) (sym (ap (read p) cut ∙ read_spelled v front (rest ++ drop value_limit b) p s)) (front, cut, s, refl)
   said t is (Within f v more r) = long_or_short (ap (read_on p) (sym is) ∙ f Got p) v more (subst (λ (l : List ℕ). SpellsWithin depth_limit v (l ++ more)) is r) (nat_lt (length b) value_limit) refl
-  said t is (AtByte front c rest kind e f v more r) =
+  said t is (AtByte front c rest kind e f v more r w) =
       let cut : b ≡ front ++ c ∷ (rest ++ drop value_limit b) = sym (take_drop value_limit b) ∙ ap (λ l. l ++ drop value_limit b) (sym is ∙ e) ∙ append_assoc front (c ∷ rest) (drop value_limit b) in
       let small : suc (length front) ≤ value_limit = omega (arith, ap length is, length-take value_limit b, ap length e, length-append front (c ∷ rest)) in
       let wrong : (m : List ℕ) → read p (front ++ c ∷ m) ≡ Wrong kind (p + length front) = λ m. limited_wrong p front m c kind (p + length front) small (λ l. f Got p l) in
@@ -122,10 +122,11 @@ module _ (p : ℕ) (b : List ℕ) where
           before = record {
             short = small;
             goes_on = (v, more, r);
-            none = λ w f2 r2 e2 s. none_wrong p b kind (p + length front) here w f2 (r2 ++ c ∷ (rest ++ drop value_limit b)) (cut ∙ ap (λ l. l ++ c ∷ (rest ++ drop value_limit b)) e2 ∙ append_assoc f2 r2 (c ∷ (rest ++ drop value_limit b))) s;
+            none = λ u f2 r2 e2 s. none_wrong p b kind (p + length front) here u f2 (r2 ++ c ∷ (rest ++ drop value_limit b)) (cut ∙ ap (λ l. l ++ c ∷ (rest ++ drop value_limit b)) e2 ∙ append_assoc f2 r2 (c ∷ (rest ++ drop value_limit b))) s;
           };
-          stuck = λ w m s. got_wrong w (p + length (front ++ c ∷ m)) [] kind (p + length front)
-              (sym (reads_spelled w (front ++ c ∷ m) [] p s) ∙ ap (read_on p) (append-nil (front ++ c ∷ m)) ∙ f Got p m);
+          is = w;
+          stuck = λ u m s. got_wrong u (p + length (front ++ c ∷ m)) [] kind (p + length front)
+              (sym (reads_spelled u (front ++ c ∷ m) [] p s) ∙ ap (read_on p) (append-nil (front ++ c ∷ m)) ∙ f Got p m);
         }),
         λ m. ap (read p) (ap (λ l. l ++ m) cut ∙ append_assoc front (c ∷ (rest ++ drop value_limit b)) m) ∙ wrong ((rest ++ drop value_limit b) ++ m),
       )

@@ -22,7 +22,8 @@ pub fn one_of_three()
     ensures { (p : ℕ) (b : List ℕ) → OneHolds p b }
 {}
 
-/// A fault stands at the first byte at which no value can go on, or where a value passes its limit, and stays, whatever follows.
+/// A fault stands at the first byte at which no value can go on, or where a value passes its limit; its kind is that of its
+/// place in the value; and it stays, whatever follows.
 pub fn faults()
     ensures { (p : ℕ) (b more : List ℕ) (kind : TheKind) (q : ℕ) → wire_fault p b ≡ Some (kind, q) → IsWrongAt p b kind q × (wire_fault p (b ++ more) ≡ Some (kind, q)) }
 {}
