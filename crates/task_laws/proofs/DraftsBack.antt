@@ -21,7 +21,7 @@ use Rattle.task_message.specs.declared.fault.TaskFault.{TaskFault}
 use Rattle.task_message.specs.declared.fault.TaskFault.TheVariants.{BadMoment}
 use Rattle.task_message.proofs.Draftable.{IsDraftable, content_shallow, content_whole, draftable}
 
-word_is : (s : List ℕ) → 1 ≤ length s → if_word s ≡ Some s
+pub word_is : (s : List ℕ) → 1 ≤ length s → if_word s ≡ Some s
 word_is [] h = absurd (omega arith)
 word_is (b ∷ s) h = refl
 
@@ -41,7 +41,7 @@ object_is (string s) e = absurd (true≢false (sym e))
 object_is (array ds) e = absurd (true≢false (sym e))
 object_is (object ms) e = refl
 
-bits_are : (n : ℕ) → n < 2 ^ 32 → if_32_bits n ≡ Some n
+pub bits_are : (n : ℕ) → n < 2 ^ 32 → if_32_bits n ≡ Some n
 bits_are n h = let t : nat_lt n (2 ^ 32) ≡ true = grind (arith, nat_tests) in rw t refl
 
 -- a moment that may be there is read as it was written
