@@ -1,12 +1,12 @@
 -- Sending a task again changes what it must and nothing else.
-use Rattle.std.proofs.Common.{◌≡◌, ◌⊎◌, inl, inr, ℕ, ℤ, suc, List, Bool, true, false, codes, Option, Some, None, option_map, option_and_then, unwrap_or, Result, Ok, Err, refl, sym, ap, subst, ◌∙◌}
-use Rattle.std.specs.Prelude.{⊤, length, nat_le}
+use Rattle.std.proofs.Common.{◌≡◌, inl, inr, ℕ, ℤ, suc, List, Bool, true, false, codes, Some, None, option_map, option_and_then, unwrap_or, Result, Ok, refl, sym, ap, subst, ◌∙◌}
+use Rattle.std.specs.Prelude.{length, nat_le}
 use Rattle.base64.specs.Engines.{standard}
 use Rattle.base64.specs.GeneralPurpose.{encode_of}
 use Rattle.serde_json.specs.Data.{Data, null, boolean, number, unsigned, string, array, object, Members, put}
 use Rattle.serde_json.specs.Find.{get}
 use Rattle.serde_json.specs.Written.{compact_text}
-use Rattle.serde_json.proofs.Views.{get_member-put, get_member-put_other}
+use Rattle.serde_json.proofs.Views.{get_member-put}
 use Rattle.delivery_tags.specs.Tags.{tag_text}
 use Rattle.envelope.specs.Envelopes.{Parts, json_at, max_bytes, max_text, parts_in, said_by}
 use Rattle.envelope.proofs.MarkedSaid.{get_other, get_same}
@@ -17,15 +17,15 @@ use Rattle.envelope_trees.specs.Members.{if_object, object_at}
 use Rattle.envelope_trees.specs.Sorted.{Sorted}
 use Rattle.envelope_laws.specs.Marks.{AgreeBut}
 use Rattle.moments.specs.MomentTexts.{moment_text}
-use Rattle.task_message.specs.Again.{again_of, again_tree, body_again, headers_again, if_short, properties_again, retried, unmarked, with_body, without}
+use Rattle.task_message.specs.Again.{again_of, again_tree, body_again, properties_again, retried, unmarked, without}
 use Rattle.task_message.specs.Reading.{◌>>=◌, wanted}
 use Rattle.task_message.specs.Tasks.{TaskParts, headers_in, task_of}
 use Rattle.task_message.specs.declared.fault.TaskFault.{TaskFault}
 use Rattle.task_message.specs.declared.fault.TaskFault.TheVariants.{TooLong}
 use Rattle.task_again.proofs.KeptTrees.{get_put, get_put_other, get_without, off}
-use Rattle.task_laws.specs.Relations.{IsEither, IsFirst, IsSecond, IsTask}
+use Rattle.task_laws.specs.Relations.{IsEither, IsTask}
 use Rattle.task_laws.specs.SentAgain.{AgreeButTwo, IsAround, IsFirstAgain, IsSecondAgain, IsSentAgain, TellsRetry}
-use Rattle.task_laws.proofs.Gone.{IsObjectAt, get_gone, get_sorted, object_stands, object_is}
+use Rattle.task_laws.proofs.Gone.{IsObjectAt, get_gone, get_sorted, object_stands}
 use Rattle.task_laws.proofs.TasksRead.{task_from}
 
 -- ---- settings
@@ -176,10 +176,10 @@ module _ (n : ℕ) (d : Data) (p : Parts) (sorted : Sorted d) (told : IsTold d p
     next_properties = properties_again n told.properties;
     next_info = unmarked told.inner.info;
     after = record {
-        headers_is = next_headers_is n d told.headers told.properties (renewed r eta) (renewed_object r eta) h_at q_at;
-        properties_is = next_properties_is n d told.headers told.properties (renewed r eta) (renewed_object r eta) h_at q_at;
-        info_is = next_info_is n told.properties told.inner.info i_at;
-      };
+      headers_is = next_headers_is n d told.headers told.properties (renewed r eta) (renewed_object r eta) h_at q_at;
+      properties_is = next_properties_is n d told.headers told.properties (renewed r eta) (renewed_object r eta) h_at q_at;
+      info_is = next_info_is n told.properties told.inner.info i_at;
+    };
     settings = inr (v, second_changed);
     header_mark = no_mark;
     info_mark = get_gone (codes "redelivered") told.inner.info i_sorted;
@@ -229,10 +229,10 @@ module _ (n : ℕ) (d : Data) (p : Parts) (sorted : Sorted d) (told : IsTold d p
     next_properties = properties_again n told.properties;
     next_info = unmarked told.inner.info;
     after = record {
-        headers_is = ap (option_and_then if_object) (beside (codes "headers") (off (codes "headers") (codes "body") refl)) ∙ next_headers_is n d told.headers told.properties unmarked unmarked_object h_at q_at;
-        properties_is = ap (option_and_then if_object) (beside (codes "properties") (off (codes "properties") (codes "body") refl)) ∙ next_properties_is n d told.headers told.properties unmarked unmarked_object h_at q_at;
-        info_is = next_info_is n told.properties told.inner.info i_at;
-      };
+      headers_is = ap (option_and_then if_object) (beside (codes "headers") (off (codes "headers") (codes "body") refl)) ∙ next_headers_is n d told.headers told.properties unmarked unmarked_object h_at q_at;
+      properties_is = ap (option_and_then if_object) (beside (codes "properties") (off (codes "properties") (codes "body") refl)) ∙ next_properties_is n d told.headers told.properties unmarked unmarked_object h_at q_at;
+      info_is = next_info_is n told.properties told.inner.info i_at;
+    };
     settings = inl (v, first_changed c name reads task);
     header_mark = get_gone (codes "redelivered") told.headers h_sorted;
     info_mark = get_gone (codes "redelivered") told.inner.info i_sorted;

@@ -1,15 +1,15 @@
 -- A task is read exactly where an envelope carries it.
-use Rattle.std.proofs.Common.{◌≡◌, ◌<◌, ◌≤◌, ◌^◌, ◌⊎◌, inl, inr, ◌∷◌, [], ℕ, ℤ, List, length, Bool, true, false, nat_lt, codes, Option, Some, None, Result, Ok, Err, if◌then◌else◌, refl, sym, ap, ◌∙◌, subst, arith}
+use Rattle.std.proofs.Common.{◌≡◌, ◌<◌, ◌≤◌, ◌^◌, inl, inr, ◌∷◌, [], ℕ, ℤ, List, length, Bool, true, false, nat_lt, codes, Option, Some, None, Result, Ok, Err, if◌then◌else◌, refl, sym, ap, ◌∙◌, subst, arith}
 use Rattle.std.specs.Prelude.{⊤, is_some, nat_le, not, option_and_then}
 use Rattle.std.proofs.lemmas.Bool.Decides.{nat_tests}
-use Rattle.serde_json.specs.Data.{Data, null, boolean, number, unsigned, negative, float, string, array, object, Items, Members, no_items, item, depth}
-use Rattle.serde_json.specs.Find.{as_array, as_number, as_str, as_u64, get}
+use Rattle.serde_json.specs.Data.{Data, null, boolean, number, unsigned, negative, float, string, array, object, no_items, item, depth}
+use Rattle.serde_json.specs.Find.{as_number, as_str, as_u64, get}
 use Rattle.serde_json.specs.Written.{has_float}
 use Rattle.envelope.specs.Envelopes.{json_at, max_levels, parts_in}
 use Rattle.envelope_trees.specs.Members.{if_object, is_nothing, object_at, text_at}
 use Rattle.moments.specs.MomentTexts.{moment_of}
 use Rattle.task_message.specs.Reading.{◌>>=◌, needed, wanted}
-use Rattle.task_message.specs.Tasks.{TaskCall, TaskParts, TaskSettings, array_at, call_in, call_of_items, content_in, first_task, fit_call, headers_in, if_32_bits, if_array, if_shallow, if_word, is_second, moment_at, retries_at, second_task, settings_in, spelled_moment, task_in, task_of, told_name, word_at}
+use Rattle.task_message.specs.Tasks.{TaskCall, TaskParts, TaskSettings, array_at, call_in, content_in, first_task, fit_call, headers_in, if_32_bits, if_array, if_shallow, if_word, moment_at, retries_at, second_task, settings_in, spelled_moment, task_in, task_of, told_name, word_at}
 use Rattle.task_message.specs.declared.fault.Part.TheVariants as part
 use Rattle.task_message.specs.declared.fault.TaskFault.{TaskFault}
 use Rattle.task_message.specs.declared.fault.TaskFault.TheVariants.{BadField, Float, NoTask}
