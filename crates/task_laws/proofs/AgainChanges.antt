@@ -23,7 +23,7 @@ use Rattle.task_message.specs.Tasks.{TaskParts, headers_in, task_of}
 use Rattle.task_message.specs.declared.fault.TaskFault.{TaskFault}
 use Rattle.task_message.specs.declared.fault.TaskFault.TheVariants.{TooLong}
 use Rattle.task_again.proofs.KeptTrees.{get_put, get_put_other, get_without, off}
-use Rattle.task_laws.specs.Relations.{IsEither, IsTask}
+use Rattle.task_laws.specs.Relations.{TellsTask, IsTask}
 use Rattle.task_laws.specs.SentAgain.{AgreeButTwo, IsAround, IsFirstAgain, IsSecondAgain, IsSentAgain, TellsRetry}
 use Rattle.task_laws.proofs.Gone.{IsObjectAt, get_gone, get_sorted, object_stands}
 use Rattle.task_laws.proofs.TasksRead.{task_from}
@@ -246,7 +246,7 @@ module _ (n : ℕ) (d : Data) (p : Parts) (sorted : Sorted d) (told : IsTold d p
   by_version : IsTask d t → IsSentAgain d t n eta (again_tree d t.version r n eta)
   by_version is = go is.told
     where
-      go : IsEither (headers_in d) is.content t → IsSentAgain d t n eta (again_tree d t.version r n eta)
+      go : TellsTask (headers_in d) is.content t → IsSentAgain d t n eta (again_tree d t.version r n eta)
       go (inl one) = subst (λ v. IsSentAgain d t n eta (again_tree d v r n eta)) (sym one.1.version) (first_again is.content (string t.name) one.1.version is.reads one.1.name.0)
       go (inr two) = subst (λ v. IsSentAgain d t n eta (again_tree d v r n eta)) (sym two.version) (second_again two.version)
 

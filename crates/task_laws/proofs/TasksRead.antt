@@ -13,7 +13,7 @@ use Rattle.task_message.specs.Tasks.{TaskCall, TaskParts, TaskSettings, array_at
 use Rattle.task_message.specs.declared.fault.Part.TheVariants as part
 use Rattle.task_message.specs.declared.fault.TaskFault.{TaskFault}
 use Rattle.task_message.specs.declared.fault.TaskFault.TheVariants.{BadField, Float, NoTask}
-use Rattle.task_laws.specs.Relations.{IsArray, IsCount, IsEither, IsFirst, IsObject, IsSecond, IsTask, IsTime, IsWordAt, TellsSettings}
+use Rattle.task_laws.specs.Relations.{IsJsonArray, IsRetries, TellsTask, IsFirstTask, IsJsonObject, IsSecondTask, IsTask, IsMoment, IsWordAt, TellsSettings}
 use Rattle.task_laws.proofs.DraftsBack.{bits_are, word_is}
 
 -- ---- readings
@@ -60,7 +60,7 @@ word_to k d s h = ap (λ o. option_and_then if_word (option_and_then as_str o)) 
 
 -- ---- arrays and objects
 
-array_known : (d e : Data) → if_array d ≡ Some e → (d ≡ e) × IsArray e
+array_known : (d e : Data) → if_array d ≡ Some e → (d ≡ e) × IsJsonArray e
 array_known null e h = cc
 array_known (boolean b) e h = cc
 array_known (number n) e h = cc
@@ -68,10 +68,10 @@ array_known (string s) e h = cc
 array_known (array ds) e h = let k : array ds ≡ e = cc in (k, (ds, sym k))
 array_known (object ms) e h = cc
 
-array_to : (e : Data) → IsArray e → if_array e ≡ Some e
+array_to : (e : Data) → IsJsonArray e → if_array e ≡ Some e
 array_to e h = subst (λ x. if_array x ≡ Some x) (sym h.1) refl
 
-object_known : (d e : Data) → if_object d ≡ Some e → (d ≡ e) × IsObject e
+object_known : (d e : Data) → if_object d ≡ Some e → (d ≡ e) × IsJsonObject e
 object_known null e h = cc
 object_known (boolean b) e h = cc
 object_known (number n) e h = cc
@@ -79,20 +79,20 @@ object_known (string s) e h = cc
 object_known (array ds) e h = cc
 object_known (object ms) e h = let k : object ms ≡ e = cc in (k, (ms, sym k))
 
-object_to : (e : Data) → IsObject e → if_object e ≡ Some e
+object_to : (e : Data) → IsJsonObject e → if_object e ≡ Some e
 object_to e h = subst (λ x. if_object x ≡ Some x) (sym h.1) refl
 
-array_from : (k : List ℕ) (d e : Data) → array_at k d ≡ Some e → (get k d ≡ Some e) × IsArray e
+array_from : (k : List ℕ) (d e : Data) → array_at k d ≡ Some e → (get k d ≡ Some e) × IsJsonArray e
 array_from k d e h = go (get k d) h
   where
-    go : (o : Option Data) → option_and_then if_array o ≡ Some e → (o ≡ Some e) × IsArray e
+    go : (o : Option Data) → option_and_then if_array o ≡ Some e → (o ≡ Some e) × IsJsonArray e
     go None f = cc
     go (Some x) f = let a = array_known x e f in (ap (λ z. Some z) a.0, a.1)
 
-object_from : (k : List ℕ) (d e : Data) → object_at k d ≡ Some e → (get k d ≡ Some e) × IsObject e
+object_from : (k : List ℕ) (d e : Data) → object_at k d ≡ Some e → (get k d ≡ Some e) × IsJsonObject e
 object_from k d e h = go (get k d) h
   where
-    go : (o : Option Data) → option_and_then if_object o ≡ Some e → (o ≡ Some e) × IsObject e
+    go : (o : Option Data) → option_and_then if_object o ≡ Some e → (o ≡ Some e) × IsJsonObject e
     go None f = cc
     go (Some x) f = let a = object_known x e f in (ap (λ z. Some z) a.0, a.1)
 
@@ -109,7 +109,7 @@ count_by m n e = go (nat_lt m (2 ^ 32)) refl e
 abbrev count_of : Option Data → Option ℕ
 count_of o = if is_nothing o then Some 0 else option_and_then if_32_bits (option_and_then as_u64 (option_and_then as_number o))
 
-count_from : (o : Option Data) (n : ℕ) → count_of o ≡ Some n → IsCount o n
+count_from : (o : Option Data) (n : ℕ) → count_of o ≡ Some n → IsRetries o n
 count_from None n e = let k : 0 ≡ n = cc in inl (refl, sym k)
 count_from (Some null) n e = let k : 0 ≡ n = cc in inl (refl, sym k)
 count_from (Some (boolean b)) n e = cc
@@ -120,7 +120,7 @@ count_from (Some (string s)) n e = cc
 count_from (Some (array ds)) n e = cc
 count_from (Some (object ms)) n e = cc
 
-count_to : (o : Option Data) (n : ℕ) → IsCount o n → count_of o ≡ Some n
+count_to : (o : Option Data) (n : ℕ) → IsRetries o n → count_of o ≡ Some n
 count_to o n (inl h) = ap (λ t. if t then Some 0 else option_and_then if_32_bits (option_and_then as_u64 (option_and_then as_number o))) h.0 ∙ ap (λ x. Some x) (sym h.1)
 count_to o n (inr h) = ap count_of h.0 ∙ bits_are n h.1
 
@@ -128,20 +128,20 @@ count_to o n (inr h) = ap count_of h.0 ∙ bits_are n h.1
 abbrev time_of : Option Data → Result (Option ℤ) TaskFault
 time_of o = if is_nothing o then Ok None else spelled_moment (option_and_then moment_of (option_and_then as_str o))
 
-time_from : (o : Option Data) (m : Option ℤ) → time_of o ≡ Ok m → IsTime o m
-time_from None m e = subst (IsTime None) (same_ok None m e) refl
-time_from (Some null) m e = subst (IsTime (Some null)) (same_ok None m e) refl
+time_from : (o : Option Data) (m : Option ℤ) → time_of o ≡ Ok m → IsMoment o m
+time_from None m e = subst (IsMoment None) (same_ok None m e) refl
+time_from (Some null) m e = subst (IsMoment (Some null)) (same_ok None m e) refl
 time_from (Some (boolean b)) m e = cc
 time_from (Some (number n)) m e = cc
 time_from (Some (string s)) m e = go (moment_of s) refl e
   where
-    go : (r : Option ℤ) → moment_of s ≡ r → spelled_moment r ≡ Ok m → IsTime (Some (string s)) m
+    go : (r : Option ℤ) → moment_of s ≡ r → spelled_moment r ≡ Ok m → IsMoment (Some (string s)) m
     go None i h = cc
-    go (Some z) i h = subst (IsTime (Some (string s))) (same_ok (Some z) m h) (s, refl, i)
+    go (Some z) i h = subst (IsMoment (Some (string s))) (same_ok (Some z) m h) (s, refl, i)
 time_from (Some (array ds)) m e = cc
 time_from (Some (object ms)) m e = cc
 
-time_to : (o : Option Data) (m : Option ℤ) → IsTime o m → time_of o ≡ Ok m
+time_to : (o : Option Data) (m : Option ℤ) → IsMoment o m → time_of o ≡ Ok m
 time_to o None h = ap (λ t. if t then Ok None else spelled_moment (option_and_then moment_of (option_and_then as_str o))) h
 time_to o (Some z) h = ap time_of h.1 ∙ ap spelled_moment h.2
 
@@ -184,11 +184,11 @@ call_from (object ms) call e = cc
 -- a call whose parts are of the right kinds
 record IsFit (call fit : TaskCall) : Type 0 where
   args_same : call.args ≡ fit.args
-  args : IsArray fit.args
+  args : IsJsonArray fit.args
   kwargs_same : call.kwargs ≡ fit.kwargs
-  kwargs : IsObject fit.kwargs
+  kwargs : IsJsonObject fit.kwargs
   embed_same : call.embed ≡ fit.embed
-  embed : IsObject fit.embed
+  embed : IsJsonObject fit.embed
 
 fit_from : (call fit : TaskCall) → fit_call call ≡ Ok fit → IsFit call fit
 unfolding fit_call
@@ -204,7 +204,7 @@ fit_from call fit e =
 same_three : (a a' k k' e e' : Data) → a ≡ a' → k ≡ k' → e ≡ e' → three a k e ≡ three a' k' e'
 same_three a a' k k' e e' p q r = ap (λ x. three x k e) p ∙ ap (λ x. three a' x e) q ∙ ap (λ x. three a' k' x) r
 
-second_from : (headers c : Data) (t : TaskParts) → second_task headers c ≡ Ok t → IsSecond headers c t
+second_from : (headers c : Data) (t : TaskParts) → second_task headers c ≡ Ok t → IsSecondTask headers c t
 unfolding second_task three
 second_from headers c t e =
     let a = bind_ok (needed (BadField part.Body) (call_in c)) _ t e in
@@ -213,7 +213,7 @@ second_from headers c t e =
     let f = bind_ok (fit_call a.0) _ t i.2 in
     let s = bind_ok (settings_in headers) _ t f.2 in
     let fit = fit_from a.0 f.0 f.1 in
-    subst (IsSecond headers c) (same_ok _ t s.2)
+    subst (IsSecondTask headers c) (same_ok _ t s.2)
     (record {
       version = refl;
       name = word_from (codes "task") headers b.0 (needed_is (BadField part.Name) _ b.0 b.1);
@@ -226,7 +226,7 @@ second_from headers c t e =
       embedded = fit.embed;
     })
 
-second_to : (headers c : Data) (t : TaskParts) → IsSecond headers c t → second_task headers c ≡ Ok t
+second_to : (headers c : Data) (t : TaskParts) → IsSecondTask headers c t → second_task headers c ≡ Ok t
 unfolding second_task fit_call
 second_to headers c t h = subst (λ x. second_task headers x ≡ Ok t) (sym h.call) (carried ∙ ap (λ x. Ok x) same)
   where
@@ -250,7 +250,7 @@ name_to : (c : Data) (s : List ℕ) → IsWordAt (codes "task") c s → told_nam
 unfolding told_name
 name_to c s h = rw (ap (option_and_then as_str) h.0, word_is s h.1) refl
 
-first_from : (c : Data) (t : TaskParts) → first_task c ≡ Ok t → IsFirst c t
+first_from : (c : Data) (t : TaskParts) → first_task c ≡ Ok t → IsFirstTask c t
 unfolding first_task
 first_from c t e =
     let n = bind_ok (told_name c) _ t e in
@@ -260,7 +260,7 @@ first_from c t e =
     let s = bind_ok (settings_in c) _ t k.2 in
     let args = array_from (codes "args") c a.0 (needed_is (BadField part.Args) _ a.0 a.1) in
     let kwargs = object_from (codes "kwargs") c k.0 (needed_is (BadField part.Kwargs) _ k.0 k.1) in
-    subst (IsFirst c) (same_ok _ t s.2)
+    subst (IsFirstTask c) (same_ok _ t s.2)
     (record {
       version = refl;
       name = name_from c n.0 n.1;
@@ -272,7 +272,7 @@ first_from c t e =
       kwargs = kwargs.1;
     })
 
-first_to : (c : Data) (t : TaskParts) → IsFirst c t → first_task c ≡ Ok t
+first_to : (c : Data) (t : TaskParts) → IsFirstTask c t → first_task c ≡ Ok t
 unfolding first_task
 first_to c t h = carried ∙ ap (λ x. Ok x) same
   where
@@ -290,19 +290,19 @@ first_to c t h = carried ∙ ap (λ x. Ok x) same
 
 -- ---- both
 
-either_from : (headers c : Data) (t : TaskParts) → task_in headers c ≡ Ok t → IsEither headers c t
+either_from : (headers c : Data) (t : TaskParts) → task_in headers c ≡ Ok t → TellsTask headers c t
 either_from headers c t e = go (get (codes "task") headers) refl e
   where
-    go : (o : Option Data) → get (codes "task") headers ≡ o → (if is_some o then second_task headers c else first_task c) ≡ Ok t → IsEither headers c t
+    go : (o : Option Data) → get (codes "task") headers ≡ o → (if is_some o then second_task headers c else first_task c) ≡ Ok t → TellsTask headers c t
     go None i h = inl (i, first_from c t h)
     go (Some x) i h = inr (second_from headers c t h)
 
-either_to : (headers c : Data) (t : TaskParts) → IsEither headers c t → task_in headers c ≡ Ok t
+either_to : (headers c : Data) (t : TaskParts) → TellsTask headers c t → task_in headers c ≡ Ok t
 either_to headers c t (inl h) = ap (λ o. if is_some o then second_task headers c else first_task c) h.0 ∙ first_to c t h.1
 either_to headers c t (inr h) = ap (λ o. if is_some o then second_task headers c else first_task c) h.name.0 ∙ second_to headers c t h
 
 -- a content that was read
-pub record IsContent (b : List ℕ) (c : Data) : Type 0 where
+pub record IsReadContent (b : List ℕ) (c : Data) : Type 0 where
   pub reads : json_at b ≡ Some c
   pub shallow : depth c ≤ max_levels
   pub whole : has_float c ≡ false
@@ -319,15 +319,15 @@ shallow_from (Some x) c e = go (nat_le (depth x) max_levels) refl e
     go true i h = let k : x ≡ c = cc in let small : depth x ≤ max_levels = grind (arith, nat_tests) in (ap (λ z. Some z) k, subst (λ z. depth z ≤ max_levels) k small)
     go false i h = cc
 
-pub content_from : (b : List ℕ) (c : Data) → content_in b ≡ Ok c → IsContent b c
+pub content_from : (b : List ℕ) (c : Data) → content_in b ≡ Ok c → IsReadContent b c
 unfolding content_in
 content_from b c e =
     let a = bind_ok (needed (BadField part.Body) (option_and_then if_shallow (json_at b))) _ c e in
     let w = bind_ok (wanted Float (not (has_float a.0))) _ c a.2 in
     let s = shallow_from (json_at b) a.0 (needed_is (BadField part.Body) _ a.0 a.1) in
-    subst (IsContent b) (same_ok a.0 c w.2) (record { reads = s.0; shallow = s.1; whole = not_true (has_float a.0) (wanted_is Float _ w.0 w.1) })
+    subst (IsReadContent b) (same_ok a.0 c w.2) (record { reads = s.0; shallow = s.1; whole = not_true (has_float a.0) (wanted_is Float _ w.0 w.1) })
 
-content_to : (b : List ℕ) (c : Data) → IsContent b c → content_in b ≡ Ok c
+content_to : (b : List ℕ) (c : Data) → IsReadContent b c → content_in b ≡ Ok c
 unfolding content_in
 content_to b c h = let t : nat_le (depth c) max_levels ≡ true = let x = h.shallow in grind (arith, nat_tests) in rw (h.reads, t, h.whole) refl
 

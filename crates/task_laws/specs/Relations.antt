@@ -9,58 +9,58 @@ use Rattle.moments.specs.MomentTexts.{moment_of}
 use Rattle.task_message.specs.Tasks.{TaskParts, TaskSettings, headers_in}
 
 -- the value is an array
-abbrev pub IsArray : Data → Type 0
-IsArray d = (ds : Items) × (d ≡ array ds)
+abbrev pub IsJsonArray : Data → Type 0
+IsJsonArray d = (ds : Items) × (d ≡ array ds)
 
 -- the value is an object
-abbrev pub IsObject : Data → Type 0
-IsObject d = (ms : Members) × (d ≡ object ms)
+abbrev pub IsJsonObject : Data → Type 0
+IsJsonObject d = (ms : Members) × (d ≡ object ms)
 
 -- this text stands at a name, and isn't empty
 abbrev pub IsWordAt : List ℕ → Data → List ℕ → Type 0
 IsWordAt k d s = (get k d ≡ Some (string s)) × (1 ≤ length s)
 
 -- a number of 32 bits stands there, or nothing or null for 0
-abbrev pub IsCount : Option Data → ℕ → Type 0
-IsCount o n = ((is_nothing o ≡ true) × (n ≡ 0)) ⊎ ((o ≡ Some (number (unsigned n))) × (n < 2 ^ 32))
+abbrev pub IsRetries : Option Data → ℕ → Type 0
+IsRetries o n = ((is_nothing o ≡ true) × (n ≡ 0)) ⊎ ((o ≡ Some (number (unsigned n))) × (n < 2 ^ 32))
 
 -- the text of a moment stands there, or nothing or null for none
-abbrev pub IsTime : Option Data → Option ℤ → Type 0
-IsTime o None = is_nothing o ≡ true
-IsTime o (Some m) = (text : List ℕ) × (o ≡ Some (string text)) × (moment_of text ≡ Some m)
+abbrev pub IsMoment : Option Data → Option ℤ → Type 0
+IsMoment o None = is_nothing o ≡ true
+IsMoment o (Some m) = (text : List ℕ) × (o ≡ Some (string text)) × (moment_of text ≡ Some m)
 
 -- an object tells the settings of a task
 pub record TellsSettings (d : Data) (s : TaskSettings) : Type 0 where
-  pub retries : IsCount (get (codes "retries") d) s.retries
-  pub eta : IsTime (get (codes "eta") d) s.eta
-  pub expires : IsTime (get (codes "expires") d) s.expires
+  pub retries : IsRetries (get (codes "retries") d) s.retries
+  pub eta : IsMoment (get (codes "eta") d) s.eta
+  pub expires : IsMoment (get (codes "expires") d) s.expires
 
 -- version 2: the headers tell the name, the id and the settings, and the content is an array of the arguments, the keywords and one more object
-pub record IsSecond (headers content : Data) (t : TaskParts) : Type 0 where
+pub record IsSecondTask (headers content : Data) (t : TaskParts) : Type 0 where
   pub version : t.version ≡ 2
   pub name : IsWordAt (codes "task") headers t.name
   pub id : IsWordAt (codes "id") headers t.id
   pub settings : TellsSettings headers t.settings
   pub embed : Data
   pub call : content ≡ array (item t.args (item t.kwargs (item embed no_items)))
-  pub args : IsArray t.args
-  pub kwargs : IsObject t.kwargs
-  pub embedded : IsObject embed
+  pub args : IsJsonArray t.args
+  pub kwargs : IsJsonObject t.kwargs
+  pub embedded : IsJsonObject embed
 
 -- version 1: the content is an object that tells all of the task
-pub record IsFirst (content : Data) (t : TaskParts) : Type 0 where
+pub record IsFirstTask (content : Data) (t : TaskParts) : Type 0 where
   pub version : t.version ≡ 1
   pub name : IsWordAt (codes "task") content t.name
   pub id : IsWordAt (codes "id") content t.id
   pub settings : TellsSettings content t.settings
   pub args_at : get (codes "args") content ≡ Some t.args
-  pub args : IsArray t.args
+  pub args : IsJsonArray t.args
   pub kwargs_at : get (codes "kwargs") content ≡ Some t.kwargs
-  pub kwargs : IsObject t.kwargs
+  pub kwargs : IsJsonObject t.kwargs
 
 -- a task of version 1 where the headers have no member `task`, or one of version 2
-abbrev pub IsEither : Data → Data → TaskParts → Type 0
-IsEither headers content t = ((get (codes "task") headers ≡ None) × IsFirst content t) ⊎ IsSecond headers content t
+abbrev pub TellsTask : Data → Data → TaskParts → Type 0
+TellsTask headers content t = ((get (codes "task") headers ≡ None) × IsFirstTask content t) ⊎ IsSecondTask headers content t
 
 -- an envelope's tree carries the task: its content is JSON that nests at most 100 deep and has no float, and this tree and the headers tell the task
 pub record IsTask (d : Data) (t : TaskParts) : Type 0 where
@@ -68,4 +68,4 @@ pub record IsTask (d : Data) (t : TaskParts) : Type 0 where
   pub reads : json_at (parts_in d).content ≡ Some content
   pub shallow : depth content ≤ max_levels
   pub whole : has_float content ≡ false
-  pub told : IsEither (headers_in d) content t
+  pub told : TellsTask (headers_in d) content t
