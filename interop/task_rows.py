@@ -136,7 +136,20 @@ def main():
     want = envelope({}, compact({**told, "retries": 2, "eta": "2024-05-01T12:03:00.500000+00:00"}))
     want["properties"]["delivery_tag"] = "00000000-0000-0008-0000-000000000001"
     row("again", f"{ETA}\t{json.dumps(envelope(none, json.dumps(told)))}", compact(want))
+    marks = envelope({"redelivered": True}, json.dumps(told))
+    marks["properties"]["delivery_info"]["redelivered"] = False
+    row("again", f"{ETA}\t{json.dumps(marks)}", compact(want))
     row("again", f"{ETA}\t{json.dumps(envelope(none, '[]'))}", "no task")
+
+    # Drafts of what was read, under the tag 7:1. The body of version 2 is written out.
+    want = envelope({"argsrepr": "[2,3]", "eta": headers["eta"], "expires": None, "group": None, "id": "c1", "kwargsrepr": "{}", "lang": "py", "origin": "node",
+                     "parent_id": None, "retries": 0, "root_id": "c1", "task": "tasks.add", "timelimit": [None, None]}, "")
+    want["body"] = "W1syLDNdLHt9LHsiY2FsbGJhY2tzIjpudWxsLCJjaGFpbiI6bnVsbCwiY2hvcmQiOm51bGwsImVycmJhY2tzIjpudWxsfV0="
+    want["properties"]["reply_to"] = ""
+    row("drafts", f"1\t{json.dumps(envelope(headers, json.dumps([[2, 3]] + content[1:])))}", compact(want))
+    want = envelope({}, compact({**told, "expires": "2024-05-01T10:00:00+00:00"}))
+    want["properties"]["reply_to"] = ""
+    row("drafts", f"1\t{json.dumps(envelope(none, json.dumps(told)))}", compact(want))
 
     with open(os.path.join(CRATE, "stdin"), "w", encoding="utf-8") as lines:
         lines.writelines(line + "\n" for line, _ in rows)

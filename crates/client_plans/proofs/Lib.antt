@@ -1,1 +1,3 @@
+pub mod Drafted
+pub mod Named
 pub mod Preparing

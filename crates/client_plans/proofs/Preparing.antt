@@ -19,7 +19,7 @@ use Rattle.client_blocks.specs.declared.left.BlockLeft.{BlockLeft}
 use Rattle.client_plans.specs.declared.fault.PlanFault.{PlanFault}
 use Rattle.client_plans.specs.declared.plan.BegunBlock.{BegunBlock}
 use Rattle.std.proofs.lemmas.List.Folds.{list_all_at}
-use Rattle.task_drafts.proofs.Drafted.{text_of_tag}
+use Rattle.client_plans.proofs.Drafted.{text_of_tag}
 
 -- ---- a publication
 

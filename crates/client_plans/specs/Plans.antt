@@ -13,9 +13,9 @@ use Rattle.client_plans.specs.declared.fault.PlanFault.{PlanFault}
 use Rattle.client_plans.specs.declared.fault.PlanFault.TheVariants.{Bad, Memory}
 use Rattle.client_plans.specs.declared.plan.BegunBlock.{BegunBlock}
 
--- what is begun is built: a publication to no exchange, a pop over 1 to 1,023 queues, or an acknowledgement
+-- what is begun is built: a publication of a named task to no exchange, a pop over 1 to 1,023 queues, or an acknowledgement
 abbrev pub IsBuiltBlock : Asked → Type 0
-IsBuiltBlock (asked.Publish x k p t j) = x ≡ []
+IsBuiltBlock (asked.Publish x k p t j) = (x ≡ []) × (1 ≤ length t)
 IsBuiltBlock (asked.Pop qs) = (1 ≤ length qs) × (length qs ≤ 1023)
 IsBuiltBlock (asked.Ack a b) = Unit {0}
 IsBuiltBlock other = ⊥

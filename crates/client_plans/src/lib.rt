@@ -3,9 +3,11 @@
 //! `schedule_model` defines the tests and their order, and the plan of what is asked for.
 #![tactic(auto)]
 
+mod arguments;
 mod fault;
 mod names;
 mod plan;
+mod task;
 
 pub use fault::PlanFault;
 pub use plan::{BegunBlock, prepared};

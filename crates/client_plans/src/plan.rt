@@ -5,15 +5,17 @@ ghost use Rattle.envelope.specs.Envelopes.{parts_in};
 ghost use Rattle.command_blocks.specs.EnvelopeTexts.{plain_setting};
 ghost use Rattle.queue_keys.specs.Names.{Bytes, is_name, is_reserved};
 ghost use Rattle.command_blocks.specs.Scripts.{publish_script};
-ghost use Rattle.schedule_model.specs.Drafts.{arguments_of};
+ghost use Rattle.schedule_model.specs.Drafts.{arguments_of, if_arguments};
 ghost use Rattle.schedule_model.specs.Faults.{is_no_name};
 ghost use Rattle.client_blocks.specs.Blocks.{script_left};
-ghost use Rattle.task_drafts.specs.Tasks.{envelope_text};
 ghost use Rattle.schedule_model.specs.declared.line.Asked.TheVariants.{Ack, Pop, Publish};
 ghost use Rattle.client_plans.specs.Plans.{IsBuiltBlock, IsPrepared};
+ghost use Rattle.client_plans.specs.Tasks.{envelope_text};
 
 use crate::PlanFault;
+use crate::arguments::arguments_of;
 use crate::names::{has_no_name, has_reserved, is_no_name, queue_names};
+use crate::task::{Publication, sealed_task};
 use client_blocks::BlockLeft;
 use envelope::{Envelope, Tag, Tree};
 use letters::Letters;
@@ -21,7 +23,6 @@ use line_text::Reason;
 use queue_keys::is_reserved;
 use schedule_model::Asked;
 use std::alloc::{AllocError, Global};
-use task_drafts::{Publication, arguments_of, sealed_task};
 use wire_values::{Bytes, Words};
 
 /// A block that was begun, and how many tags its client drew by then.
@@ -89,7 +90,8 @@ fn publication(
     task: &Bytes,
     text: &Bytes,
 ) -> Result<BegunBlock, PlanFault>
-    requires { exchange.now ≡ [] }
+    requires direct { exchange.now ≡ [] }
+    requires named { 1 ≤ length task.now }
     ensures { IsPrepared seed drawn (Publish exchange.now routing_key.now priority task.now text.now) result }
 {
     if is_no_name(routing_key) {
@@ -107,7 +109,7 @@ fn publication(
         priority,
         task: task.as_slice(),
     };
-    sealing(alloc, letters, seed, drawn, &asked, &arguments)
+    sealing(alloc, letters, seed, drawn, &asked, arguments)
 }
 
 /// A publication on the empty exchange by a lawful name, with these arguments.
@@ -117,13 +119,15 @@ fn sealing(
     seed: u64,
     drawn: u64,
     asked: &Publication,
-    arguments: &Tree,
+    arguments: Tree,
 ) -> Result<BegunBlock, PlanFault>
     requires direct { asked.now.exchange.now ≡ [] }
     requires named { is_no_name asked.now.routing_key.now ≡ false }
     requires free { is_reserved asked.now.routing_key.now ≡ false }
+    requires task { 1 ≤ length asked.now.task.now }
+    requires lawful { if_arguments (data_of arguments) ≡ Some (data_of arguments) }
     // Whatever text spells the arguments.
-    ensures { (j : Bytes) → arguments_of j ≡ Some (data_of arguments.now) → IsPrepared seed drawn
+    ensures { (j : Bytes) → arguments_of j ≡ Some (data_of arguments) → IsPrepared seed drawn
         (Publish asked.now.exchange.now asked.now.routing_key.now asked.now.priority asked.now.task.now j) result }
 {
     // No history has room for 2^64 tags.

@@ -2,10 +2,11 @@
 use Rattle.std.proofs.Common.{◌≡◌, ℕ, ◌≤◌, List, [], ◌∷◌, length, codes, Bool, true, false, refl, sym, ap, ◌∙◌, subst, Option, None, Some, arith}
 use Rattle.std.specs.Prelude.{if◌then◌else◌, ◌&&◌, ◌||◌, not, bytes_eq, nat_le, option_map}
 use Rattle.std.specs.List.{join_with_byte, list_all}
+use Rattle.std.proofs.lemmas.Bool.{and_parts}
 use Rattle.std.proofs.lemmas.Bool.Decides.{nat_tests}
 use Rattle.std.proofs.lemmas.Slice.Eq.{bytes_eq-Decides}
 use Rattle.line_text.specs.Numbers.{moment_in, number_in, tag_in}
-use Rattle.line_text.specs.Words.{is_word}
+use Rattle.line_text.specs.Words.{is_visible, is_word}
 use Rattle.queue_keys.specs.Names.{Bytes}
 use Rattle.schedule_model.specs.Built.{block_waits, publication_waits, waits, workers}
 use Rattle.schedule_model.specs.Lines.{asked_in, at_line, begin_line, client_in, client_line, dashed_in, line_in, name_in, of_client, publish_in, queues_in, seed_in, tagged_in, made_of_four, made_of_two}
@@ -40,14 +41,27 @@ built_block a b h e = subst IsBuiltBlock (block_same a b e) h
 
 -- ---- what is begun
 
+few : (n m : ℕ) → nat_le n m ≡ true → n ≤ m
+few n m e = grind (arith, nat_tests)
+
+-- a word isn't empty
+named : (w t : Bytes) → name_in w ≡ Some t → 1 ≤ length t
+named w t e = go (is_word w) refl e
+  where
+    go : (b : Bool) → is_word w ≡ b → (if b then Some w else None) ≡ Some t → 1 ≤ length t
+    go true i f =
+        let same : w ≡ t = cc in
+        subst (λ x. 1 ≤ length x) same (few 1 (length w) (and_parts (nat_le 1 (length w)) (list_all is_visible w) i).0)
+    go false i f = cc
+
 -- a publication, by whether its exchange is a dash
-publish_by : (d : Bool) (x k : Option Bytes) (p : Option ℕ) (t : Option Bytes) (j : Bytes) (a : Asked) → not d ≡ false
+publish_by : (d : Bool) (x k : Option Bytes) (p : Option ℕ) (w : Bytes) (t : Option Bytes) (j : Bytes) (a : Asked) → name_in w ≡ t → not d ≡ false
     → made_of_four (λ x k p t. Publish x k p t j) (if d then Some [] else x) k p t ≡ Some a → IsBuiltBlock a
-publish_by false x k p t j a h e = absurd (true_false h)
-publish_by true x None p t j a h e = no_block a e
-publish_by true x (Some k) None t j a h e = no_block a e
-publish_by true x (Some k) (Some p) None j a h e = no_block a e
-publish_by true x (Some k) (Some p) (Some t) j a h e = built_block (Publish [] k p t j) a refl e
+publish_by false x k p w t j a n h e = absurd (true_false h)
+publish_by true x None p w t j a n h e = no_block a e
+publish_by true x (Some k) None w t j a n h e = no_block a e
+publish_by true x (Some k) (Some p) w None j a n h e = no_block a e
+publish_by true x (Some k) (Some p) w (Some t) j a n h e = built_block (Publish [] k p t j) a (refl, named w t n) e
 
 publish_built : (ws : List Bytes) (a : Asked) → publication_waits workers ws ≡ false → publish_in ws ≡ Some a → IsBuiltBlock a
 publish_built [] a h e = no_block a e
@@ -55,10 +69,7 @@ publish_built (x ∷ []) a h e = no_block a e
 publish_built (x ∷ k ∷ []) a h e = no_block a e
 publish_built (x ∷ k ∷ p ∷ []) a h e = no_block a e
 publish_built (x ∷ k ∷ p ∷ t ∷ []) a h e = no_block a e
-publish_built (x ∷ k ∷ p ∷ t ∷ j ∷ js) a h e = publish_by (bytes_eq x (codes "-")) (name_in x) (dashed_in k) (number_in 0 255 p) (name_in t) (join_with_byte 32 (j ∷ js)) a h e
-
-few : (n m : ℕ) → nat_le n m ≡ true → n ≤ m
-few n m e = grind (arith, nat_tests)
+publish_built (x ∷ k ∷ p ∷ t ∷ j ∷ js) a h e = publish_by (bytes_eq x (codes "-")) (name_in x) (dashed_in k) (number_in 0 255 p) t (name_in t) (join_with_byte 32 (j ∷ js)) a refl h e
 
 some : (q : Bytes) (qs : List Bytes) → 1 ≤ length (q ∷ qs)
 some q qs = omega arith

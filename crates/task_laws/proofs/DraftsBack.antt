@@ -1,27 +1,22 @@
 -- A task that was drafted and sealed is read as the same task.
-use Rattle.std.proofs.Common.{◌≡◌, ◌<◌, ◌≤◌, ◌^◌, ◌∷◌, [], ◌==◌, ◌||◌, ℕ, ℤ, List, length, Bool, true, false, cond, nat_lt, nat_eq, codes, Option, Some, None, Result, Ok, Err, if◌then◌else◌, refl, sym, ap, ◌∙◌, subst, arith, true≢false}
-use Rattle.std.specs.Prelude.{is_some, nat_le, not, option_and_then}
+use Rattle.std.proofs.Common.{◌≡◌, ◌<◌, ◌≤◌, ◌^◌, ◌∷◌, [], ◌==◌, ℕ, ℤ, List, length, Bool, true, false, cond, nat_lt, codes, Option, Some, None, Ok, refl, sym, ap, ◌∙◌, arith, true≢false}
+use Rattle.std.specs.Prelude.{is_some, nat_le}
 use Rattle.std.proofs.lemmas.Bool.Decides.{nat_tests}
-use Rattle.serde_json.specs.Data.{Data, null, boolean, number, unsigned, string, array, object, Items, Members, no_members, depth}
+use Rattle.serde_json.specs.Data.{Data, null, boolean, number, unsigned, string, array, object, no_members, depth}
 use Rattle.serde_json.specs.Find.{as_array, as_object, get}
-use Rattle.serde_json.specs.View.{view as data_of}
-use Rattle.serde_json.specs.Written.{compact_text, has_float}
-use Rattle.envelope.specs.Envelopes.{json_at, max_levels, parts_in, parts_or_none, said_by}
-use Rattle.envelope_trees.specs.Members.{if_object, is_nothing}
-use Rattle.sealed_drafts.specs.Sealed.{seal_of, sealed}
+use Rattle.serde_json.specs.Written.{has_float}
+use Rattle.envelope.specs.Envelopes.{json_at, max_levels, parts_in, parts_or_none}
+use Rattle.envelope_trees.specs.Members.{if_object}
+use Rattle.sealed_drafts.specs.Sealed.{seal_of}
 use Rattle.sealed_drafts.specs.declared.sealing.Draft.{Draft}
 use Rattle.envelope_laws.proofs.SealsSay.{seals_say}
-use Rattle.moments.specs.CivilTimes.{is_within_years}
-use Rattle.moments.specs.MomentTexts.{moment_of, moment_text}
 use Rattle.moments.proofs.MomentsBack.{moments_back}
 use Rattle.task_message.specs.Drafted.{IsDrafted, call_tree, can_draft, drafted_content, drafted_headers, headers_of, is_writable, moment_data, told_tree}
-use Rattle.task_message.specs.Reading.{◌>>=◌, needed, wanted}
-use Rattle.task_message.specs.Tasks.{TaskParts, TaskSettings, call_in, content_in, first_task, fit_call, headers_in, if_32_bits, if_array, if_shallow, if_word, is_second, moment_at, retries_at, second_task, settings_in, spelled_moment, task_in, task_of, told_name}
-use Rattle.task_message.specs.declared.fault.TaskFault.{TaskFault}
-use Rattle.task_message.specs.declared.fault.TaskFault.TheVariants.{BadMoment}
+use Rattle.task_message.specs.Reading.{◌>>=◌}
+use Rattle.task_message.specs.Tasks.{TaskParts, TaskSettings, content_in, first_task, fit_call, headers_in, if_32_bits, if_array, if_word, moment_at, second_task, settings_in, task_in, task_of, told_name}
 use Rattle.task_message.proofs.Draftable.{IsDraftable, content_shallow, content_whole, draftable}
 
-word_is : (s : List ℕ) → 1 ≤ length s → if_word s ≡ Some s
+pub word_is : (s : List ℕ) → 1 ≤ length s → if_word s ≡ Some s
 word_is [] h = absurd (omega arith)
 word_is (b ∷ s) h = refl
 
@@ -41,7 +36,7 @@ object_is (string s) e = absurd (true≢false (sym e))
 object_is (array ds) e = absurd (true≢false (sym e))
 object_is (object ms) e = refl
 
-bits_are : (n : ℕ) → n < 2 ^ 32 → if_32_bits n ≡ Some n
+pub bits_are : (n : ℕ) → n < 2 ^ 32 → if_32_bits n ≡ Some n
 bits_are n h = let t : nat_lt n (2 ^ 32) ≡ true = grind (arith, nat_tests) in rw t refl
 
 -- a moment that may be there is read as it was written

@@ -1,1 +1,4 @@
+pub mod AgainChanges
 pub mod DraftsBack
+pub mod Gone
+pub mod TasksRead

@@ -1,1 +1,3 @@
 pub mod Laws
+pub mod Relations
+pub mod SentAgain

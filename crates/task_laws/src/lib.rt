@@ -1,9 +1,20 @@
-//! Laws of tasks. The body is empty: the clause is the law.
+//! Laws of tasks. Each body is empty: the clause is the law.
 #![tactic(auto)]
 
-ghost use Rattle.task_laws.specs.Laws.{DraftsComeBack};
+ghost use Rattle.task_laws.specs.Laws.{AgainChanges, DraftsComeBack, ReadsTasks};
+
+/// Reading gives a task exactly where the envelope carries it, member by member, in both versions.
+pub fn tasks_read()
+    ensures { ReadsTasks }
+{}
 
 /// A task that was drafted and sealed is read as the same task, in both versions.
 pub fn drafts_come_back()
     ensures { DraftsComeBack }
+{}
+
+/// A task that is sent again has one retry more, another moment and another tag, and no mark; every other member of its
+/// headers or its content, by the version, of the tree, the properties and the delivery_info is as before.
+pub fn again_changes()
+    ensures { AgainChanges }
 {}

@@ -1,5 +1,5 @@
 use Rattle.std.proofs.Common.{rules, ◌≡◌, suc, Some, option_map, sym, ap, ◌∙◌}
-use Rattle.task_drafts.specs.Tasks.{envelope_text}
+use Rattle.client_plans.specs.Tasks.{envelope_text}
 use Rattle.schedule_model.specs.Drafts.{sealed_task}
 use Rattle.client_plans.proofs.Preparing.{bad_task, published}
 use Rattle.client_plans.proofs.plan.sealing.Goals as goal

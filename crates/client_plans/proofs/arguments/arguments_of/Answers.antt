@@ -1,6 +1,6 @@
 use Rattle.std.proofs.Common.{true≢false, sym, ◌∙◌}
-use Rattle.task_drafts.proofs.Drafted.{spelled, unspelled}
-use Rattle.task_drafts.proofs.task.arguments_of.Goals as goal
+use Rattle.client_plans.proofs.Drafted.{spelled, unspelled}
+use Rattle.client_plans.proofs.arguments.arguments_of.Goals as goal
 
 pub returns-in-Ok : goal.returns-in-Ok
 returns-in-Ok c = c.if_arguments.ensures ∙ sym (spelled c.args.text.now _ c.in-Ok.ensures.ok.0 c.in-Ok.ensures.ok.1)

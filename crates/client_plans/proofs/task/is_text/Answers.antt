@@ -1,7 +1,7 @@
 use Rattle.std.proofs.Common.{sym}
 use Rattle.std.proofs.lemmas.Str.{is_utf8-from_IsUtf8}
-use Rattle.task_drafts.proofs.Drafted.{no_text}
-use Rattle.task_drafts.proofs.task.is_text.Goals as goal
+use Rattle.client_plans.proofs.Drafted.{no_text}
+use Rattle.client_plans.proofs.task.is_text.Goals as goal
 
 pub returns-in-Ok : goal.returns-in-Ok
 returns-in-Ok c = sym (is_utf8-from_IsUtf8 c.args.bytes.now c.in-Ok.ensures.cases.1)

@@ -1,20 +1,20 @@
 -- What the draft of a task is sealed to.
-use Rattle.std.proofs.Common.{◌≡◌, ℕ, ℤ, pos, ◌<◌, ◌≤◌, ◌^◌, length, codes, Bool, true, false, ◌&&◌, Option, Some, None, option_map, option_and_then, if◌then◌else◌, Result, Ok, IsUtf8, refl, sym, ap, ◌∙◌, arith}
+use Rattle.std.proofs.Common.{◌≡◌, ℕ, ℤ, pos, ◌<◌, ◌≤◌, ◌^◌, length, codes, Bool, true, false, ◌&&◌, Option, Some, None, is_some, option_map, option_and_then, if◌then◌else◌, Result, Ok, IsUtf8, refl, sym, ap, subst, ◌∙◌, arith}
 use Rattle.std.specs.Prelude.{nat_le, nat_lt, not}
-use Rattle.std.specs.Result.{result_ok}
+use Rattle.std.specs.Result.{IfOk, result_ok}
 use Rattle.std.specs.Str.{is_utf8}
 use Rattle.std.proofs.lemmas.Bool.{and_parts}
 use Rattle.std.proofs.lemmas.Bool.Decides.{nat_tests}
+use Rattle.std.proofs.lemmas.Result.{IfOk-weaker}
 use Rattle.std.proofs.lemmas.Str.{IsUtf8-from_is_utf8, is_utf8-from_IsUtf8}
 use Rattle.base64.specs.Engines.{standard}
 use Rattle.base64.specs.GeneralPurpose.{encode_of}
-use Rattle.serde_json.proofs.OnLiterals.{serde_json_on_literals}
 use Rattle.serde_json.specs.Data.{Data, depth}
-use Rattle.serde_json.specs.Find.{get}
+use Rattle.serde_json.specs.Find.{as_array, get}
 use Rattle.serde_json.specs.Read.{read}
 use Rattle.serde_json.specs.View.{view as data_of}
 use Rattle.serde_json.specs.Written.{compact_text, has_float}
-use Rattle.envelope.specs.Envelopes.{are_short, max_bytes, max_text}
+use Rattle.envelope.specs.Envelopes.{are_short, json_at, max_bytes, max_text}
 use Rattle.envelope_trees.specs.Marks.{marked}
 use Rattle.envelope_trees.specs.Members.{if_object, is_nothing}
 use Rattle.envelope_trees.specs.Reading.{◌>>=◌, needed, wanted}
@@ -27,11 +27,14 @@ use Rattle.envelope_trees.specs.declared.fault.EnvelopeFault.{EnvelopeFault}
 use Rattle.envelope_trees.specs.declared.fault.EnvelopeFault.TheVariants.{TooLong, TooDeep, Float, Missing, Compressed, BadBody}
 use Rattle.sealed_drafts.specs.declared.sealing.Draft.{Draft}
 use Rattle.delivery_tags.proofs.SeedTags.{tag_is}
+use Rattle.delivery_tags.proofs.TagTexts.{tag_ascii}
+use Rattle.uuid.proofs.TextLemmas.{by_index_length}
 use Rattle.envelope.proofs.Texts.{json_some, json_none}
 use Rattle.queue_keys.specs.Names.{Bytes}
 use Rattle.schedule_model.specs.Drafts.{are_told, are_texts, are_within, arguments_of, content_tree, headers_tree, if_arguments, if_sealed, sealed_task, task_tree}
-use Rattle.schedule_model.proofs.ArgumentTrees.{arguments_known}
-use Rattle.task_drafts.specs.Tasks.{IsDraftOf, content_around, envelope_text}
+use Rattle.task_message.specs.Drafted.{IsDrafted, can_draft}
+use Rattle.task_message.specs.Tasks.{TaskParts}
+use Rattle.client_plans.specs.Tasks.{IsDraftOf, envelope_text, published_task}
 
 -- ---- arguments
 
@@ -44,6 +47,47 @@ spelled j d utf8 e = ap (option_and_then if_arguments) (json_some j d utf8 e)
 pub unspelled : (j : Bytes) → (IsUtf8 j → read j ≡ None) → arguments_of j ≡ None
 unfolding arguments_of
 unspelled j f = ap (option_and_then if_arguments) (json_none j f)
+
+-- the arguments of a text may be arguments
+pub may_be : (j : Bytes) (d : Data) → arguments_of j ≡ Some d → if_arguments d ≡ Some d
+unfolding arguments_of
+may_be j d h = go (json_at j) h
+  where
+    same : (e : Data) (t : Bool) → (is_some (as_array e) && not (has_float e) && nat_le (depth e) 90) ≡ t → (if t then Some e else None) ≡ Some d → if_arguments d ≡ Some d
+    same e true i f = let k : e ≡ d = cc in subst (λ x. if_arguments x ≡ Some x) k (ap (λ t. if t then Some e else None) i)
+    same e false i f = cc
+
+    go : (o : Option Data) → option_and_then if_arguments o ≡ Some d → if_arguments d ≡ Some d
+    go None f = cc
+    go (Some e) f = same e _ refl f
+
+fit : (d : Data) → if_arguments d ≡ Some d → (is_some (as_array d) && not (has_float d) && nat_le (depth d) 90) ≡ true
+fit d h = go _ h
+  where
+    go : (t : Bool) → (if t then Some d else None) ≡ Some d → t ≡ true
+    go true f = refl
+    go false f = cc
+
+-- a task with them can be drafted
+pub can_publish : (n : ℕ) (name : Bytes) (args : Data) → IsUtf8 name → 1 ≤ length name → if_arguments args ≡ Some args → can_draft (published_task (tag_text n) name args) ≡ true
+can_publish n name args text some lawful =
+    let a = and_parts (is_some (as_array args) && not (has_float args)) (nat_le (depth args) 90) (fit args lawful) in
+    let b = and_parts (is_some (as_array args)) (not (has_float args)) a.0 in
+    let named : nat_le 1 (length name) ≡ true = grind (arith, nat_tests) in
+    let long : length (tag_text n) ≡ 36 = by_index_length 36 _ in
+    let filled : nat_le 1 (length (tag_text n)) ≡ true = ap (nat_le 1) long in
+    rw (is_utf8-from_IsUtf8 name text, named, is_utf8-from_IsUtf8 (tag_text n) (tag_ascii n), filled, b.0, b.1, a.1) refl
+
+-- its draft, sent with a priority z that is one of a byte
+pub draft_made : {E : Type 0} (r : Result Draft E) (t : TaskParts) (exchange routing_key : Bytes) (z : ℤ) (id : Bytes) (priority : ℕ) (task : Bytes) (args : Data)
+    → IfOk r (IsDrafted t exchange routing_key z) → t ≡ published_task id task args → z ≡ pos priority → priority ≤ 255 → IfOk r (IsDraftOf id exchange routing_key priority task args)
+draft_made r t exchange routing_key z id priority task args made same number byte =
+    IfOk-weaker r (IsDrafted t exchange routing_key z) (IsDraftOf id exchange routing_key priority task args)
+    (λ draft h. record {
+      drafted = subst (λ u. IsDrafted u exchange routing_key (pos priority) draft) same (subst (λ y. IsDrafted t exchange routing_key y draft) number h);
+      is_byte = byte;
+    })
+    made
 
 -- ---- the seal
 
@@ -82,25 +126,33 @@ same_trees c c' h h' x x' k k' i i' p p' t a b e f g q =
     ∙ ap (λ z. sealed_tree (encode_of standard c') h' (sealed_properties (sealed_info x' k') z p t)) g
     ∙ ap (λ z. sealed_tree (encode_of standard c') h' (sealed_properties (sealed_info x' k') i' z t)) q
 
-module _ (n : ℕ) (exchange routing_key : Bytes) (priority : ℕ) (task : Bytes) (args : Data) (draft : Draft) (is : IsDraftOf (tag_text n) exchange routing_key priority task args draft) (whole : has_float args ≡ false) where
+-- what reads as a tree is a text
+reads_text : (b : Bytes) (d : Data) → json_at b ≡ Some d → is_utf8 b ≡ true
+reads_text b d e = go (is_utf8 b) refl e
+  where
+    go : (t : Bool) → is_utf8 b ≡ t → (if t then read b else None) ≡ Some d → is_utf8 b ≡ true
+    go true i f = i
+    go false i f = cc
+
+module _ (n : ℕ) (exchange routing_key : Bytes) (priority : ℕ) (task : Bytes) (args : Data) (draft : Draft) (is : IsDraftOf (tag_text n) exchange routing_key priority task args draft) where
   abbrev tree : Data
   tree = task_tree (tag_text n) exchange routing_key priority task args
 
   -- the draft of a task makes the task's tree
   sealed_as : sealed draft n ≡ tree
   sealed_as =
-      same_trees draft.content _ (data_of draft.headers) (headers_tree (tag_text n) task args) draft.exchange exchange draft.routing_key routing_key draft.id (tag_text n) draft.priority (pos priority) (tag_text n)
-      (is.content whole) (is.headers whole) is.exchange_is is.routing_key_is is.id is.priority_is
+      same_trees draft.content (compact_text (content_tree args)) (data_of draft.headers) (headers_tree (tag_text n) task args) draft.exchange exchange draft.routing_key routing_key draft.id (tag_text n) draft.priority (pos priority) (tag_text n)
+      is.drafted.content is.drafted.headers is.drafted.exchange_is is.drafted.routing_key_is is.drafted.id is.drafted.priority_is
 
   -- and it is sealed where that is short enough
   seal_is : result_ok (seal_of draft n) ≡ (if are_within exchange routing_key tree then Some tree else None)
   unfolding seal_of
   seal_is =
-      ap (λ h. result_ok (steps h draft.content draft.exchange draft.routing_key (sealed draft n))) (is.headers whole)
-      ∙ ap (λ x. result_ok (steps (headers_tree (tag_text n) task args) draft.content x draft.routing_key (sealed draft n))) is.exchange_is
-      ∙ ap (λ k. result_ok (steps (headers_tree (tag_text n) task args) draft.content exchange k (sealed draft n))) is.routing_key_is
+      ap (λ h. result_ok (steps h draft.content draft.exchange draft.routing_key (sealed draft n))) is.drafted.headers
+      ∙ ap (λ x. result_ok (steps (headers_tree (tag_text n) task args) draft.content x draft.routing_key (sealed draft n))) is.drafted.exchange_is
+      ∙ ap (λ k. result_ok (steps (headers_tree (tag_text n) task args) draft.content exchange k (sealed draft n))) is.drafted.routing_key_is
       ∙ ap (λ d. result_ok (steps (headers_tree (tag_text n) task args) draft.content exchange routing_key d)) sealed_as
-      ∙ steps_of_task (tag_text n) task args draft.content exchange routing_key tree (is_utf8-from_IsUtf8 draft.content is.is_text)
+      ∙ steps_of_task (tag_text n) task args draft.content exchange routing_key tree (reads_text draft.content (content_tree args) is.drafted.reads)
 
 -- ---- the task
 
@@ -146,7 +198,7 @@ module _ (s n m : ℕ) (exchange routing_key : Bytes) (priority : ℕ) (task j :
       let told : are_told (tag s n) exchange routing_key priority task ≡ true = rw (texts, known, byte) refl in
       let d = task_tree (tag_text m) exchange routing_key priority task args in
       envelope_texts made
-      ∙ ap (option_map compact_text) (sealed_so ∙ seal_is m exchange routing_key priority task args draft is (arguments_known j args spells).whole)
+      ∙ ap (option_map compact_text) (sealed_so ∙ seal_is m exchange routing_key priority task args draft is)
       ∙ tree_text (are_within exchange routing_key d) d
       ∙ ap text_under (ap tag_text same ∙ text_of_tag s n a b)
       ∙ sym (told_text told spells)
@@ -156,16 +208,6 @@ pub unsealed : (s n : ℕ) (exchange routing_key : Bytes) (priority : ℕ) (task
     → None ≡ sealed_task s n exchange routing_key priority task j
 unfolding sealed_task
 unsealed s n exchange routing_key priority task j args texts spells = sym (ap (option_and_then (if_sealed (tag s n) exchange routing_key priority task)) spells ∙ rw texts refl)
-
--- ---- texts
-
--- a task's content around the text of its arguments
-pub content_text : (d : Data) → compact_text (content_tree d) ≡ content_around (compact_text d)
-unfolding serde_json_on_literals
-content_text d = refl
-
-pub same_headers : (t t' task task' : Bytes) (d : Data) → t ≡ t' → task ≡ task' → headers_tree t task d ≡ headers_tree t' task' d
-same_headers t t' task task' d a b = ap (λ x. headers_tree x task d) a ∙ ap (λ x. headers_tree t' x d) b
 
 -- bytes that aren't UTF-8
 pub no_text : (b : Bytes) → (IsUtf8 b → ⊥) → is_utf8 b ≡ false

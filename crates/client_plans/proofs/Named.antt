@@ -19,7 +19,7 @@ use Rattle.sealed_drafts.specs.declared.sealing.Draft.{Draft}
 use Rattle.envelope.proofs.Said.{bind_ok, said_is}
 use Rattle.envelope.proofs.Told.{told_by}
 use Rattle.queue_keys.specs.Names.{Bytes}
-use Rattle.task_drafts.specs.Tasks.{Names}
+use Rattle.client_plans.specs.Tasks.{Names}
 
 same_some : {A : Type 0} (x y : A) → ◌≡◌ {A = Option A} (Some x) (Some y) → x ≡ y
 same_some x y e = cc

@@ -1,6 +1,6 @@
-use Rattle.task_drafts.proofs.Named.{names_sealed}
+use Rattle.client_plans.proofs.Named.{names_sealed}
 use Rattle.serde_json.specs.View.{view as data_of}
-use Rattle.task_drafts.proofs.task.sealed_draft.Goals as goal
+use Rattle.client_plans.proofs.task.sealed_draft.Goals as goal
 
 pub returns-in-Ok-clause-names : goal.returns-in-Ok-clause-names
 returns-in-Ok-clause-names c = names_sealed c.args.draft.now c.args.tag.0 (data_of c.in-Ok.envelope) c.in-Ok.ensures c.tree-tree.ensures.said
