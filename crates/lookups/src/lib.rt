@@ -6,4 +6,4 @@ mod patterns;
 mod queues;
 
 pub use patterns::matches;
-pub use queues::{lookup, queues_for, route_keys};
+pub use queues::{lawful_name, lookup, queues_for, route_keys};
