@@ -4,6 +4,8 @@
 #[cfg(test)]
 mod cores;
 #[cfg(test)]
+mod exchanges;
+#[cfg(test)]
 mod rows;
 #[cfg(test)]
 mod talk;

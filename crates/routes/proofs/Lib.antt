@@ -1,2 +1,6 @@
-pub mod Direct
-pub mod Publishes
+mod Answered
+mod Cycles
+mod Declares
+mod Direct
+mod Limits
+mod Publishes

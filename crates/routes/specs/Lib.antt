@@ -1,1 +1,5 @@
+pub mod Bringing
+pub mod Cycles
+pub mod Declares
+pub mod Named
 pub mod Publishes
