@@ -23,7 +23,7 @@ place_none p xs h = by (nat_lt (position_or_len p xs) (length xs)) refl h where
   by false t e = grind (arith, nat_tests, t)
 
 -- each text has a first word
-words_there : (t : Bytes) → (w : Bytes) × (ws : List Bytes) × (dotted_words t ≡ w ∷ ws)
+pub words_there : (t : Bytes) → (w : Bytes) × (ws : List Bytes) × (dotted_words t ≡ w ∷ ws)
 words_there [] = ([], [], refl)
 words_there (b ∷ t) =
     let h = words_there t in

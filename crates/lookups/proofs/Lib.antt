@@ -1,3 +1,4 @@
 mod Dots
 mod Members
 mod Places
+mod Runs

@@ -1,3 +1,4 @@
 pub mod Parts
+pub mod Runs
 pub mod Standings
 pub mod WordsLeft

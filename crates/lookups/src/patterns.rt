@@ -1,6 +1,7 @@
 //! Patterns of routing keys (topics of AMQP): words between dots, of which `*` is any one and `#` none or more.
 ghost use Rattle.std.specs.Prelude.{◌≡◌, ◌∷◌, ◌≤◌, length, position, ◌==◌};
-ghost use Rattle.queue_keys.specs.Patterns.{any_end, dotted_words, first_and, matches, word_matches, words_match};
+ghost use Rattle.queue_keys.specs.Patterns.{any_end, dotted_words, matches, word_matches, words_match};
+ghost use Rattle.lookups.specs.Runs.{HasRun};
 ghost use Rattle.lookups.specs.WordsLeft.{text_length, told, words_in};
 
 use crate::bindings::after;
@@ -8,61 +9,80 @@ use queue_keys::are_same;
 
 /// Whether a pattern matches a routing key; takes no memory.
 ///
-/// Each `#` is tried at all places where it may end, so the steps of a pattern with k of them and a key of n words
-/// are at most about n to the power of k.
+/// The words after a `#`, up to the next one, are tried at each word of the key until they pass,
+/// and no earlier choice is tried again after that. So with m words of the pattern and n of the key
+/// at most m * (n + 2) words are compared.
 #[tactic(auto, unfolding(queue_keys::specs::Patterns::matches))]
 pub fn matches(pattern: &[u8], routing_key: &[u8]) -> bool
     ensures { result ≡ matches pattern.now routing_key.now }
 {
-    words_match(Some(pattern), Some(routing_key))
+    match pass_words(Some(pattern), Some(routing_key)) {
+        Run::Whole => true,
+        Run::Stopped => false,
+        Run::Hash(others, left) => any_end(others, left),
+    }
 }
 
-/// Whether the words of a key pass those of a pattern; without a text there are no words.
-#[cycle(words)]
-fn words_match(pattern: Option<&[u8]>, key: Option<&[u8]>) -> bool
-    ensures { result ≡ words_match (words_in (told pattern.entry)) (words_in (told key.entry)) }
+/// How far a pattern's words before its first `#` pass the first words of a key.
+#[derive(Clone, Copy)]
+pub(crate) enum Run<'a> {
+    /// The pattern has no `#`, and its words pass all those of the key.
+    Whole,
+    /// They don't pass.
+    Stopped,
+    /// They pass up to a `#`: what the pattern has after it, and what is left of the key.
+    Hash(Option<&'a [u8]>, Option<&'a [u8]>),
+}
+
+/// Whether some end of a key's words passes the words of a pattern; without a text there are no words.
+fn any_end(pattern: Option<&[u8]>, key: Option<&[u8]>) -> bool
+    ensures { result ≡ any_end (words_match (words_in (told pattern.entry))) (words_in (told key.entry)) }
 {
-    match pattern {
-        None => key.is_none(),
-        Some(text) => {
-            let (word, others) = first_word(text);
-            if are_same(b"#", word) {
-                any_end(others, key)
-            } else {
-                first_passes(word, others, key)
+    let mut others = pattern;
+    let mut left = key;
+    'ends: loop {
+        match pass_words(others, left) {
+            Run::Whole => return true,
+            Run::Hash(next, rest) => {
+                others = next;
+                left = rest;
+            }
+            Run::Stopped => {
+                let Some(text) = left else {
+                    return false;
+                };
+                let (_, rest) = first_word(text);
+                left = rest;
             }
         }
     }
 }
 
-/// Whether the first word of a key passes this word, and the others the words of a pattern.
-#[cycle(words)]
-fn first_passes(word: &[u8], others: Option<&[u8]>, key: Option<&[u8]>) -> bool
-    ensures { result ≡ first_and (word_matches word.now) (words_match (words_in (told others.entry))) (words_in (told key.entry)) }
+/// Has the words of a pattern pass the first words of a key, up to the first `#`.
+fn pass_words<'a>(pattern: Option<&'a [u8]>, key: Option<&'a [u8]>) -> Run<'a>
+    ensures { HasRun (told pattern.entry) (told key.entry) result }
 {
-    match key {
-        None => false,
-        Some(text) => {
-            let (found, rest) = first_word(text);
-            word_passes(word, found) && words_match(others, rest)
-        }
-    }
-}
-
-/// Whether some end of a key's words passes the words of a pattern.
-#[cycle(words)]
-fn any_end(pattern: Option<&[u8]>, key: Option<&[u8]>) -> bool
-    ensures { result ≡ any_end (words_match (words_in (told pattern.entry))) (words_in (told key.entry)) }
-{
+    let mut words = pattern;
     let mut left = key;
-    'ends: while let Some(text) = left {
-        if words_match(pattern, left) {
-            return true;
+    'words: while let Some(text) = words {
+        let (word, others) = first_word(text);
+        if are_same(b"#", word) {
+            return Run::Hash(others, left);
         }
-        let (_, rest) = first_word(text);
+        let Some(key_text) = left else {
+            return Run::Stopped;
+        };
+        let (found, rest) = first_word(key_text);
+        if !word_passes(word, found) {
+            return Run::Stopped;
+        }
+        words = others;
         left = rest;
     }
-    words_match(pattern, None)
+    match left {
+        None => Run::Whole,
+        Some(_) => Run::Stopped,
+    }
 }
 
 /// Whether a word passes: any where the pattern has `*`, else the same.

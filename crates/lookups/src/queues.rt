@@ -131,7 +131,10 @@ fn standing(queues: &[QueueName], name: &[u8]) -> (usize, bool)
 }
 
 /// The queue of a lawful name.
-fn lawful_name(alloc: Global, name: &[u8]) -> Result<QueueName, AllocError>
+///
+/// # Errors
+/// Want of memory.
+pub fn lawful_name(alloc: Global, name: &[u8]) -> Result<QueueName, AllocError>
     requires { is_name name.now ≡ true }
     ensures { IfOk result (λ queue. queue ≡ name.now) }
 {

@@ -1,2 +1,6 @@
-pub mod Direct
-pub mod Publishes
+mod Cycles
+mod Declares
+mod Direct
+mod Heards
+mod Limits
+mod Publishes

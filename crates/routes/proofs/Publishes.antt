@@ -1,36 +1,46 @@
--- What the push of a publication brings and tells.
-use Rattle.std.proofs.Common.{◌≡◌, ℕ, ℤ, suc, List, [], ◌∷◌, ◌++◌, length, Option, None, Some, Ok, refl, sym, ap}
+-- How a publication begins.
+use Rattle.std.proofs.Common.{◌≡◌, ℕ, suc, true, [], ◌∷◌, None, Some, Ok, refl, sym, ◌∙◌}
 use Rattle.serde_json.specs.Data.{Data}
-use Rattle.serde_json.specs.View.{view as data_of}
 use Rattle.serde_json.specs.Written.{compact_text}
-use Rattle.envelope.specs.Envelopes.{parts_in, envelope_at}
-use Rattle.delivery_tags.specs.declared.tag.Tag.{Tag}
-use Rattle.command_blocks.specs.Calls.{Call}
-use Rattle.command_blocks.specs.EnvelopeTexts.{plain_setting}
-use Rattle.command_blocks.specs.Scripts.{Over, Plan, Declare, Undeclare, Publish, Pop, End, Return, Pass, if_told}
-use Rattle.block_core.specs.Stages.{TellsOn, progress_left}
+use Rattle.envelope.specs.Envelopes.{envelope_at, parts_in}
 use Rattle.block_laws.specs.Rows.{IsPublication}
-use Rattle.routes.specs.Publishes.{GoesDirectly, PublishHad, TellsPublish, direct_key, pushed_by, push_stage_left}
-use Rattle.routes.specs.declared.stage.PublishStage.{PublishStage}
-use Rattle.routes.proofs.Direct.{direct_keys}
+use Rattle.command_blocks.specs.EnvelopeTexts.{plain_setting}
+use Rattle.command_blocks.specs.Scripts.{publish_script}
+use Rattle.command_blocks.specs.Setting.{named_or_none}
+use Rattle.queue_keys.specs.Names.{Bytes}
+use Rattle.routes.specs.Named.{is_named}
+use Rattle.routes.specs.Publishes.{GoesDirectly, IsFirst, IsPublishable, PublishingHad, direct_key, publishing_left}
+use Rattle.routes.specs.declared.route.Publishing.{Publishing}
+use Rattle.routes.specs.declared.route.Publishing.TheVariants.{Direct, Asking, Pushing}
+use Rattle.routes.proofs.Direct.{direct_keys, direct_script, exchange_is, named_script}
 
--- what an answer to the push brought is left
-pub pushed_left : (tag : Tag) (o : Option ℤ) → progress_left push_stage_left (pushed_by tag o) ≡ if_told (λ (z : ℤ). Over) o
-pushed_left tag None = refl
-pushed_left tag (Some z) = refl
+-- a name that is empty
+no_name : (e : Bytes) → named_or_none e ≡ None → e ≡ []
+no_name [] h = refl
+no_name (b ∷ e) h = absurd (cc)
 
--- and tells of one queue
-pub pushed_tells : (plan : Plan) (calls : List Call) (last : Call) (stage : PublishStage) (tag : Tag) (o : Option ℤ) → tag.0 ≡ (parts_in (data_of stage.envelope)).tag → PublishHad plan calls stage
-    → TellsOn (PublishHad plan) (TellsPublish plan) (calls ++ last ∷ []) (pushed_by tag o)
-pushed_tells plan calls last stage tag None is h = tt
-pushed_tells (Publish v) calls last stage tag (Some z) is h = (data_of stage.envelope, h.1, is, sym (ap (λ l. length (l ++ last ∷ [])) h.0))
-pushed_tells (Declare e r x q) calls last stage tag (Some z) is h = absurd h
-pushed_tells (Undeclare e r x q) calls last stage tag (Some z) is h = absurd h
-pushed_tells (Pop names) calls last stage tag (Some z) is h = absurd h
-pushed_tells (End t) calls last stage tag (Some z) is h = absurd h
-pushed_tells (Return side t) calls last stage tag (Some z) is h = absurd h
-pushed_tells (Pass v) calls last stage tag (Some z) is h = absurd h
+module _ (d : Data) (h : IsPublishable d) where
+  goes_directly : (parts_in d).exchange ≡ [] → GoesDirectly d
+  goes_directly e = record { exchange = e; queue = h e }
 
--- an envelope that goes directly is published lawfully under the next tag
-pub lawful_push : (d : Data) → GoesDirectly d → envelope_at (compact_text d) ≡ Ok d → (s n : ℕ) → plain_setting.written_tag (compact_text d) ≡ Some (plain_setting.tag s (suc n)) → IsPublication plain_setting s n (compact_text d)
-lawful_push d h again s n tag = record { tag = tag; key = λ none. (direct_key d, direct_keys d h again) }
+  pub first_named : (next : Publishing) → IsFirst (parts_in d).exchange next → is_named d next ≡ true
+  first_named Direct f = h f
+  first_named Asking f = refl
+  first_named (Pushing route) f = absurd f
+
+  pub first_left : (next : Publishing) → envelope_at (compact_text d) ≡ Ok d → IsFirst (parts_in d).exchange next → publishing_left d next ≡ publish_script plain_setting (compact_text d)
+  first_left Direct again f = sym (direct_script d again (goes_directly f))
+  first_left Asking again f = sym (named_script d again (parts_in d).exchange f)
+  first_left (Pushing route) again f = absurd f
+
+  pub first_had : (next : Publishing) → IsFirst (parts_in d).exchange next → PublishingHad d [] next
+  first_had Direct f = (refl, goes_directly f)
+  first_had Asking f = (refl, f)
+  first_had (Pushing route) f = absurd f
+
+  -- its plan is lawful
+  pub lawful_publication : envelope_at (compact_text d) ≡ Ok d → (s n : ℕ) → plain_setting.written_tag (compact_text d) ≡ Some (plain_setting.tag s (suc n)) → IsPublication plain_setting s n (compact_text d)
+  lawful_publication again s n e = record {
+    tag = e;
+    key = λ none. (direct_key d, direct_keys d again (goes_directly (no_name (parts_in d).exchange (sym (exchange_is d again) ∙ none))));
+  }

@@ -1,66 +1,76 @@
-//! A publication: a message is pushed to the list of its queue.
-ghost use Rattle.std.specs.Prelude.{◌≡◌, ◌∷◌, [], ℕ, suc, true, codes, IfOk, Some, None};
+//! A publication: a message is pushed to the lists of its queues.
+ghost use Rattle.std.specs.Prelude.{◌≡◌, ◌∷◌, ◌+◌, [], ℕ, suc, true, codes, drop, IfOk, Some, None};
 ghost use Rattle.wire_grammar.specs.Fits.{IsWithinLimits};
-ghost use Rattle.command_blocks.specs.Answers.{number_of};
 ghost use Rattle.command_blocks.specs.EnvelopeTexts.{plain_setting};
-ghost use Rattle.command_blocks.specs.Scripts.{Publish, publish_script};
+ghost use Rattle.command_blocks.specs.Scripts.{Publish, next_words, publish_script};
 ghost use Rattle.block_core.specs.Cores.{core_end};
 ghost use Rattle.block_laws.specs.Rows.{IsLawfulPlan};
-ghost use Rattle.envelope.specs.Envelopes.{parts_in};
-ghost use Rattle.queue_keys.specs.Names.{is_name};
-ghost use Rattle.routes.specs.Publishes.{GoesDirectly, HasPublishing, direct_key, publish_left, pushed_by};
+ghost use Rattle.envelope.specs.Envelopes.{parts_in, priority_of};
+ghost use Rattle.queue_keys.specs.Layouts.{plain, step_of};
+ghost use Rattle.queue_keys.specs.QueueKeys.{queue_key};
+ghost use Rattle.routes.specs.Named.{is_named};
+ghost use Rattle.routes.specs.Publishes.{HasPublishing, IsFirst, IsProgress, IsPublishable, publish_left, publishing_left};
 ghost use Rattle.serde_json.specs.View.{view as data_of};
 ghost use Rattle.serde_json.specs.Written.{compact_text};
 
+use crate::heard::{Heard, hear};
+use crate::route::{Publishing, Route};
 use crate::stage::PublishStage;
 use block_core::{BlockCore, Progress, Stage};
-use command_blocks::answer::integer;
-use envelope::{Envelope, Tag, write};
-use queue_keys::{NameFault, QueueName, queue_key, step_of};
+use block_words::{three_words, two_words};
+use envelope::{Envelope, Tag};
+use lookups::{binding_key, lawful_name};
+use queue_keys::{QueueName, queue_key, step_of};
 use std::alloc::{AllocError, Global};
-use wire_values::{Bytes, Value, Words};
+use wire_values::{Value, Words};
 
-/// The publication of a message that goes to its queue directly, by the empty exchange.
-pub type PublishCore = BlockCore<PublishStage, Sent>;
+/// The publication of a message: on the empty exchange one LPUSH to the queue that its routing key names; on any other
+/// SMEMBERS of the exchange's bindings, and an LPUSH to each queue that the routing key goes to by them.
+pub type PublishCore = BlockCore<PublishStage, PublishEnd>;
 
-/// The end of a publication: the message of this tag was pushed to so many queues.
+/// How a publication ended.
 #[derive(Clone, Copy, Debug, Drop)]
-pub struct Sent {
-    pub tag: Tag,
-    pub queues: u32,
+pub enum PublishEnd {
+    /// The message of this tag was pushed to so many queues, one at least.
+    Sent { tag: Tag, queues: u64 },
+    /// No binding of its exchange takes the message of this tag to a queue.
+    NoQueue(Tag),
 }
 
 impl Stage for PublishStage {
-    ghost use Rattle.std.specs.Prelude.{refl};
-    ghost use Rattle.routes.specs.Publishes.{PublishHad, TellsPublish, push_stage_left};
+    ghost use Rattle.routes.specs.Publishes.{PublishHad, TellsPublish, publish_stage_left, publishing_says};
+    ghost use Rattle.serde_json.specs.View.{view as data_of};
 
-    type End = Sent;
+    type End = PublishEnd;
 
-    ghost left = { push_stage_left };
+    ghost left = { publish_stage_left };
 
     ghost had = { PublishHad };
 
     ghost tells = { TellsPublish };
 
     fn words(&self, alloc: Global, _at: u64) -> Result<Words, AllocError> {
-        push_words(alloc, &self.envelope)
+        publishing_words(alloc, &self.envelope, &self.next)
     }
 
     fn answered(
         self,
-        _alloc: Global,
+        alloc: Global,
         answer: &Value,
-    ) -> Result<Progress<PublishStage, Sent>, AllocError> {
-        Ok(pushed(self.envelope.tag(), answer))
+    ) -> Result<Progress<PublishStage, PublishEnd>, AllocError> {
+        let envelope = self.envelope;
+        let heard = hear(alloc, &envelope, self.next, answer)?;
+        Ok(progress(envelope, heard))
     }
 
-    ghost says = { λ stage. refl };
+    ghost says = { λ stage. publishing_says (data_of stage.envelope) stage.next };
 }
 
-/// The publication of an envelope on the empty exchange, whose routing key is the lawful name of a queue; takes no
-/// memory.
+/// The publication of an envelope; takes no memory.
+///
+/// On the empty exchange its routing key is the lawful name of a queue.
 pub fn publish_core(envelope: Envelope) -> PublishCore
-    requires { GoesDirectly (data_of envelope) }
+    requires { IsPublishable (data_of envelope) }
     ensures left { publish_left result ≡ publish_script plain_setting (compact_text (data_of envelope)) }
     ensures end { core_end result ≡ None }
     // The plan is lawful for each client whose next tag is the envelope's.
@@ -70,73 +80,83 @@ pub fn publish_core(envelope: Envelope) -> PublishCore
 {
     // The text is read again as the same envelope.
     let _text = envelope.text();
-    BlockCore::new(PublishStage { envelope })
+    let next = first_of(envelope.exchange());
+    BlockCore::new(PublishStage { envelope, next })
 }
 
-/// What an answer to the push of the message of this tag brings.
-fn pushed(tag: Tag, answer: &Value) -> Progress<PublishStage, Sent>
-    ensures { result ≡ pushed_by tag (number_of answer.now) }
+/// Which command of a publication on this exchange is the first.
+fn first_of(exchange: &[u8]) -> Publishing
+    ensures { IsFirst exchange.now result }
 {
-    match integer(answer) {
-        Some(_) => Progress::Over(Sent { tag, queues: 1 }),
-        None => Progress::Refused,
+    if exchange.is_empty() {
+        Publishing::Direct
+    } else {
+        Publishing::Asking
     }
 }
 
-/// The words that push an envelope to the list of its queue.
-fn push_words(alloc: Global, e: &Envelope) -> Result<Words, AllocError>
-    requires { is_name (parts_in (data_of e.now)).routing_key ≡ true }
-    ensures words { IfOk result (λ words. let d = data_of e.now in
-        words ≡ codes "LPUSH" ∷ direct_key d ∷ compact_text d ∷ []) }
+/// How the publication of an envelope goes on by what was heard.
+fn progress(envelope: Envelope, heard: Heard) -> Progress<PublishStage, PublishEnd>
+    ensures { IsProgress (data_of envelope) heard result }
+{
+    match heard {
+        Heard::Next(route) => Progress::Next(PublishStage {
+            envelope,
+            next: Publishing::Pushing(route),
+        }),
+        Heard::Over(end) => Progress::Over(end),
+        Heard::Refused => Progress::Refused,
+    }
+}
+
+/// The words of the next command of an envelope's publication.
+fn publishing_words(
+    alloc: Global,
+    envelope: &Envelope,
+    next: &Publishing,
+) -> Result<Words, AllocError>
+    requires { is_named (data_of envelope.now) next.now ≡ true }
+    ensures words { IfOk result (λ words. (at : ℕ)
+        → Some words ≡ next_words (publishing_left (data_of envelope.now) next.now) at) }
     ensures limits { IfOk result (λ words. IsWithinLimits words) }
 {
-    let key = list_key(alloc, e)?;
-    let text = write(alloc, e)?;
-    three_words(alloc, b"LPUSH", key, text)
-}
-
-/// The key of the list to which an envelope is pushed, whose routing key is the lawful name of a queue.
-fn list_key(alloc: Global, e: &Envelope) -> Result<Bytes, AllocError>
-    requires { is_name (parts_in (data_of e.now)).routing_key ≡ true }
-    ensures { IfOk result (λ key. key ≡ direct_key (data_of e.now)) }
-{
-    let queue = lawful_name(alloc, e.routing_key())?;
-    queue_key(alloc, &queue, step_of(e.priority()))
-}
-
-/// The queue of a lawful name.
-fn lawful_name(alloc: Global, name: &[u8]) -> Result<QueueName, AllocError>
-    requires { is_name name.now ≡ true }
-    ensures { IfOk result (λ queue. queue ≡ name.now) }
-{
-    match QueueName::new(alloc, name) {
-        Ok(queue) => Ok(queue),
-        Err(NameFault::Memory) => Err(AllocError),
-        Err(NameFault::Empty | NameFault::Long | NameFault::Byte(_) | NameFault::Reserved) =>
-            unreachable!(),
+    match next {
+        Publishing::Direct => {
+            let queue = lawful_name(alloc, envelope.routing_key())?;
+            push_words(alloc, envelope, &queue)
+        }
+        Publishing::Asking => asking_words(alloc, envelope),
+        Publishing::Pushing(route) => push_words(alloc, envelope, next_queue(route)),
     }
 }
 
-/// Three words.
-fn three_words(
-    alloc: Global,
-    first: &[u8],
-    second: Bytes,
-    third: Bytes,
-) -> Result<Words, AllocError>
-    ensures { IfOk result (λ words. words ≡ first.now ∷ second ∷ third ∷ []) }
+/// The queue that gets the message next: the first of those that are left.
+fn next_queue(route: &Route) -> &QueueName
+    ensures { drop route.now.place route.now.queues ≡ result.now ∷ drop (route.now.place + 1) route.now.queues }
 {
-    let mut words = one_word(alloc, first)?;
-    words.push(alloc, second)?;
-    words.push(alloc, third)?;
-    Ok(words)
+    &route.queues.as_slice()[route.place]
 }
 
-/// One word.
-fn one_word(alloc: Global, word: &[u8]) -> Result<Words, AllocError>
-    ensures { IfOk result (λ words. words ≡ word.now ∷ []) }
+/// The words that read the bindings of an envelope's exchange.
+fn asking_words(alloc: Global, e: &Envelope) -> Result<Words, AllocError>
+    ensures words { IfOk result (λ words. let p = parts_in (data_of e.now) in
+        words ≡ codes "SMEMBERS" ∷ plain_setting.binding p.exchange ∷ []) }
+    ensures limits { IfOk result (λ words. IsWithinLimits words) }
 {
-    let mut words = Words::new();
-    words.push(alloc, Bytes::from_slice(alloc, word)?)?;
-    Ok(words)
+    // An envelope's exchange is short.
+    let _tree = e.tree();
+    let key = binding_key(alloc, e.exchange())?;
+    two_words(alloc, b"SMEMBERS", key.as_slice())
+}
+
+/// The words that push an envelope to the list of a queue.
+fn push_words(alloc: Global, e: &Envelope, queue: &QueueName) -> Result<Words, AllocError>
+    ensures words { IfOk result (λ words. let d = data_of e.now in
+        words ≡ codes "LPUSH" ∷ queue_key plain queue.now (step_of plain (priority_of d)) ∷ compact_text d ∷ []) }
+    ensures limits { IfOk result (λ words. IsWithinLimits words) }
+{
+    // The queue's name is lawful, so that its key is short.
+    let _name = queue.bytes();
+    let key = queue_key(alloc, queue, step_of(e.priority()))?;
+    three_words(alloc, b"LPUSH", key.as_slice(), e.text())
 }

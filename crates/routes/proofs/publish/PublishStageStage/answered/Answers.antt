@@ -1,13 +1,13 @@
-use Rattle.std.proofs.Common.{◌++◌, ◌∷◌, [], ◌∙◌, ap, subst, sym}
-use Rattle.command_blocks.specs.Answers.{number_of}
-use Rattle.block_core.specs.Stages.{TellsOn, progress_left}
-use Rattle.routes.specs.Publishes.{PublishHad, TellsPublish, push_stage_left}
-use Rattle.routes.proofs.Publishes.{pushed_left, pushed_tells}
+use Rattle.std.proofs.Common.{◌∙◌, subst, sym}
+use Rattle.command_blocks.specs.Calls.{call}
+use Rattle.serde_json.specs.View.{view as data_of}
+use Rattle.routes.specs.Heards.{IsHeard}
+use Rattle.routes.proofs.Heards.{answered_tells, heard_on, progress_is}
 use Rattle.routes.proofs.publish.PublishStageStage.answered.Goals as goal
 
 pub returns-clause-left : goal.returns-clause-left
-returns-clause-left c = λ at words. ap (progress_left push_stage_left) c.pushed.ensures ∙ pushed_left c.tag.result (number_of c.args.answer.now)
+returns-clause-left c = λ at words. progress_is (data_of c.args.self.envelope) c.in_ok-heard.heard c.progress.result c.progress.ensures ∙ heard_on (data_of c.args.self.envelope) c.args.self.next (call at words c.args.answer.now) c.in_ok-heard.heard c.in_ok-heard.ensures
 
 pub returns-clause-tells : goal.returns-clause-tells
-returns-clause-tells c = λ plan calls last is h. subst (TellsOn (PublishHad plan) (TellsPublish plan) (calls ++ last ∷ [])) (sym c.pushed.ensures)
-    (pushed_tells plan calls last c.args.self c.tag.result (number_of c.args.answer.now) c.tag.ensures h)
+returns-clause-tells c = λ plan calls last is had. answered_tells plan calls last c.args.self c.in_ok-heard.heard c.progress.result had
+    (subst (λ r. IsHeard (data_of c.args.self.envelope) c.args.self.next r c.in_ok-heard.heard) (sym is) c.in_ok-heard.ensures) c.progress.ensures
