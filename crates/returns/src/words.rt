@@ -12,6 +12,7 @@ use crate::carried::{Carried, Keys};
 use crate::spot::{Aim, Point, Spot};
 use block_words::{one_word, three_words, two_words};
 use command_blocks::Side;
+use lookups::binding_key;
 use std::alloc::{AllocError, Global};
 use wire_values::{Bytes, Words};
 
@@ -63,15 +64,6 @@ fn ask_words(alloc: Global, carried: &Carried) -> Result<Words, AllocError>
 {
     let key = binding_key(alloc, carried.exchange.as_slice())?;
     two_words(alloc, b"SMEMBERS", key.as_slice())
-}
-
-/// The key of the set of an exchange's bindings.
-fn binding_key(alloc: Global, exchange: &[u8]) -> Result<Bytes, AllocError>
-    ensures { IfOk result (λ key. key ≡ binding_key plain exchange.now) }
-{
-    let mut key = Bytes::from_slice(alloc, b"_kombu.binding.")?;
-    key.extend(alloc, exchange)?;
-    Ok(key)
 }
 
 /// A command of the transaction.
