@@ -4,7 +4,7 @@ use Rattle.std.specs.Prelude.{◌||◌, ◌&&◌, if◌then◌else◌}
 use Rattle.queue_keys.specs.Names.{Bytes, same}
 use Rattle.queue_keys.specs.Patterns.{any_end, dotted_words, first_and, is_none, word_matches, words_match}
 use Rattle.lookups.proofs.Dots.{words_there}
-use Rattle.lookups.specs.Runs.{IsRunning, IsUpToHash, passes, some_end}
+use Rattle.lookups.specs.Runs.{IsPassing, IsUpToHash, all_pass, end_passes}
 use Rattle.lookups.specs.WordsLeft.{text_length, words_in}
 
 -- ---- ends of words
@@ -49,7 +49,7 @@ no_end_after m f w ws e = none_of_both (m w) (f ws) (any_end (first_and m f) ws)
 -- ---- a run
 
 -- it begins before all words
-pub starts : (p k : Option Bytes) → IsRunning p k p k
+pub starts : (p k : Option Bytes) → IsPassing p k p k
 starts p k = record { whole = refl; ends = λ e. e; shorter = omega arith; within = omega arith }
 
 -- what the words of a pattern pass, by the first, which is no #
@@ -60,15 +60,15 @@ by_first t w ws is off = ap words_match is ∙ ap (λ (b : Bool). λ (l : List B
 by_hash : (t w : Bytes) (ws : List Bytes) → dotted_words t ≡ w ∷ ws → same (35 ∷ []) w ≡ true → words_match (dotted_words t) ≡ any_end (words_match ws)
 by_hash t w ws is on = ap words_match is ∙ ap (λ (b : Bool). λ (l : List Bytes). if b then any_end (words_match ws) l else first_and (word_matches w) (words_match ws) l) on
 
-module _ (p k : Option Bytes) (t w : Bytes) (others left : Option Bytes) (h : IsRunning p k (Some t) left) (is : dotted_words t ≡ w ∷ words_in others) (few : text_length others ≤ length t) where
+module _ (p k : Option Bytes) (t w : Bytes) (others left : Option Bytes) (h : IsPassing p k (Some t) left) (is : dotted_words t ≡ w ∷ words_in others) (few : text_length others ≤ length t) where
   -- at a #
   pub hash_found : same (35 ∷ []) w ≡ true → IsUpToHash p k others left
   hash_found on =
-      let all : passes (Some t) left ≡ some_end others left = ap (λ f. f (words_in left)) (by_hash t w (words_in others) is on) in
-      let ended : some_end (Some t) left ≡ some_end others left = ap (λ f. any_end f (words_in left)) (by_hash t w (words_in others) is on) ∙ ends_of_ends (words_match (words_in others)) (words_in left) in
+      let all : all_pass (Some t) left ≡ end_passes others left = ap (λ f. f (words_in left)) (by_hash t w (words_in others) is on) in
+      let ended : end_passes (Some t) left ≡ end_passes others left = ap (λ f. any_end f (words_in left)) (by_hash t w (words_in others) is on) ∙ ends_of_ends (words_match (words_in others)) (words_in left) in
       record {
         whole = sym h.whole ∙ all;
-        ends = both (some_end p k) (some_end others left) (λ e. h.ends (ended ∙ e)) (λ e. sym all ∙ h.whole ∙ whole_end (words_match (words_in p)) (words_in k) e);
+        ends = both (end_passes p k) (end_passes others left) (λ e. h.ends (ended ∙ e)) (λ e. sym all ∙ h.whole ∙ whole_end (words_match (words_in p)) (words_in k) e);
         shorter = (let f = h.shorter in omega (arith, f, few));
         within = h.within;
       }
@@ -83,30 +83,30 @@ module _ (p k : Option Bytes) (t w : Bytes) (others left : Option Bytes) (h : Is
     words_left : words_in left ≡ v ∷ words_in rest
     words_left = ap words_in key ∙ there
 
-    decided : passes p k ≡ (word_matches w v && passes others rest)
+    decided : all_pass p k ≡ (word_matches w v && all_pass others rest)
     decided = sym h.whole ∙ ap (λ f. f (words_in left)) (by_first t w (words_in others) is off) ∙ ap (first_and (word_matches w) (words_match (words_in others))) words_left
 
     -- a word passes
-    pub word_found : word_matches w v ≡ true → text_length rest ≤ length u → IsRunning p k others rest
+    pub word_found : word_matches w v ≡ true → text_length rest ≤ length u → IsPassing p k others rest
     word_found found less = record {
-      whole = sym (decided ∙ ap (λ b. b && passes others rest) found);
+      whole = sym (decided ∙ ap (λ b. b && all_pass others rest) found);
       ends = λ e. h.ends (ap (λ f. any_end f (words_in left)) (by_first t w (words_in others) is off) ∙ ap (any_end (first_and (word_matches w) (words_match (words_in others)))) words_left ∙ no_end_after (word_matches w) (words_match (words_in others)) v (words_in rest) e);
       shorter = (let f = h.shorter in omega (arith, f, few));
       within = (let f : text_length left ≤ text_length k = h.within in let g : text_length left ≡ suc (length u) = ap text_length key in omega (arith, f, g, less));
     }
 
 -- the pattern's words are done
-done : (p k words left : Option Bytes) → IsRunning p k words left → words ≡ None → (b : Bool) → is_none (words_in left) ≡ b → passes p k ≡ b
+done : (p k words left : Option Bytes) → IsPassing p k words left → words ≡ None → (b : Bool) → is_none (words_in left) ≡ b → all_pass p k ≡ b
 done p k words left h none b is = sym h.whole ∙ ap (λ o. words_match (words_in o) (words_in left)) none ∙ is
 
 -- and the key has more
-pub text_is_left : (p k words left : Option Bytes) (u : Bytes) → IsRunning p k words left → words ≡ None → left ≡ Some u → passes p k ≡ false
+pub text_is_left : (p k words left : Option Bytes) (u : Bytes) → IsPassing p k words left → words ≡ None → left ≡ Some u → all_pass p k ≡ false
 text_is_left p k words left u h none some =
     let f = words_there u in
     done p k words left h none false (ap (λ o. is_none (words_in o)) some ∙ ap is_none f.2)
 
 -- the whole is an end that passes
-pub whole_passes : (p k : Option Bytes) → passes p k ≡ true → some_end p k ≡ true
+pub whole_passes : (p k : Option Bytes) → all_pass p k ≡ true → end_passes p k ≡ true
 whole_passes p k e = by (words_in k) e where
   by : (ws : List Bytes) → words_match (words_in p) ws ≡ true → any_end (words_match (words_in p)) ws ≡ true
   by [] e = e

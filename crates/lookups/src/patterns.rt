@@ -1,7 +1,7 @@
 //! Patterns of routing keys (topics of AMQP): words between dots, of which `*` is any one and `#` none or more.
 ghost use Rattle.std.specs.Prelude.{◌≡◌, ◌∷◌, ◌≤◌, length, position, ◌==◌};
 ghost use Rattle.queue_keys.specs.Patterns.{any_end, dotted_words, matches, word_matches, words_match};
-ghost use Rattle.lookups.specs.Runs.{HasRun};
+ghost use Rattle.lookups.specs.Runs.{HasPassed};
 ghost use Rattle.lookups.specs.WordsLeft.{text_length, told, words_in};
 
 use crate::bindings::after;
@@ -60,7 +60,7 @@ fn any_end(pattern: Option<&[u8]>, key: Option<&[u8]>) -> bool
 
 /// Has the words of a pattern pass the first words of a key, up to the first `#`.
 fn pass_words<'a>(pattern: Option<&'a [u8]>, key: Option<&'a [u8]>) -> Run<'a>
-    ensures { HasRun (told pattern.entry) (told key.entry) result }
+    ensures { HasPassed (told pattern.entry) (told key.entry) result }
 {
     let mut words = pattern;
     let mut left = key;

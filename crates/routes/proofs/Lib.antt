@@ -1,6 +1,6 @@
+mod Answered
 mod Cycles
 mod Declares
 mod Direct
-mod Heards
 mod Limits
 mod Publishes

@@ -1,5 +1,5 @@
+pub mod Bringing
 pub mod Cycles
 pub mod Declares
-pub mod Heards
 pub mod Named
 pub mod Publishes

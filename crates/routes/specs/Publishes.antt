@@ -19,8 +19,8 @@ use Rattle.block_core.specs.Cores.{HasHad, core_left}
 use Rattle.block_core.specs.declared.block.BlockCore.{BlockCore}
 use Rattle.block_core.specs.declared.stage.Progress.{Progress}
 use Rattle.block_core.specs.declared.stage.Progress.TheVariants as progress
-use Rattle.routes.specs.declared.heard.Heard.{Heard}
-use Rattle.routes.specs.declared.heard.Heard.TheVariants as heard
+use Rattle.routes.specs.declared.brought.Brought.{Brought}
+use Rattle.routes.specs.declared.brought.Brought.TheVariants as brought
 use Rattle.routes.specs.declared.publish.PublishEnd.{PublishEnd}
 use Rattle.routes.specs.declared.publish.PublishEnd.TheVariants.{Sent, NoQueue}
 use Rattle.routes.specs.declared.route.Publishing.{Publishing}
@@ -68,22 +68,22 @@ abbrev pub publish_left : BlockCore PublishStage PublishEnd → Script
 publish_left core = core_left publish_stage_left core
 
 -- the first command of a publication on this exchange
-abbrev pub IsFirst : Bytes → Publishing → Type 0
-IsFirst e Direct = e ≡ []
-IsFirst e Asking = named_or_none e ≡ Some e
-IsFirst e (Pushing route) = ⊥
+abbrev pub BeginsOn : Bytes → Publishing → Type 0
+BeginsOn e Direct = e ≡ []
+BeginsOn e Asking = named_or_none e ≡ Some e
+BeginsOn e (Pushing route) = ⊥
 
 -- the next command pushes to a queue of this route
-abbrev pub IsPushing : Data → Heard → PublishStage → Type 0
-IsPushing d (heard.Next route) stage = (data_of stage.envelope ≡ d) × (stage.next ≡ Pushing route)
-IsPushing d (heard.Over end) stage = ⊥
-IsPushing d heard.Refused stage = ⊥
+abbrev pub IsPushing : Data → Brought → PublishStage → Type 0
+IsPushing d (brought.Next route) stage = (data_of stage.envelope ≡ d) × (stage.next ≡ Pushing route)
+IsPushing d (brought.Over end) stage = ⊥
+IsPushing d brought.Refused stage = ⊥
 
--- how the publication of an envelope's tree goes on by what was heard
-abbrev pub IsProgress : Data → Heard → Progress PublishStage PublishEnd → Type 0
+-- how the publication of an envelope's tree goes on by what the answer brought
+abbrev pub IsProgress : Data → Brought → Progress PublishStage PublishEnd → Type 0
 IsProgress d h (progress.Next stage) = IsPushing d h stage
-IsProgress d h (progress.Over end) = h ≡ heard.Over end
-IsProgress d h progress.Refused = h ≡ heard.Refused
+IsProgress d h (progress.Over end) = h ≡ brought.Over end
+IsProgress d h progress.Refused = h ≡ brought.Refused
 
 -- ---- what is told of the calls
 
@@ -112,13 +112,13 @@ PublishHad (Publish v) calls stage = (envelope_at v ≡ Ok (data_of stage.envelo
 PublishHad other calls stage = ⊥
 
 -- the end of the publication of an envelope's tree, by the queues of its lookup: it has its tag, and the message went to each of them, one at least; or there is none
-abbrev pub IsPublished : Data → List Bytes → PublishEnd → Type 0
-IsPublished d queues (Sent tag count) = (tag.0 ≡ (parts_in d).tag) × (count ≡ length queues) × (0 < count)
-IsPublished d queues (NoQueue tag) = (tag.0 ≡ (parts_in d).tag) × (queues ≡ [])
+abbrev pub EndsPublished : Data → List Bytes → PublishEnd → Type 0
+EndsPublished d queues (Sent tag count) = (tag.0 ≡ (parts_in d).tag) × (count ≡ length queues) × (0 < count)
+EndsPublished d queues (NoQueue tag) = (tag.0 ≡ (parts_in d).tag) × (queues ≡ [])
 
 -- the end of a publication tells of its calls, by the members that they read
 abbrev pub TellsPublish : Plan → List Call → PublishEnd → Type 0
-TellsPublish (Publish v) calls end = (d : Data) × (ms : List Bytes) × (envelope_at v ≡ Ok d) × HasRead d ms calls × IsPublished d (queues_of d ms) end
+TellsPublish (Publish v) calls end = (d : Data) × (ms : List Bytes) × (envelope_at v ≡ Ok d) × HasRead d ms calls × EndsPublished d (queues_of d ms) end
 TellsPublish other calls end = ⊥
 
 -- the core of the publication of an envelope's text had these calls so far

@@ -2,10 +2,10 @@
 //! `block_core::BlockCore` with its end; and the round in which a consumer looks at its queues.
 #![tactic(auto)]
 
+mod brought;
 mod cycle;
 mod declaration;
 mod declare;
-mod heard;
 mod publish;
 mod route;
 mod stage;

@@ -9,11 +9,11 @@ ghost use Rattle.envelope.specs.Envelopes.{parts_in, priority_of};
 ghost use Rattle.queue_keys.specs.Layouts.{plain, step_of};
 ghost use Rattle.queue_keys.specs.QueueKeys.{queue_key};
 ghost use Rattle.routes.specs.Named.{is_named};
-ghost use Rattle.routes.specs.Publishes.{HasPublishing, IsFirst, IsProgress, IsPublishable, publish_left, publishing_left};
+ghost use Rattle.routes.specs.Publishes.{HasPublishing, BeginsOn, IsProgress, IsPublishable, publish_left, publishing_left};
 ghost use Rattle.serde_json.specs.View.{view as data_of};
 ghost use Rattle.serde_json.specs.Written.{compact_text};
 
-use crate::heard::{Heard, hear};
+use crate::brought::{Brought, bring};
 use crate::route::{Publishing, Route};
 use crate::stage::PublishStage;
 use block_core::{BlockCore, Progress, Stage};
@@ -59,8 +59,8 @@ impl Stage for PublishStage {
         answer: &Value,
     ) -> Result<Progress<PublishStage, PublishEnd>, AllocError> {
         let envelope = self.envelope;
-        let heard = hear(alloc, &envelope, self.next, answer)?;
-        Ok(progress(envelope, heard))
+        let brought = bring(alloc, &envelope, self.next, answer)?;
+        Ok(progress(envelope, brought))
     }
 
     ghost says = { λ stage. publishing_says (data_of stage.envelope) stage.next };
@@ -86,7 +86,7 @@ pub fn publish_core(envelope: Envelope) -> PublishCore
 
 /// Which command of a publication on this exchange is the first.
 fn first_of(exchange: &[u8]) -> Publishing
-    ensures { IsFirst exchange.now result }
+    ensures { BeginsOn exchange.now result }
 {
     if exchange.is_empty() {
         Publishing::Direct
@@ -95,17 +95,17 @@ fn first_of(exchange: &[u8]) -> Publishing
     }
 }
 
-/// How the publication of an envelope goes on by what was heard.
-fn progress(envelope: Envelope, heard: Heard) -> Progress<PublishStage, PublishEnd>
-    ensures { IsProgress (data_of envelope) heard result }
+/// How the publication of an envelope goes on by what the answer brought.
+fn progress(envelope: Envelope, brought: Brought) -> Progress<PublishStage, PublishEnd>
+    ensures { IsProgress (data_of envelope) brought result }
 {
-    match heard {
-        Heard::Next(route) => Progress::Next(PublishStage {
+    match brought {
+        Brought::Next(route) => Progress::Next(PublishStage {
             envelope,
             next: Publishing::Pushing(route),
         }),
-        Heard::Over(end) => Progress::Over(end),
-        Heard::Refused => Progress::Refused,
+        Brought::Over(end) => Progress::Over(end),
+        Brought::Refused => Progress::Refused,
     }
 }
 
