@@ -10,4 +10,5 @@ returns-in-Err-counted-clause-answered g c = inr (
     did = c.in-Ok.ensures.ok;
     counted = c.counted.ensures.count;
   },
+  c.in-Err-counted.ensures.none,
 )
