@@ -1,19 +1,19 @@
 -- A talk goes on by one value.
-use Rattle.std.proofs.Common.{List, [], append-nil, append_assoc, ap, arith, inl, inr, length, length-append, refl, subst, sym, ℕ, ◌+◌, ◌++◌, ◌∙◌, ◌∷◌, ◌≡◌}
-use Rattle.std.specs.Prelude.{Err, None, Ok, Option, Some, flat_map}
+use Rattle.std.proofs.Common.{List, [], append-nil, append_assoc, ap, arith, inl, inr, length, length-append, subst, sym, ℕ, ◌+◌, ◌++◌, ◌∙◌, ◌∷◌, ◌≡◌}
+use Rattle.std.specs.Prelude.{Err, None, Ok, Option, Some}
 use Rattle.std.proofs.lemmas.Grind.{flat_map-append}
 use Rattle.wire_grammar.proofs.StreamLaws.{leads_one}
-use Rattle.wire_grammar.specs.Spells.{IsFront, Spells}
-use Rattle.resp_wire.specs.Stands.{HasNext, IsFault, Stands, held_to}
+use Rattle.wire_grammar.specs.Spells.{Spells}
+use Rattle.resp_wire.specs.Stands.{HasNext, Stands, held_to}
 use Rattle.resp_wire.specs.declared.decoder.Decoder.{Decoder}
 use Rattle.resp_wire.specs.declared.decoder.WireFault.TheVariants.{Bad}
 use Rattle.wire_grammar.specs.declared.kind.WireKind.{WireKind}
 use Rattle.wire_values.specs.declared.value.Value.{Value}
-use Rattle.desks.specs.Deeds.{Deed, DidAsk, DidNote, DidStop}
+use Rattle.desks.specs.Deeds.{Deed, DidAsk}
 use Rattle.desks.specs.declared.desk.DeskFault.{DeskFault}
-use Rattle.sessions.specs.Askings.{HasAnswered, IsSame}
+use Rattle.sessions.specs.Askings.{HasAnswered}
 use Rattle.sessions.specs.Calls.{AreCalls, IsCall, answers, deed_bytes}
-use Rattle.sessions.specs.Hearings.{BeginsWith, EndsTalk, HasHeard}
+use Rattle.sessions.specs.Hearings.{EndsTalk, HasHeard}
 use Rattle.sessions.specs.Talkings.{Talks, TalksAll}
 use Rattle.sessions.specs.declared.ends.Why.{Why}
 use Rattle.sessions.specs.declared.ends.Why.TheVariants.{Closed, Ended, Full, Link, Memory, NotWords, Turns, Wire}
@@ -90,10 +90,10 @@ module _ {D : Type 0} (goes : D → List Deed → D → Type 0) (stays : (s : D)
           ∙ ap (λ l. l ++ (t.out.items ++ deed_bytes d)) (sym (ap (λ l. sent ++ l) none ∙ append-nil sent)),
         ),
       )
-  ended_one v front more e sp Ended (words, spells, no) = absurd no
-  ended_one v front more e sp Turns (words, spells, no) = absurd no
-  ended_one v front more e sp Link (words, spells, no) = absurd no
-  ended_one v front more e sp (Wire kind place) (words, spells, no) = absurd no
+  ended_one v front more e sp Ended (words, spells, never) = absurd never
+  ended_one v front more e sp Turns (words, spells, never) = absurd never
+  ended_one v front more e sp Link (words, spells, never) = absurd never
+  ended_one v front more e sp (Wire kind place) (words, spells, never) = absurd never
 
   -- no more is asked
   pub asked_last : (v : Value) (why : Why) → ((before : ℕ) (rest : List ℕ) → Stands t.decoder before rest → HasNext before rest t2.decoder (Ok (Some v)))

@@ -1,5 +1,5 @@
 -- How a session begins.
-use Rattle.std.proofs.Common.{List, [], ap, append-nil, arith, refl, sym, ℕ, ◌++◌, ◌∙◌, ◌≡◌, ◌≤◌}
+use Rattle.std.proofs.Common.{List, [], ap, append-nil, arith, refl, sym, ℕ, ◌++◌, ◌∙◌, ◌≡◌}
 use Rattle.std.specs.Prelude.{Option}
 use Rattle.std.proofs.KnownBytes.{Appends-nil}
 use Rattle.wire_grammar.proofs.Limited.{front_says, limited_front}

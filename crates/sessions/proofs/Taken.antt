@@ -1,5 +1,5 @@
 -- A session goes on by one receive.
-use Rattle.std.proofs.Common.{List, [], append-nil, append_assoc, ap, arith, inl, inr, length, refl, subst, suc, sym, take, zero, ℕ, ◌+◌, ◌++◌, ◌<◌, ◌∙◌, ◌≡◌, ◌≤◌, ◌⊎◌}
+use Rattle.std.proofs.Common.{List, [], append-nil, append_assoc, ap, arith, inl, inr, subst, suc, sym, take, zero, ℕ, ◌++◌, ◌<◌, ◌∙◌, ◌≡◌, ◌≤◌}
 use Rattle.std.specs.Prelude.{Err, None, Ok, Option, Result, Some, ⊤}
 use Rattle.std.specs.Io.KnownBytes.{Appends, Keeps}
 use Rattle.std.proofs.KnownBytes.{Appends-kept, Appends-nil, Appends-trans}
@@ -8,18 +8,15 @@ use Rattle.links.specs.Counts.{raised}
 use Rattle.links.specs.declared.traits.Failed.{Failed}
 use Rattle.net_links.specs.NetCauses.{HasGained}
 use Rattle.wire_grammar.proofs.StreamLaws.{leads_on}
-use Rattle.wire_grammar.specs.Spells.{IsFront}
-use Rattle.wire_grammar.specs.declared.kind.WireKind.{WireKind}
-use Rattle.resp_wire.specs.Stands.{Stands, held_to}
+use Rattle.resp_wire.specs.Stands.{Stands}
 use Rattle.resp_wire.specs.declared.decoder.Decoder.{Decoder}
 use Rattle.desks.specs.Deeds.{Deed}
 use Rattle.desks.specs.declared.desk.DeskFault.{DeskFault}
-use Rattle.sessions.specs.Calls.{answers}
 use Rattle.sessions.specs.Hearings.{EndsTalk, HasHeard, WritesAll, WritesFront}
 use Rattle.sessions.specs.LinkViews.{LinkView, raised_by}
 use Rattle.sessions.specs.Sendings.{SendsFront}
 use Rattle.sessions.specs.SessionEnds.{EndsSession, HasSession}
-use Rattle.sessions.specs.Talkings.{AnswersAll, EndsTaken, HasFlushed, HasTaken, HasTurned, InSession, IsCut, IsEndWhy, Talks, TalksAll}
+use Rattle.sessions.specs.Talkings.{AnswersAll, HasFlushed, HasTaken, HasTurned, InSession, IsCut, IsEndWhy, Talks}
 use Rattle.sessions.specs.declared.ends.Why.{Why}
 use Rattle.sessions.specs.declared.ends.Why.TheVariants.{Closed, Ended, Full, Link, Memory, NotWords, Turns, Wire}
 use Rattle.sessions.specs.declared.talking.Talking.{Talking}
@@ -70,27 +67,27 @@ module _ {D : Type 0} (goes : D → List Deed → D → Type 0) (gives : ℕ →
   front_all (Ok done) a = (a.talks.heard, ([], sym (append-nil (sent ++ t.out.items) ∙ a.talks.answered)))
   front_all (Err (Wire kind place)) (h, all, wrong) = (h, ([], sym (append-nil (sent ++ t.out.items) ∙ all)))
   front_all (Err NotWords) (h, all, none) = (h, ([], sym (append-nil (sent ++ t.out.items) ∙ all)))
-  front_all (Err (Full entries bytes)) (h, all, (next, is)) = (h, ([], sym (append-nil (sent ++ t.out.items) ∙ all)))
-  front_all (Err Closed) (h, all, (next, is)) = (h, ([], sym (append-nil (sent ++ t.out.items) ∙ all)))
+  front_all (Err (Full entries bytes)) (h, all, next, is) = (h, ([], sym (append-nil (sent ++ t.out.items) ∙ all)))
+  front_all (Err Closed) (h, all, next, is) = (h, ([], sym (append-nil (sent ++ t.out.items) ∙ all)))
   front_all (Err Memory) (h, front) = (h, front)
-  front_all (Err Ended) no = absurd no
-  front_all (Err Turns) no = absurd no
-  front_all (Err Link) no = absurd no
+  front_all (Err Ended) never = absurd never
+  front_all (Err Turns) never = absurd never
+  front_all (Err Link) never = absurd never
 
   module _ (t2 : Talking) (was is : Option (List ℕ)) (faults faults2 : ℕ) where
     -- a front was sent
     cut_at : (result : Result ⊤ Why) → (h : HasHeard goes gives first now stream t.commands) × WritesFront h.deeds (sent ++ t.out.items) → SendsFront was is t.out.items → IsCut faults faults2 result → HasTaken goes gives fault first now stream sent was is faults faults2 (record t { out = t2.out }) result
-    cut_at (Ok done) a b no = absurd no
+    cut_at (Ok done) a b never = absurd never
     cut_at (Err Link) (h, (more, e)) (front, rest, split, sends) rose =
         (front, sends, (h, (rest ++ more, e ∙ ap (λ l. (sent ++ l) ++ more) split ∙ ap (λ l. l ++ more) (sym (append_assoc sent front rest)) ∙ append_assoc (sent ++ front) rest more), rose))
     cut_at (Err Memory) (h, (more, e)) (front, rest, split, sends) free =
         (front, sends, (h, (rest ++ more, e ∙ ap (λ l. (sent ++ l) ++ more) split ∙ ap (λ l. l ++ more) (sym (append_assoc sent front rest)) ∙ append_assoc (sent ++ front) rest more)))
-    cut_at (Err Ended) a b no = absurd no
-    cut_at (Err Turns) a b no = absurd no
-    cut_at (Err (Wire kind place)) a b no = absurd no
-    cut_at (Err NotWords) a b no = absurd no
-    cut_at (Err (Full entries bytes)) a b no = absurd no
-    cut_at (Err Closed) a b no = absurd no
+    cut_at (Err Ended) a b never = absurd never
+    cut_at (Err Turns) a b never = absurd never
+    cut_at (Err (Wire kind place)) a b never = absurd never
+    cut_at (Err NotWords) a b never = absurd never
+    cut_at (Err (Full entries bytes)) a b never = absurd never
+    cut_at (Err Closed) a b never = absurd never
 
     -- all was sent
     sent_all : (answered : Result ⊤ Why) → AnswersAll goes gives fault first now stream sent t answered → Appends was is t.out.items → t2.out.items ≡ [] → faults2 ≡ faults → HasTaken goes gives fault first now stream sent was is faults faults2 (record t { out = t2.out }) answered
@@ -159,12 +156,12 @@ module _ {D : Type 0} (goes : D → List Deed → D → Type 0) (gives : ℕ →
     pub none_received : (why : Why) → IsEndWhy s.talks.talks.heard.rest why → (turns : ℕ) → suc n ≤ turns → HasSession goes gives fault first now old new turns t.commands why
     none_received Ended none turns few = ended_so Ended turns few (s.talks.talks.heard, whole, none, risen)
     none_received Link some turns few = ended_so Link turns few (s.talks.talks.heard, ([], sym (append-nil s.sent ∙ whole)), inr (risen, s.talks.front, some))
-    none_received Turns no turns few = absurd no
-    none_received (Wire kind place) no turns few = absurd no
-    none_received NotWords no turns few = absurd no
-    none_received (Full entries bytes) no turns few = absurd no
-    none_received Closed no turns few = absurd no
-    none_received Memory no turns few = absurd no
+    none_received Turns never turns few = absurd never
+    none_received (Wire kind place) never turns few = absurd never
+    none_received NotWords never turns few = absurd never
+    none_received (Full entries bytes) never turns few = absurd never
+    none_received Closed never turns few = absurd never
+    none_received Memory never turns few = absurd never
 
 -- a piece came and was taken
 module _ {D : Type 0} (goes : D → List Deed → D → Type 0) (gives : ℕ → Type 0) (fault : Option DeskFault) (first now next : D) (old mid got new : LinkView) (t t2 : Talking) (n : ℕ) (s : InSession goes gives first now old mid t n) (piece : List ℕ)
@@ -211,5 +208,5 @@ module _ {D : Type 0} (goes : D → List Deed → D → Type 0) (gives : ℕ →
   taken (Err (Full entries bytes)) (more, sends, ends) = λ turns few. ended_taken (Full entries bytes) turns few more sends ends
   taken (Err Closed) (more, sends, ends) = λ turns few. ended_taken Closed turns few more sends ends
   taken (Err Memory) (more, sends, ends) = λ turns few. ended_taken Memory turns few more sends ends
-  taken (Err Ended) (more, sends, no) = absurd no
-  taken (Err Turns) (more, sends, no) = absurd no
+  taken (Err Ended) (more, sends, never) = absurd never
+  taken (Err Turns) (more, sends, never) = absurd never

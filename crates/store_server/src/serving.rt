@@ -1,10 +1,12 @@
 //! Serving one connection after the other.
-ghost use Rattle.std.specs.Prelude.{OnErr, ◌<◌, ◌≡◌, ◌≤◌};
+ghost use Rattle.std.specs.Prelude.{List, length, [], ◌++◌, ◌≡◌, ◌≤◌};
 ghost use Rattle.net_links.specs.NetCauses.{HasNetCause};
-ghost use Rattle.store_server.specs.Servings.{HasServed, HasTried};
+ghost use Rattle.sessions.specs.LinkViews.{link_view};
+ghost use Rattle.store_model.specs.Store.{StoreView};
+ghost use Rattle.store_server.specs.Servings.{HasServed, HasTried, HasVisited, why_at};
 
-use net_links::{Clock, Net, NetFault};
 use mini_store::Store;
+use net_links::{Clock, Link, Net, NetFault};
 use plain_desk::PlainDesk;
 use sessions::{SessionEnd, session};
 use std::alloc::Global;
@@ -28,9 +30,11 @@ pub struct ServeEnd {
     pub sessions: Vec<SessionEnd>,
 }
 
-/// Waits at an address, and serves so many connections, one after the other, each by a session of at most so many turns.
+/// Waits at an address, and serves so many connections, numbered from 1, one after the other, each by a session of at
+/// most so many turns. After each session its link is closed, and the store is without what the connection had.
 ///
-/// `Net` comes where the net failed, `Memory` where there was no memory; how a session ends is no cause for it.
+/// `Ended` comes when that many sessions ended, however they did; `Net` where the net failed, `Memory` where there was
+/// no memory.
 pub fn serve_plain<N: Net, C: Clock>(
     alloc: Global,
     mut store: Store,
@@ -40,7 +44,7 @@ pub fn serve_plain<N: Net, C: Clock>(
     connections: u32,
     turns: u64,
 ) -> ServeEnd
-    ensures served { HasServed (C.gives clock.now) turns connections store (N.closed net.old) (N.closed net.new) (N.faults net.old) (N.faults net.new) result.sessions.items result.why }
+    ensures served { (left : StoreView) × HasServed (C.gives clock.now) turns connections store left (N.closed net.old) (N.closed net.new) (N.faults net.old) (N.faults net.new) result.sessions.items result.why }
 {
     let mut sessions = Vec::new(alloc);
     let why = match net.listen(alloc, address) {
@@ -48,4 +52,86 @@ pub fn serve_plain<N: Net, C: Clock>(
         Err(fault) => why_of(fault),
     };
     ServeEnd { why, sessions }
+}
+
+/// Serves so many connections, and keeps how their sessions ended.
+fn serve_all<N: Net, C: Clock>(
+    alloc: Global,
+    store: &mut Store,
+    net: &mut N,
+    clock: &C,
+    connections: u32,
+    turns: u64,
+    sessions: &mut Vec<SessionEnd>,
+) -> ServeWhy
+    requires none { sessions.old.items ≡ [] }
+    ensures served { HasServed (C.gives clock.now) turns connections store.old store.new (N.closed net.old) (N.closed net.new) (N.faults net.old) (N.faults net.new) sessions.new.items result }
+{
+    let mut number = 0;
+    'connections: while number < connections {
+        number += 1;
+        match serve_one(alloc, store, net, clock, number, turns) {
+            Ok(end) => {
+                if sessions.push(end).is_err() {
+                    return ServeWhy::Memory;
+                }
+            }
+            Err(fault) => return why_of(fault),
+        }
+    }
+    ServeWhy::Ended
+}
+
+/// Serves the next connection that comes, under this number: accepts its link, has a session over it at the store, and
+/// closes it. The store is then without what the connection had.
+///
+/// `Failed` comes where the net failed, `Memory` where it wants memory; nothing else happened then.
+pub fn serve_one<N: Net, C: Clock>(
+    alloc: Global,
+    store: &mut Store,
+    net: &mut N,
+    clock: &C,
+    number: u32,
+    turns: u64,
+) -> Result<SessionEnd, NetFault>
+    ensures tried { HasTried (C.gives clock.now) turns number store.old store.new (N.closed net.old) (N.closed net.new) result }
+    ensures cause { HasNetCause (N.faults net.old) (N.faults net.new) result }
+{
+    match net.accept(alloc) {
+        Ok(mut link) => {
+            let end = visit(alloc, store, &mut link, clock, number, turns);
+            net.close(link);
+            Ok(end)
+        }
+        Err(fault) => Err(fault),
+    }
+}
+
+/// Has a session at the store, and takes from the store what the connection had.
+fn visit<L: Link, C: Clock>(
+    alloc: Global,
+    store: &mut Store,
+    link: &mut L,
+    clock: &C,
+    number: u32,
+    turns: u64,
+) -> SessionEnd
+    ensures visited { HasVisited (C.gives clock.now) turns number store.old store.new
+        (link_view L.sent L.received L.faults L.ends L.gains link.old) (link_view L.sent L.received L.faults L.ends L.gains link.new) result }
+{
+    let own = mem::replace(store, Store::new(alloc));
+    let mut desk = PlainDesk::new(own, number);
+    let end = session(alloc, &mut desk, link, clock, turns);
+    *store = desk.into_store();
+    end
+}
+
+/// Why no more is served where the net answered this.
+fn why_of(fault: NetFault) -> ServeWhy
+    ensures { result ≡ why_at fault }
+{
+    match fault {
+        NetFault::Failed => ServeWhy::Net,
+        NetFault::Memory => ServeWhy::Memory,
+    }
 }

@@ -1,4 +1,4 @@
-use Rattle.std.proofs.Common.{rules, arith, inr}
+use Rattle.std.proofs.Common.{inr}
 use Rattle.sessions.proofs.asking.answer_words.Goals as goal
 
 pub returns-in-Err-counted-clause-answered : goal.returns-in-Err-counted-clause-answered

@@ -1,4 +1,4 @@
-use Rattle.std.proofs.Common.{[], arith, refl, ◌<◌, ◌≡◌}
+use Rattle.std.proofs.Common.{[], arith, refl}
 use Rattle.sessions.specs.LinkViews.{link_view}
 use Rattle.sessions.proofs.Begun.{begun, turns_over}
 use Rattle.sessions.proofs.conversing.converse.Goals as goal

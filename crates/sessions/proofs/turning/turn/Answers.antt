@@ -1,4 +1,4 @@
-use Rattle.std.proofs.Common.{arith, take, ◌<◌, ◌++◌, ◌≡◌}
+use Rattle.std.proofs.Common.{arith, take, ◌<◌, ◌≡◌}
 use Rattle.std.proofs.lemmas.Grind.{common_steps}
 use Rattle.sessions.specs.LinkViews.{link_view}
 use Rattle.sessions.proofs.Taken.{appends_none, gained_none, gained_some, none_received, not_received, taken}
