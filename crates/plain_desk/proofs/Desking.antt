@@ -23,7 +23,7 @@ pub went : (c at : ℕ) (words : Words) (reply : Reply) (before now : Bool) (s t
     → LeadsOn c (live_state before s) (DidAsk at words reply ∷ []) c (live_state now t)
 went c at words reply before now s t was is e = (refl, subst (λ x. LeadsLive c (live_state before s) (DidAsk at words reply ∷ []) (live_state x t)) (sym is) (by before was)) where
   by : (before : Bool) → (IsTrue before → ⊥) → LeadsLive c (live_state before s) (DidAsk at words reply ∷ []) (Some t)
-  by true never = absurd (never tt)
+  by true never = absurd (never refl)
   by false never = ((λ i. (e i).1), (λ i. (sym e i).0))
 
 -- a note leaves the store
