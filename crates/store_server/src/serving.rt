@@ -1,5 +1,5 @@
 //! Serving one connection after the other.
-ghost use Rattle.std.specs.Prelude.{List, length, [], ◌++◌, ◌≡◌, ◌≤◌};
+ghost use Rattle.std.specs.Prelude.{OnErr, OnOk, [], ◌++◌, ◌∷◌, ◌≡◌};
 ghost use Rattle.net_links.specs.NetCauses.{HasNetCause};
 ghost use Rattle.sessions.specs.LinkViews.{link_view};
 ghost use Rattle.store_model.specs.Store.{StoreView};
@@ -9,7 +9,7 @@ use mini_store::Store;
 use net_links::{Clock, Link, Net, NetFault};
 use plain_desk::PlainDesk;
 use sessions::{SessionEnd, session};
-use std::alloc::Global;
+use std::alloc::{AllocError, Global};
 use std::mem;
 
 /// Why no more connections are served.
@@ -37,7 +37,7 @@ pub struct ServeEnd {
 /// no memory.
 pub fn serve_plain<N: Net, C: Clock>(
     alloc: Global,
-    mut store: Store,
+    store: Store,
     net: &mut N,
     clock: &C,
     address: &str,
@@ -46,16 +46,33 @@ pub fn serve_plain<N: Net, C: Clock>(
 ) -> ServeEnd
     ensures served { (left : StoreView) × HasServed (C.gives clock.now) turns connections store left (N.closed net.old) (N.closed net.new) (N.faults net.old) (N.faults net.new) result.sessions.items result.why }
 {
+    match net.listen(alloc, address) {
+        Ok(()) => serve_all(alloc, store, net, clock, connections, turns),
+        Err(fault) => ServeEnd {
+            why: why_of(fault),
+            sessions: Vec::new(alloc),
+        },
+    }
+}
+
+/// Serves so many connections, and gives how their sessions ended.
+fn serve_all<N: Net, C: Clock>(
+    alloc: Global,
+    mut store: Store,
+    net: &mut N,
+    clock: &C,
+    connections: u32,
+    turns: u64,
+) -> ServeEnd
+    ensures served { (left : StoreView) × HasServed (C.gives clock.now) turns connections store left (N.closed net.old) (N.closed net.new) (N.faults net.old) (N.faults net.new) result.sessions.items result.why }
+{
     let mut sessions = Vec::new(alloc);
-    let why = match net.listen(alloc, address) {
-        Ok(()) => serve_all(alloc, &mut store, net, clock, connections, turns, &mut sessions),
-        Err(fault) => why_of(fault),
-    };
+    let why = serve_each(alloc, &mut store, net, clock, connections, turns, &mut sessions);
     ServeEnd { why, sessions }
 }
 
 /// Serves so many connections, and keeps how their sessions ended.
-fn serve_all<N: Net, C: Clock>(
+fn serve_each<N: Net, C: Clock>(
     alloc: Global,
     store: &mut Store,
     net: &mut N,
@@ -71,15 +88,25 @@ fn serve_all<N: Net, C: Clock>(
     'connections: while number < connections {
         number += 1;
         match serve_one(alloc, store, net, clock, number, turns) {
-            Ok(end) => {
-                if sessions.push(end).is_err() {
-                    return ServeWhy::Memory;
-                }
-            }
+            Ok(end) => match keep(sessions, end) {
+                Ok(()) => {}
+                Err(_) => return ServeWhy::Memory,
+            },
             Err(fault) => return why_of(fault),
         }
     }
     ServeWhy::Ended
+}
+
+/// Keeps how a session ended; without memory those that are kept stay.
+fn keep(sessions: &mut Vec<SessionEnd>, end: SessionEnd) -> Result<(), AllocError>
+    ensures ok { OnOk result (sessions.new.items ≡ sessions.old.items ++ end ∷ []) }
+    ensures err { OnErr result (sessions.new.items ≡ sessions.old.items) }
+{
+    match sessions.push(end) {
+        Ok(()) => Ok(()),
+        Err(_) => Err(AllocError),
+    }
 }
 
 /// Serves the next connection that comes, under this number: accepts its link, has a session over it at the store, and

@@ -1,6 +1,6 @@
 use Rattle.std.proofs.Common.{length, ◌-◌, ◌≡◌, ◌≤◌}
 use Rattle.store_server.specs.Servings.{HasServedAll}
-use Rattle.store_server.proofs.serving.serve_all.Given as goal
+use Rattle.store_server.proofs.serving.serve_each.Given as goal
 
 abbrev pub invariant-connections : goal.invariant-connections
 invariant-connections g l =
