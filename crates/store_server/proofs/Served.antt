@@ -97,7 +97,7 @@ module _ (gives : ℕ → Type 0) (turns wanted : ℕ) (s m : StoreView) (a b : 
   all_served full = served_so m b g Ended all (omega (arith, same)) full refl
 
   -- the net gave no further link
-  pub none_came : {T : Type 0} → (t : StoreView) (d : Option (List Traffic)) (h : ℕ) (fault : NetFault) → t ≡ m → KeepsClosed b d → HasNetCause {T = T} g h (Err fault) → HasServed gives turns wanted s t a d f h ends (why_at fault)
+  pub none_came : (t : StoreView) (d : Option (List Traffic)) (h : ℕ) (fault : NetFault) → t ≡ m → KeepsClosed b d → HasNetCause {T = SessionEnd} g h (Err fault) → HasServed gives turns wanted s t a d f h ends (why_at fault)
   none_came t d h Failed e q cause = served_so t d h Net (serves_before gives turns 1 s m t a b d ends all e q) (omega (arith, same, cause.0)) (subst (λ (i : ℕ). Rose i h) same cause.1) refl
   none_came t d h net.Memory e q cause = served_so t d h Memory (serves_before gives turns 1 s m t a b d ends all e q) (omega (arith, same, cause)) tt (omega arith)
 
