@@ -25,12 +25,7 @@ struct Row {
 const NEVER: u64 = 1_000_000;
 
 /// All comes at once, nothing fails, and the turns are many.
-fn whole(
-    incoming: &'static [u8],
-    sent: &'static [u8],
-    why: &'static str,
-    commands: u64,
-) -> Row {
+fn whole(incoming: &'static [u8], sent: &'static [u8], why: &'static str, commands: u64) -> Row {
     Row {
         incoming,
         piece: 65_536,
@@ -107,10 +102,20 @@ fn rows() -> [Row; 16] {
         ),
         whole(b"*1\r\n$4\r\nPI", b"", "link", 0),
         whole(b"*1\r\n$4\r\nPING\r\n*1\r\n$4", b"+PONG\r\n", "link", 1),
-        whole(b"*1\r\n$4\r\nPING\r\n+x\r\n*1\r\n$4\r\nPING\r\n", b"+PONG\r\n", "not words", 1),
+        whole(
+            b"*1\r\n$4\r\nPING\r\n+x\r\n*1\r\n$4\r\nPING\r\n",
+            b"+PONG\r\n",
+            "not words",
+            1,
+        ),
         whole(b"*0\r\n", b"", "not words", 0),
         whole(b"*2\r\n$4\r\nPING\r\n:1\r\n", b"", "not words", 0),
-        whole(b"*1\r\n$4\r\nPING\r\n!\r\n*1\r\n$4\r\nPING\r\n", b"+PONG\r\n", "wire", 1),
+        whole(
+            b"*1\r\n$4\r\nPING\r\n!\r\n*1\r\n$4\r\nPING\r\n",
+            b"+PONG\r\n",
+            "wire",
+            1,
+        ),
         failing(0, b"", 0),
         failing(1, b"", 1),
         failing(2, b"+PONG\r\n", 1),

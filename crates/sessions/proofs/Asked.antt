@@ -87,7 +87,7 @@ module _ {D : Type 0} (goes : D → List Deed → D → Type 0) (stays : (s : D)
         (
           t.out.items ++ deed_bytes d,
           answers_one s.heard.deeds d ∙ ap (λ l. l ++ deed_bytes d) (sym s.answered) ∙ append_assoc sent t.out.items (deed_bytes d)
-          ∙ ap (λ l. l ++ (t.out.items ++ deed_bytes d)) (sym (ap (λ l. sent ++ l) none ∙ append-nil sent)),
+              ∙ ap (λ l. l ++ (t.out.items ++ deed_bytes d)) (sym (ap (λ l. sent ++ l) none ∙ append-nil sent)),
         ),
       )
   ended_one v front more e sp Ended (words, spells, never) = absurd never

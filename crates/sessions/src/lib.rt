@@ -13,8 +13,8 @@ mod talking;
 mod turning;
 
 pub use asking::{answer, store_moment};
+pub use conversing::{SessionEnd, session};
 pub use ends::Why;
 pub use received::command_in;
 pub use sending::send_all;
-pub use conversing::{SessionEnd, session};
 pub use talking::Talking;

@@ -6,9 +6,9 @@ ghost use Rattle.resp_wire.specs.Stands.{Stands};
 ghost use Rattle.sessions.specs.LinkViews.{LinkView, link_view};
 ghost use Rattle.sessions.specs.Talkings.{HasFlushed, HasTaken, HasTurned, InSession, IsEndWhy, IsPlaced, TalksAll};
 
+use crate::Why;
 use crate::sending::send_all;
 use crate::talking::{Talking, answer_all};
-use crate::Why;
 use desks::Desk;
 use net_links::{Clock, Link, NetFault};
 use std::alloc::Global;

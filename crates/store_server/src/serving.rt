@@ -67,7 +67,15 @@ fn serve_all<N: Net, C: Clock>(
     ensures served { (left : StoreView) × HasServed (C.gives clock.now) turns connections store left (N.closed net.old) (N.closed net.new) (N.faults net.old) (N.faults net.new) result.sessions.items result.why }
 {
     let mut sessions = Vec::new(alloc);
-    let why = serve_each(alloc, &mut store, net, clock, connections, turns, &mut sessions);
+    let why = serve_each(
+        alloc,
+        &mut store,
+        net,
+        clock,
+        connections,
+        turns,
+        &mut sessions,
+    );
     ServeEnd { why, sessions }
 }
 

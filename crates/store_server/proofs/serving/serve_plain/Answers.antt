@@ -7,8 +7,11 @@ pub returns-in-Ok : goal.returns-in-Ok
 returns-in-Ok g c =
     let (left, served) = c.serve_all.ensures.served in
     record {
-      served = (left, served_after (g.C.Clock.gives c.args.clock.now) c.args.turns c.args.connections c.args.store left (g.N.Net.closed c.args.net.now) (g.N.Net.closed c.listen.new.self) (g.N.Net.closed c.serve_all.new.net) (g.N.Net.faults c.args.net.now) (g.N.Net.faults c.listen.new.self) (g.N.Net.faults c.serve_all.new.net)
-      c.serve_all.result.sessions.items c.serve_all.result.why c.listen.ensures.closed c.in-Ok.ensures.cause served);
+      served = (
+        left,
+        served_after (g.C.Clock.gives c.args.clock.now) c.args.turns c.args.connections c.args.store left (g.N.Net.closed c.args.net.now) (g.N.Net.closed c.listen.new.self) (g.N.Net.closed c.serve_all.new.net) (g.N.Net.faults c.args.net.now) (g.N.Net.faults c.listen.new.self) (g.N.Net.faults c.serve_all.new.net)
+            c.serve_all.result.sessions.items c.serve_all.result.why c.listen.ensures.closed c.in-Ok.ensures.cause served,
+      );
     }
 
 pub returns-in-Err : goal.returns-in-Err
