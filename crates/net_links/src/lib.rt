@@ -14,6 +14,7 @@ mod net;
 mod step_clock;
 
 pub use clock::Clock;
+pub use counts::raise;
 pub use link::{Link, NetFault};
 pub use memory_link::MemoryLink;
 pub use memory_net::MemoryNet;

@@ -1,9 +1,8 @@
--- Runs of a store by one client, and what a desk that has its store shows of them.
+-- Runs of a store by one client.
 use Rattle.std.specs.Prelude.{Bool, List, None, Option, Some, [], false, refl, true, ℕ, ◌++◌, ◌∷◌, ◌≡◌}
-use Rattle.std.proofs.Common.{sym, ap, ◌∙◌, subst, append-nil}
+use Rattle.std.proofs.Common.{sym, ◌∙◌, subst}
 use Rattle.store_model.specs.Store.{State, apply_of, gone_of}
 use Rattle.desks.specs.Deeds.{Deed, DidAsk, DidNote, DidStop}
-use Rattle.desks.specs.declared.desk.DeskFault.{DeskFault}
 
 -- by the deeds of the client of this connection the store comes from one state to another, and each reply is the store's
 abbrev pub RunsTo : ℕ → State → List Deed → State → Type 0
@@ -19,37 +18,58 @@ RunsTo-joins c s t u (DidAsk at words reply ∷ l) m a b = (a.0, RunsTo-joins c 
 RunsTo-joins c s t u (DidNote heard ∷ l) m a b = RunsTo-joins c s t u l m a b
 RunsTo-joins c s t u (DidStop ∷ l) m a b = RunsTo-joins c (gone_of s c) t u l m a b
 
--- the store of a desk that is open
-abbrev pub open_state : Option DeskFault → Bool → State → Option State
-open_state None false s = Some s
-open_state None true s = None
-open_state (Some fault) stopped s = None
+-- the state of a store that isn't spent
+abbrev pub live_state : Bool → State → Option State
+live_state false s = Some s
+live_state true s = None
 
--- an open desk stays open by a run of its store, or is closed at some state that a run leads to; nothing is done at a closed one
-abbrev pub LeadsOpen : ℕ → Option State → List Deed → Option State → Type 0
-LeadsOpen c None l t = (l ≡ []) × (t ≡ None)
-LeadsOpen c (Some s) l (Some t) = RunsTo c s l t
-LeadsOpen c (Some s) l None = (t : State) × RunsTo c s l t
+-- no command is among the deeds
+abbrev pub AsksNothing : List Deed → Type 0
+AsksNothing [] = Unit {0}
+AsksNothing (DidAsk at words reply ∷ l) = ⊥
+AsksNothing (DidNote heard ∷ l) = AsksNothing l
+AsksNothing (DidStop ∷ l) = AsksNothing l
+
+-- a store comes by a run to its next state, or is spent in a run; a spent one stays so, and answers no command
+abbrev pub LeadsLive : ℕ → Option State → List Deed → Option State → Type 0
+LeadsLive c None l t = AsksNothing l × (t ≡ None)
+LeadsLive c (Some s) l (Some t) = RunsTo c s l t
+LeadsLive c (Some s) l None = (t : State) × RunsTo c s l t
 
 -- so, and the connection stays
 abbrev pub LeadsOn : ℕ → Option State → List Deed → ℕ → Option State → Type 0
-LeadsOn c s l d t = (d ≡ c) × LeadsOpen c s l t
+LeadsOn c s l d t = (d ≡ c) × LeadsLive c s l t
 
-pub LeadsOpen-stays : (c : ℕ) (s : Option State) → LeadsOpen c s [] s
-LeadsOpen-stays c None = (refl, refl)
-LeadsOpen-stays c (Some s) = refl
+pub LeadsLive-stays : (c : ℕ) (s : Option State) → LeadsLive c s [] s
+LeadsLive-stays c None = (tt, refl)
+LeadsLive-stays c (Some s) = refl
 
 pub LeadsOn-stays : (c : ℕ) (s : Option State) → LeadsOn c s [] c s
-LeadsOn-stays c s = (refl, LeadsOpen-stays c s)
+LeadsOn-stays c s = (refl, LeadsLive-stays c s)
 
-pub LeadsOpen-joins : (c : ℕ) (s t u : Option State) (l m : List Deed) → LeadsOpen c s l t → LeadsOpen c t m u → LeadsOpen c s (l ++ m) u
-LeadsOpen-joins c None t u l m a b =
-    subst (λ k. LeadsOpen c None (k ++ m) u) (sym a.0) (subst (λ x. LeadsOpen c x m u) a.1 b)
-LeadsOpen-joins c (Some s) None u l m a b =
-    subst (λ x. LeadsOpen c (Some s) (l ++ m) x) (sym b.1) (a.0, subst (λ k. RunsTo c s k a.0) (sym (ap (λ k. l ++ k) b.0 ∙ append-nil l)) a.1)
-LeadsOpen-joins c (Some s) (Some t) (Some u) l m a b = RunsTo-joins c s t u l m a b
-LeadsOpen-joins c (Some s) (Some t) None l m a b = (b.0, RunsTo-joins c s t b.0 l m a b.1)
+AsksNothing-joins : (l m : List Deed) → AsksNothing l → AsksNothing m → AsksNothing (l ++ m)
+AsksNothing-joins [] m a b = b
+AsksNothing-joins (DidAsk at words reply ∷ l) m a b = absurd a
+AsksNothing-joins (DidNote heard ∷ l) m a b = AsksNothing-joins l m a b
+AsksNothing-joins (DidStop ∷ l) m a b = AsksNothing-joins l m a b
+
+-- without a command a run goes on from anywhere
+RunsTo-idle : (c : ℕ) (s : State) (l : List Deed) → AsksNothing l → (t : State) × RunsTo c s l t
+RunsTo-idle c s [] a = (s, refl)
+RunsTo-idle c s (DidAsk at words reply ∷ l) a = absurd a
+RunsTo-idle c s (DidNote heard ∷ l) a = RunsTo-idle c s l a
+RunsTo-idle c s (DidStop ∷ l) a = RunsTo-idle c (gone_of s c) l a
+
+pub LeadsLive-joins : (c : ℕ) (s t u : Option State) (l m : List Deed) → LeadsLive c s l t → LeadsLive c t m u → LeadsLive c s (l ++ m) u
+LeadsLive-joins c None t u l m a b =
+    let e : LeadsLive c None m u = subst (λ x. LeadsLive c x m u) a.1 b in
+    (AsksNothing-joins l m a.0 e.0, e.1)
+LeadsLive-joins c (Some s) None u l m a b =
+    let i = RunsTo-idle c a.0 m b.0 in
+    subst (λ x. LeadsLive c (Some s) (l ++ m) x) (sym b.1) (i.0, RunsTo-joins c s a.0 i.0 l m a.1 i.1)
+LeadsLive-joins c (Some s) (Some t) (Some u) l m a b = RunsTo-joins c s t u l m a b
+LeadsLive-joins c (Some s) (Some t) None l m a b = (b.0, RunsTo-joins c s t b.0 l m a b.1)
 
 pub LeadsOn-joins : (c d e : ℕ) (s t u : Option State) (l m : List Deed) → LeadsOn c s l d t → LeadsOn d t m e u → LeadsOn c s (l ++ m) e u
 LeadsOn-joins c d e s t u l m a b =
-    (b.0 ∙ a.0, LeadsOpen-joins c s t u l m a.1 (subst (λ k. LeadsOpen k t m u) a.0 b.1))
+    (b.0 ∙ a.0, LeadsLive-joins c s t u l m a.1 (subst (λ k. LeadsLive k t m u) a.0 b.1))

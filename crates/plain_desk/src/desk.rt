@@ -4,7 +4,7 @@ ghost use Rattle.store_model.specs.Store.{gone_of};
 ghost use Rattle.wire_grammar.specs.Fits.{IsWithinLimits};
 ghost use Rattle.desks.specs.Deeds.{DidAsk};
 ghost use Rattle.desks.specs.Faults.{HasCounts, HasShown, IsFaultOf, IsOpen};
-ghost use Rattle.plain_desk.specs.StoreRuns.{LeadsOn, open_state};
+ghost use Rattle.plain_desk.specs.StoreRuns.{LeadsOn, live_state};
 
 use desks::{Desk, DeskFault, DeskStanding};
 use mini_store::Store;
@@ -13,7 +13,8 @@ use std::alloc::Global;
 use store_model::Reply;
 use wire_values::Words;
 
-/// A store with one client at it, by the number of its connection. It answers no fault but `Ended` and `Memory`.
+/// A store with one client at it, by the number of its connection. It answers no fault but `Ended` and `Memory`; after
+/// `Memory` the store is spent.
 #[derive(Drop)]
 pub struct PlainDesk {
     store: Store,
@@ -53,7 +54,7 @@ impl Desk for PlainDesk {
     ghost use Rattle.std.specs.Prelude.{false};
     ghost use Rattle.plain_desk.specs.StoreRuns.{LeadsOn-stays, LeadsOn-joins};
 
-    ghost goes = { λ s l t. LeadsOn s.conn (open_state s.standing.fault s.standing.stopped s.store.state) l t.conn (open_state t.standing.fault t.standing.stopped t.store.state) };
+    ghost goes = { λ s l t. LeadsOn s.conn (live_state s.store.spent s.store.state) l t.conn (live_state t.store.spent t.store.state) };
 
     ghost fault = { λ s. s.standing.fault };
 
@@ -67,11 +68,11 @@ impl Desk for PlainDesk {
 
     ghost shared = { false };
 
-    ghost stays = { λ s. LeadsOn-stays s.conn (open_state s.standing.fault s.standing.stopped s.store.state) };
+    ghost stays = { λ s. LeadsOn-stays s.conn (live_state s.store.spent s.store.state) };
 
-    ghost joins = { λ s t u. LeadsOn-joins s.conn t.conn u.conn (open_state s.standing.fault s.standing.stopped s.store.state) (open_state t.standing.fault t.standing.stopped t.store.state) (open_state u.standing.fault u.standing.stopped u.store.state) };
+    ghost joins = { λ s t u. LeadsOn-joins s.conn t.conn u.conn (live_state s.store.spent s.store.state) (live_state t.store.spent t.store.state) (live_state u.store.spent u.store.state) };
 
-    #[tactic(auto, using(crate::proofs::Desking::refused, crate::proofs::Desking::went, crate::proofs::Desking::timely))]
+    #[tactic(auto, using(crate::proofs::Desking::spent, crate::proofs::Desking::went, crate::proofs::Desking::timely))]
     fn ask(&mut self, alloc: Global, at: u64, words: &Words) -> Result<Reply, DeskFault> {
         self.standing.enter()?;
         match self.store.apply(alloc, at, self.conn, words) {
@@ -80,12 +81,12 @@ impl Desk for PlainDesk {
         }
     }
 
-    #[tactic(auto, using(crate::proofs::Desking::refused, crate::proofs::Desking::noted))]
+    #[tactic(auto, using(crate::proofs::Desking::noted))]
     fn tell(&mut self, _alloc: Global, _heard: Heard) -> Result<(), DeskFault> {
         self.standing.enter()
     }
 
-    #[tactic(auto, using(crate::proofs::Desking::refused, crate::proofs::Desking::left))]
+    #[tactic(auto, using(crate::proofs::Desking::left))]
     fn stop(&mut self, _alloc: Global) -> Result<(), DeskFault> {
         self.standing.enter()?;
         self.store.gone(self.conn);

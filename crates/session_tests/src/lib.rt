@@ -8,3 +8,5 @@ mod answers;
 mod compared;
 #[cfg(test)]
 mod outside;
+#[cfg(test)]
+mod whole_sessions;

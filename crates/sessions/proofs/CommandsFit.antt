@@ -1,11 +1,10 @@
 -- A command that was received is within the limits of a command.
-use Rattle.std.proofs.Common.{List, None, Option, Some, [], arith, ap, map, refl, subst, sym, zero, suc, ℕ, ◌∙◌, ◌∷◌, ◌≡◌, ◌⊎◌, ℤ, inl, inr, option_and_then}
+use Rattle.std.proofs.Common.{List, None, Option, Some, [], arith, ap, map, refl, subst, sym, zero, suc, ℕ, ◌∙◌, ◌∷◌, ◌≡◌, ℤ, inl, inr, option_and_then}
 use Rattle.wire_values.specs.Layer.{layer}
 use Rattle.wire_values.specs.declared.value.Value.{Value}
-use Rattle.wire_values.specs.declared.value.Value.TheOpen.{Value-F}
 use Rattle.wire_values.specs.declared.value.Value.TheVariants.{Status, Error, Integer, Bulk, NullBulk, Array, NullArray}
 use Rattle.wire_values.proofs.Layers.{layer-array}
-use Rattle.wire_grammar.specs.Spells.{Spells, SpellsWithin, IsPlain, as_status, as_error, as_integer, as_bulk, as_null_bulk, IsArray, AreSpelled}
+use Rattle.wire_grammar.specs.Spells.{SpellsWithin, IsPlain, as_status, as_error, as_integer, as_bulk, as_null_bulk, IsArray, AreSpelled}
 use Rattle.wire_grammar.specs.Fits.{HasSpelling, IsWithinLimits}
 use Rattle.store_model.specs.Words.{Bytes, Words}
 use Rattle.command_blocks.specs.Answers.{bulk_of, items_of, bulk_in, items_in}

@@ -1,5 +1,5 @@
 -- The contents of bulk strings, one after the other.
-use Rattle.std.proofs.Common.{List, None, Option, Some, [], refl, sym, ap, subst, ◌++◌, ◌∙◌, ◌∷◌, ◌≡◌, ◌≢◌, append_assoc}
+use Rattle.std.proofs.Common.{List, None, Option, Some, [], refl, sym, ap, ◌++◌, ◌∙◌, ◌∷◌, ◌≡◌, ◌≢◌, append_assoc}
 use Rattle.wire_values.specs.Layer.{layer}
 use Rattle.wire_values.specs.declared.value.Value.{Value}
 use Rattle.wire_values.specs.declared.value.Value.TheOpen.{Value-F}

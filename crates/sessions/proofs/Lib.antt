@@ -1,2 +1,6 @@
-pub mod Contents
+pub mod Asked
+pub mod Begun
 pub mod CommandsFit
+pub mod Contents
+pub mod Mapped
+pub mod Taken

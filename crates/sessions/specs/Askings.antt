@@ -36,12 +36,12 @@ pub record HasDone {D : Type 0} (goes : D → List Deed → D → Type 0) (gives
   pub did : goes old (DidAsk at words reply ∷ []) new
   pub counted : count2 ≡ raised count
 
--- a command was asked, and its reply's bytes appended; or the desk refused it; or memory was wanting, before it was asked or after
+-- a command was asked, and its reply's bytes appended; or the desk refused it; or memory was wanting, before it was asked or after, when no bytes are left
 abbrev pub HasAnsweredWords : {D : Type 0} → (D → List Deed → D → Type 0) → (ℕ → Type 0) → Option DeskFault → D → D → Words → List ℕ → List ℕ → ℕ → ℕ → Result ⊤ Why → Type 0
 HasAnsweredWords goes gives fault old new words out out2 count count2 (Ok done) = (reply : Reply) × HasDone goes gives old new words count count2 reply × (out2 ≡ out ++ reply_bytes reply)
 HasAnsweredWords goes gives fault old new words out out2 count count2 (Err (Full entries bytes)) = IsSame goes old new out out2 count count2 × IsDeskWhy fault (Full entries bytes)
 HasAnsweredWords goes gives fault old new words out out2 count count2 (Err Closed) = IsSame goes old new out out2 count count2 × IsDeskWhy fault Closed
-HasAnsweredWords goes gives fault old new words out out2 count count2 (Err Memory) = IsSame goes old new out out2 count count2 ⊎ ((reply : Reply) × HasDone goes gives old new words count count2 reply)
+HasAnsweredWords goes gives fault old new words out out2 count count2 (Err Memory) = IsSame goes old new out out2 count count2 ⊎ ((reply : Reply) × HasDone goes gives old new words count count2 reply × (out2 ≡ []))
 HasAnsweredWords goes gives fault old new words out out2 count count2 (Err Ended) = ⊥
 HasAnsweredWords goes gives fault old new words out out2 count count2 (Err Turns) = ⊥
 HasAnsweredWords goes gives fault old new words out out2 count count2 (Err (Wire kind place)) = ⊥

@@ -1,9 +1,7 @@
 -- How all of some bytes are sent.
 use Rattle.std.specs.Io.KnownBytes.{Appends}
-use Rattle.std.specs.Prelude.{Err, List, Ok, Option, Result, ⊤, ℕ, ◌++◌, ◌≡◌, ◌≤◌}
-use Rattle.links.specs.Causes.{Rose}
+use Rattle.std.specs.Prelude.{Err, List, Ok, Option, Result, ⊤, ℕ, ◌++◌, ◌≡◌}
 use Rattle.net_links.specs.declared.link.NetFault.{NetFault}
-use Rattle.net_links.specs.declared.link.NetFault.TheVariants.{Failed, Memory}
 
 -- a front of these bytes was sent
 abbrev pub SendsFront : Option (List ℕ) → Option (List ℕ) → List ℕ → Type 0

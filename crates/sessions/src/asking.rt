@@ -10,7 +10,7 @@ ghost use Rattle.sessions.specs.Talks.{reply_bytes, store_moment};
 use crate::Why;
 use crate::received::command_in;
 use desks::{Desk, DeskFault};
-use net_links::Clock;
+use net_links::{Clock, raise};
 use std::alloc::{AllocError, Global};
 use store_model::Reply;
 use wire_spelling::encode_onto;
@@ -74,7 +74,7 @@ fn answer_words<D: Desk, C: Clock>(
     }
 }
 
-/// Counts a command that was asked, and appends the bytes of its reply.
+/// Counts a command that was asked, and appends the bytes of its reply. Without memory for all of them no bytes are left.
 fn counted(
     alloc: Global,
     reply: Reply,
@@ -82,11 +82,17 @@ fn counted(
     commands: &mut u64,
 ) -> Result<(), AllocError>
     ensures written { OnOk result (out.new.items ≡ out.old.items ++ reply_bytes reply) }
+    ensures none { OnErr result (out.new.items ≡ []) }
     ensures count { commands.new ≡ raised commands.old }
 {
-    let so_far = *commands;
-    *commands = so_far.saturating_add(1);
-    reply_onto(alloc, out, &reply)
+    raise(commands);
+    match reply_onto(alloc, out, &reply) {
+        Ok(()) => Ok(()),
+        Err(fault) => {
+            out.clear();
+            Err(fault)
+        }
+    }
 }
 
 /// Asks a command.

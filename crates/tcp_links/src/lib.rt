@@ -2,7 +2,6 @@
 //! by.
 #![tactic(auto)]
 
-mod counts;
 mod tcp_link;
 mod tcp_net;
 mod wall_clock;

@@ -4,8 +4,7 @@ ghost use Rattle.net_links.specs.NetCauses.{HasNetCause};
 ghost use Rattle.net_links.specs.Traffics.{IsFresh};
 
 use crate::TcpLink;
-use crate::counts::raise;
-use net_links::{Net, NetFault};
+use net_links::{Net, NetFault, raise};
 use std::alloc::Global;
 use std::net::{OpenListener, OpenStream, SocketAddr};
 use std::time::Duration;

@@ -1,4 +1,4 @@
-use Rattle.std.proofs.Common.{rules, arith, inr}
+use Rattle.std.proofs.Common.{inr}
 use Rattle.sessions.proofs.asking.answer_words.Goals as goal
 
 pub returns-in-Err-counted-clause-answered : goal.returns-in-Err-counted-clause-answered
@@ -10,4 +10,5 @@ returns-in-Err-counted-clause-answered g c = inr (
     did = c.in-Ok.ensures.ok;
     counted = c.counted.ensures.count;
   },
+  c.in-Err-counted.ensures.none,
 )
