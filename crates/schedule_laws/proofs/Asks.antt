@@ -23,7 +23,7 @@ use Rattle.schedule_model.specs.Desk.{ScheduleReader, ClientBook, Said, first_de
 use Rattle.schedule_model.specs.Faults.{Craft, first_reason, tests, is_gone, is_busy, is_script_off, has_number, has_seed, asked_tests, client_seed, counter_of}
 use Rattle.schedule_model.specs.Filled.{FilledDesk, IsLedBy, LeadTo, lines_read, lines_until}
 use Rattle.schedule_model.specs.Lines.{line_in}
-use Rattle.schedule_model.specs.Schedules.{Led, Went, Filled, Bad, plan_of, with_plan, reader_after, stepped, run_through, stopped, led, led_unless, led_by, text_led, line_led, Determined, Whole, Full, Bad_line, schedule_run}
+use Rattle.schedule_model.specs.Schedules.{Led, Went, Filled, Bad, plan_of, with_plan, reader_after, stepped, run_through, stopped, led, led_unless, led_by, text_led, line_led, Determined, Whole, Full, Bad_line, max_line, schedule_run}
 use Rattle.schedule_model.specs.declared.line.Asked.{Asked}
 use Rattle.schedule_model.specs.declared.line.Line.{Line}
 use Rattle.schedule_model.specs.declared.line.Line.TheVariants.{Client, At, Begin, Step, Run, Stop}
@@ -328,7 +328,7 @@ of_lines ls c = asks_in c ls
 
 line_asks : (κ : Craft) (craft : IsCraft κ) (ls : List Bytes) (d : ScheduleReader) (line : Bytes) → d.moment < 2 ^ 40 → Asks κ (of_lines ls) d → LedAsks κ (of_lines (ls ++ line ∷ [])) (line_led κ d line)
 line_asks κ craft ls d line soon h =
-    led_same κ (and_line (of_lines ls) (line_in (words_of line))) (of_lines (ls ++ line ∷ [])) (λ c. asked_later c ls line) (line_led κ d line) (text_asks κ craft (of_lines ls) d line soon h (text_fault 65536 line))
+    led_same κ (and_line (of_lines ls) (line_in (words_of line))) (of_lines (ls ++ line ∷ [])) (λ c. asked_later c ls line) (line_led κ d line) (text_asks κ craft (of_lines ls) d line soon h (text_fault max_line line))
 
 -- ---- a schedule
 

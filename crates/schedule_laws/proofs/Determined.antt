@@ -17,7 +17,7 @@ use Rattle.schedule_model.specs.Desk.{ScheduleReader, ClientBook, Said, first_de
 use Rattle.schedule_model.specs.Faults.{Craft, first_reason, tests, is_script_off, is_gone, has_more, is_busy, has_number, has_seed, asked_tests, client_seed, counter_of}
 use Rattle.schedule_model.specs.Filled.{FilledDesk, IsLedBy, LeadTo, lines_read}
 use Rattle.schedule_model.specs.Lines.{line_in}
-use Rattle.schedule_model.specs.Schedules.{Led, Went, Filled, Bad, plan_of, with_plan, reader_after, stepped, run_through, stopped, led, led_unless, led_by, text_led, line_led, Determined, Whole, Full, Bad_line, schedule_run}
+use Rattle.schedule_model.specs.Schedules.{Led, Went, Filled, Bad, plan_of, with_plan, reader_after, stepped, run_through, stopped, led, led_unless, led_by, text_led, line_led, Determined, Whole, Full, Bad_line, max_line, schedule_run}
 use Rattle.schedule_model.specs.declared.line.Asked.{Asked}
 use Rattle.schedule_model.specs.declared.line.Line.{Line}
 use Rattle.schedule_model.specs.declared.line.Line.TheVariants.{Client, At, Begin, Step, Run, Stop}
@@ -119,7 +119,7 @@ text_holds κ craft d line h None = if_led κ.setting (waits κ.built (words_of 
 
 -- each line keeps a desk
 pub line_holds : (κ : Craft) (craft : IsCraft κ) (d : ScheduleReader) (line : Bytes) → Holds κ.setting d → LedHolds κ.setting (line_led κ d line)
-line_holds κ craft d line h = text_holds κ craft d line h (text_fault 65536 line)
+line_holds κ craft d line h = text_holds κ craft d line h (text_fault max_line line)
 
 -- ---- a schedule
 

@@ -9,7 +9,7 @@ use Rattle.schedule_model.specs.Costs.{total_cost}
 use Rattle.schedule_model.specs.Desk.{ScheduleReader, first_desk}
 use Rattle.schedule_model.specs.Faults.{Craft}
 use Rattle.schedule_model.specs.Filled.{FilledDesk, IsLedBy, after_header}
-use Rattle.schedule_model.specs.Schedules.{Led, Went, Filled, Bad, Determined, Whole, Full, Bad_line, line_led, header_led, led_on, last_led, lines_led, header_on, max_input}
+use Rattle.schedule_model.specs.Schedules.{Led, Went, Filled, Bad, Determined, Whole, Full, Bad_line, line_led, header_led, led_on, last_led, lines_led, header_on, max_input, max_line}
 use Rattle.schedule_laws.specs.Sound.{SchedulesLead}
 
 module _ (κ : Craft) (d : ScheduleReader) (l : Bytes) (ls : List Bytes) where
@@ -70,8 +70,8 @@ from_header κ go n later line false None f = by (bytes_eq line (codes "celery-s
 
 header_leads : (κ : Craft) (cut : Bool) (ls : List Bytes) → IsLedBy κ first_desk (after_header ls) (header_on κ cut ls)
 header_leads κ cut [] = tt
-header_leads κ cut (h ∷ []) = from_header κ Whole 1 [] h cut (text_fault 65536 h) refl
-header_leads κ cut (h ∷ l ∷ ls) = from_header κ (λ d. lines_led κ cut 2 d (l ∷ ls)) 1 (l ∷ ls) h false (text_fault 65536 h) (lines_lead κ cut 2 first_desk (l ∷ ls))
+header_leads κ cut (h ∷ []) = from_header κ Whole 1 [] h cut (text_fault max_line h) refl
+header_leads κ cut (h ∷ l ∷ ls) = from_header κ (λ d. lines_led κ cut 2 d (l ∷ ls)) 1 (l ∷ ls) h false (text_fault max_line h) (lines_lead κ cut 2 first_desk (l ∷ ls))
 
 pub schedule_leads : SchedulesLead
 schedule_leads κ bytes = header_leads κ (nat_lt max_input (length bytes)) (lines_of (take (max_input + 1) bytes))

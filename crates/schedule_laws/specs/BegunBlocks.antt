@@ -21,7 +21,7 @@ use Rattle.schedule_model.specs.Desk.{ScheduleReader, first_desk}
 use Rattle.schedule_model.specs.Faults.{Craft, is_busy}
 use Rattle.schedule_model.specs.Lines.{line_in}
 use Rattle.schedule_model.specs.Filled.{FilledDesk, lines_read, lines_until}
-use Rattle.schedule_model.specs.Schedules.{Determined, Whole, Full, Bad_line, Went, line_led, lines_led, schedule_run}
+use Rattle.schedule_model.specs.Schedules.{Determined, Whole, Full, Bad_line, Went, line_led, lines_led, max_line, schedule_run}
 use Rattle.schedule_model.specs.declared.line.Asked.{Asked}
 use Rattle.schedule_model.specs.declared.line.Asked.TheVariants as asked
 use Rattle.schedule_model.specs.declared.line.Line.{Line}
@@ -91,7 +91,7 @@ SchedulesSayBlocks = (κ : Craft) → IsCraft κ → (bytes : Bytes) → IsAsked
 
 -- the bytes are this line, and it is built
 pub record SpellsLine (κ : Craft) (l : Line) (bytes : Bytes) : Type 0 where
-  pub text : text_fault 65536 bytes ≡ None
+  pub text : text_fault max_line bytes ≡ None
   pub built : waits κ.built (words_of bytes) ≡ false
   pub line : line_in (words_of bytes) ≡ Some l
 
