@@ -533,11 +533,11 @@ has_by : (p q r : Bool) → (p || q) ≡ true → (q ≡ true → r ≡ true) �
 has_by true q r e on = refl
 has_by false q r e on = on e
 
-has_append : (c : ℕ) (a b : List ℕ) → has c a ≡ true → has c (a ++ b) ≡ true
+pub has_append : (c : ℕ) (a b : List ℕ) → has c a ≡ true → has c (a ++ b) ≡ true
 has_append c [] b e = absurd (cc)
 has_append c (x ∷ xs) b e = has_by (x == c) (has c xs) (has c (xs ++ b)) e (has_append c xs b)
 
-or_true : (p q : Bool) → q ≡ true → (p || q) ≡ true
+pub or_true : (p q : Bool) → q ≡ true → (p || q) ≡ true
 or_true true q e = refl
 or_true false q e = e
 
