@@ -1,7 +1,8 @@
 //! What is left of a client's block.
-ghost use Rattle.std.specs.Prelude.{◌≡◌, ◌<◌, ◌≤◌, ◌^◌, IfOk, IfSome, OnOk, length, true};
+ghost use Rattle.std.specs.Prelude.{◌≡◌, ◌<◌, ◌≤◌, IfOk, IfSome, OnOk, length, true};
 ghost use Rattle.command_blocks.specs.EnvelopeTexts.{plain_setting};
 ghost use Rattle.command_blocks.specs.Scripts.{Over, end_script, next_words, pop_script, publish_script};
+ghost use Rattle.store_model.specs.Limits.{moment_limit};
 ghost use Rattle.delivery_tags.specs.Tags.{tag_text};
 ghost use Rattle.routes.specs.Publishes.{GoesDirectly};
 ghost use Rattle.schedule_model.specs.Faults.{has_more, is_script_off};
@@ -101,7 +102,7 @@ impl BlockLeft {
 
     /// Takes the reply to the next command.
     pub fn took(&mut self, alloc: Global, at: u64, reply: &Reply) -> Result<(), AllocError>
-        requires moment { at < 2 ^ 40 }
+        requires moment { at < moment_limit }
         requires asked { has_more (script_left self.old) ≡ true }
         ensures { OnOk result (script_left self.new ≡ after_answer (script_left self.old) reply.now.answer) }
     {

@@ -1,5 +1,6 @@
 -- The names and texts that histories are read by: the keys of a layout, and what the bytes of envelopes and entries tell.
 use Rattle.std.specs.Prelude.{◌≡◌, ℕ, ◌^◌, Bool, true, false, ◌<◌, nat_le, List, [], ◌∷◌, codes, length, Option, None, Some, is_some, option_and_then}
+use Rattle.store_model.specs.Limits.{member_limit}
 use Rattle.queue_keys.specs.Names.{Bytes, same, is_name}
 use Rattle.queue_keys.specs.Layouts.{Layout, step_of}
 use Rattle.queue_keys.specs.QueueKeys.{Each, Differ, split_key, is_reply_key, unacked_key, index_key, mutex_key, binding_key, pop_keys}
@@ -34,7 +35,7 @@ pub record Texts : Type 0 where
 pub record IsTexts (τ : Texts) : Type 0 where
   pub tag_parts : (s n s' n' : ℕ) → τ.is_tag (τ.tag s n) ≡ true → τ.tag s n ≡ τ.tag s' n' → (s ≡ s') × (n ≡ n')
   pub tag_is : (s n : ℕ) → s < 2 ^ 64 → n < 2 ^ 64 → τ.is_tag (τ.tag s n) ≡ true
-  pub tag_short : (t : Bytes) → τ.is_tag t ≡ true → nat_le (length t) 1024 ≡ true
+  pub tag_short : (t : Bytes) → τ.is_tag t ≡ true → nat_le (length t) member_limit ≡ true
   pub tag_text : (v t : Bytes) → τ.tag_of v ≡ Some t → τ.is_tag t ≡ true
   pub written_is : (v t : Bytes) → τ.written_tag v ≡ Some t → τ.tag_of v ≡ Some t
   pub entry_body : (v : Bytes) → τ.body_in (τ.entry_of v) ≡ τ.body_of v
@@ -82,7 +83,7 @@ pub record IsLawful (σ : Setting) : Type 0 where
   pub reply_apart : (k : Bytes) → σ.is_reply k ≡ true → IsApart σ k
   pub tag_parts : (s n s' n' : ℕ) → σ.is_tag (σ.tag s n) ≡ true → σ.tag s n ≡ σ.tag s' n' → (s ≡ s') × (n ≡ n')
   pub tag_is : (s n : ℕ) → s < 2 ^ 64 → n < 2 ^ 64 → σ.is_tag (σ.tag s n) ≡ true
-  pub tag_short : (t : Bytes) → σ.is_tag t ≡ true → nat_le (length t) 1024 ≡ true
+  pub tag_short : (t : Bytes) → σ.is_tag t ≡ true → nat_le (length t) member_limit ≡ true
   pub tag_text : (v t : Bytes) → σ.tag_of v ≡ Some t → σ.is_tag t ≡ true
   pub written_is : (v t : Bytes) → σ.written_tag v ≡ Some t → σ.tag_of v ≡ Some t
   pub entry_body : (v : Bytes) → σ.body_in (σ.entry_of v) ≡ σ.body_of v

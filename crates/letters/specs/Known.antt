@@ -13,3 +13,11 @@ pub record Knows (letters : Letters) (text : List ℕ) (letter : Letter) : Type 
   pub found : get nat_cmp letters.kept mark ≡ Some note
   pub text_is : note.text ≡ text
   pub letter_is : note.letter ≡ letter
+
+-- the note under each mark but this one is as it was
+abbrev pub NotesOne : Letters → Letters → Type 0
+NotesOne old new = (i : ℕ) × ((mark : ℕ) → (mark ≡ i → ⊥) → get nat_cmp new.kept mark ≡ get nat_cmp old.kept mark)
+
+-- the note under each mark but these two is as it was: no other text is forgotten, and none came to be known
+abbrev pub NotesTwo : Letters → Letters → Type 0
+NotesTwo old new = (i j : ℕ) × ((mark : ℕ) → (mark ≡ i → ⊥) → (mark ≡ j → ⊥) → get nat_cmp new.kept mark ≡ get nat_cmp old.kept mark)

@@ -23,8 +23,8 @@ struct Note {
 /// Texts of envelopes and of entries, each with what it spells.
 ///
 /// Who writes or reads an envelope notes it here; who meets its text, or the text of its entry, later on finds what
-/// that spells, and reads no JSON. A text that isn't found is still to be read. Of two texts of the same mark the later
-/// one is kept.
+/// that spells, and reads no JSON. This is a cache: what it answers is right, and it may have no answer. Of two texts of
+/// the same mark the later one is kept, and a text that isn't found is still to be read.
 #[derive(Debug, Drop)]
 pub struct Letters {
     kept: BTreeMap<u64, Note>,
@@ -34,7 +34,7 @@ impl Letters {
     ghost use Rattle.std.specs.Prelude.{IfSome, List, Ok, OnOk, ℕ};
     ghost use Rattle.envelope.specs.Entries.{entry_at, entry_for};
     ghost use Rattle.envelope.specs.Envelopes.{envelope_at};
-    ghost use Rattle.letters.specs.Known.{Knows};
+    ghost use Rattle.letters.specs.Known.{Knows, NotesOne, NotesTwo};
     ghost use Rattle.letters.specs.Letters.{envelope_letter};
     ghost use Rattle.letters.specs.declared.letter.Letter.{Letter};
     ghost use Rattle.serde_json.specs.View.{view as data_of};
@@ -49,7 +49,8 @@ impl Letters {
         }
     }
 
-    /// What the bytes spell, where they are known. Takes no memory.
+    /// What the bytes spell, where they are known. `None` says nothing of them: they weren't noted, or another text of
+    /// their mark was noted after them. Takes no memory.
     pub fn known(&self, bytes: &[u8]) -> Option<Letter>
         ensures letter { IfSome result (λ letter. letter_of bytes.now ≡ Some letter) }
         // Only what was noted is known.
@@ -63,7 +64,9 @@ impl Letters {
 
     /// Notes an envelope by its compact text, and by the text of its entry.
     pub fn note(&mut self, alloc: Global, e: &Envelope) -> Result<(), AllocError>
-        ensures { OnOk result (Knows self.new (compact_text (data_of e.now)) (envelope_letter (data_of e.now))) }
+        ensures noted { OnOk result (Knows self.new (compact_text (data_of e.now)) (envelope_letter (data_of e.now))) }
+        // Beside these two all notes stay as they were, also where memory was wanting.
+        ensures kept { NotesTwo self.old self.new }
     {
         let entry = write_entry(alloc, e)?;
         self.add_entry(entry, e)?;
@@ -74,7 +77,8 @@ impl Letters {
     /// Notes an envelope by its text.
     fn add(&mut self, text: Bytes, e: &Envelope) -> Result<(), AllocError>
         requires { envelope_at text ≡ Ok (data_of e.now) }
-        ensures { OnOk result (Knows self.new text (envelope_letter (data_of e.now))) }
+        ensures noted { OnOk result (Knows self.new text (envelope_letter (data_of e.now))) }
+        ensures kept { NotesOne self.old self.new }
     {
         self.put(text, Letter::of_envelope(e))
     }
@@ -82,6 +86,7 @@ impl Letters {
     /// Notes an envelope by the text of its entry.
     fn add_entry(&mut self, text: Bytes, e: &Envelope) -> Result<(), AllocError>
         requires { entry_at text ≡ Ok (entry_for (data_of e.now)) }
+        ensures { NotesOne self.old self.new }
     {
         self.put(text, Letter::of_entry(e))
     }
@@ -89,7 +94,8 @@ impl Letters {
     /// Notes what a text spells.
     fn put(&mut self, text: Bytes, letter: Letter) -> Result<(), AllocError>
         requires { letter_of text ≡ Some letter }
-        ensures { OnOk result (Knows self.new text letter) }
+        ensures noted { OnOk result (Knows self.new text letter) }
+        ensures kept { NotesOne self.old self.new }
     {
         let mark = mark_of(text.as_slice());
         let _ = self.kept.insert(mark, Note { text, letter })?;

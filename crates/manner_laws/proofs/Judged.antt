@@ -9,7 +9,7 @@ use Rattle.command_blocks.specs.Setting.{Setting, IsLawful}
 use Rattle.command_blocks.specs.Calls.{Call, call}
 use Rattle.command_blocks.specs.Blocks.{IsFrontOfBlocks, IsUnlisted, IsMannered}
 use Rattle.manner_laws.specs.Spots.{Spot, Free, Ask, Count, Consent, Queueing, Counts, Anything, Bindings, Message, Entry, Routes, Move, Lock, Due, Holder, Release}
-use Rattle.manner_laws.specs.Machine.{Asks, Tells, Counted, Consented, Was_queued, Counted_both, Answered, Bound, Nothing_there, Missing, Looked_up, Moved, Taken, Members, Nobody, Altered, Goes, Runs}
+use Rattle.manner_laws.specs.Machine.{Asks, TellsSpot, Counted, Consented, Was_queued, Counted_both, Answered, Bound, Nothing_there, Missing, Looked_up, Moved, Taken, Members, Nobody, Altered, Goes, Runs}
 use Rattle.manner_laws.specs.Cursor.{ask_at, spot_after, Cursor, At, Unlisted, Unmannered, cursor_at, cursor_heard, judge, cursor_after, cursor_of, IsReadable, HaveMomentsOf64Bits}
 use Rattle.manner_laws.proofs.Made.{runs_join, runs_split}
 use Rattle.manner_laws.proofs.Ways.{done_right, front_runs, runs_front}
@@ -64,7 +64,7 @@ module _ (σ : Setting) (exchange_at : Bytes → Option Bytes) (s : ℕ) where
     where
       told : (q : Ask) (o : Option Spot) → ask_at σ exchange_at s c x.at x.words ≡ Some q → spot_after σ s q x.answer ≡ o → cursor_at o ≡ At c' → Goes σ s c x c'
       told q None e f h = not_at c' h
-      told q (Some d) e f h = record { ask = q; asks = ask_is σ exchange_at s c x.at x.words q e; tells = subst (Tells σ s q x.answer) (at_parts d c' h) (told_is σ s q x.answer d f) }
+      told q (Some d) e f h = record { ask = q; asks = ask_is σ exchange_at s c x.at x.words q e; tells = subst (TellsSpot σ s q x.answer) (at_parts d c' h) (told_is σ s q x.answer d f) }
 
       go : (o : Option Ask) → ask_at σ exchange_at s c x.at x.words ≡ o → cursor_heard σ s o x.answer ≡ At c' → Goes σ s c x c'
       go None e h = unmannered_at c' h
@@ -106,7 +106,7 @@ module _ (σ : Setting) (exchange_at : Bytes → Option Bytes) (s : ℕ) where
       go later Unmannered e h = not_unlisted (sym (stays xs) ∙ h)
 
   -- each ask has a listed answer
-  an_answer : (q : Ask) → (r : Value) × (c : Spot) × Tells σ s q r c
+  an_answer : (q : Ask) → (r : Value) × (c : Spot) × TellsSpot σ s q r c
   an_answer (Count c) = (_, _, Counted c (pos 0))
   an_answer (Consent c) = (_, _, Consented c)
   an_answer (Queueing c) = (_, _, Was_queued c)

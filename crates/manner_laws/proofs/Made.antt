@@ -17,7 +17,7 @@ use Rattle.command_blocks.specs.Blocks.{Answered as Answered_block, CounterUse, 
 use Rattle.command_blocks.specs.declared.side.Side.{Side}
 use Rattle.command_blocks.specs.declared.side.Side.TheVariants.{Left, Right}
 use Rattle.manner_laws.specs.Spots.{Job, Open, Alone, Of_pass, job_tag, MayPush, sided, Spot, Free, Listed, Pushing, Popped, Pop_begun, Pop_indexed, End_begun, End_removed, Filled, Looking, Waiting, Watched, Leaving, Asking, Ready, Begun, Removed, Putting, Locked, Turning, Release_watched, Release_own, Release_begun, Release_deleted, Release_foreign, pushing, finished, gave_up, routed, Ask, Entry}
-use Rattle.manner_laws.specs.Machine.{Begins, Declares, Undeclares, Publishes, Lists, Pops, Ends, Returns, Passes, Concerns_none, Asks, Starts, Starts_next, Pushes_first, Pushes, Pop_begins, Pop_indexes, Pop_sets, End_removes, End_deletes, Executes, Names, Tries, Reads, Leaves, Looks_up, Takes, Removes, Deletes, Puts, Moves, Looks, Turns, Lets_go, Inspects, Release_begins, Release_deletes, Release_ends, Leaves_foreign, Tells, Runs}
+use Rattle.manner_laws.specs.Machine.{Begins, Declares, Undeclares, Publishes, Lists, Pops, Ends, Returns, Passes, Concerns_none, Asks, Starts, Starts_next, Pushes_first, Pushes, Pop_begins, Pop_indexes, Pop_sets, End_removes, End_deletes, Executes, Names, Tries, Reads, Leaves, Looks_up, Takes, Removes, Deletes, Puts, Moves, Looks, Turns, Lets_go, Inspects, Release_begins, Release_deletes, Release_ends, Leaves_foreign, TellsSpot, Runs}
 use Rattle.manner_laws.proofs.Steps.{on_count, on_consent, on_queueing, on_counts, on_anything, on_bindings, on_message, on_entry, on_routes, on_move, on_lock, on_due, on_holder, on_release}
 
 pub runs_join : (σ : Setting) (s : ℕ) (a b c : Spot) (xs ys : List Call) → Runs σ s a xs b → Runs σ s b ys c → Runs σ s a (xs ++ ys) c
@@ -237,7 +237,7 @@ module _ (σ : Setting) (s : ℕ) where
           (x.0, x.1, subst (λ z. SideRest σ s n p j x.0 k (reading σ (job_tag j) a b (Bulk u) (asking σ (σ.exchange_in u) c ms z))) whole (made n p j x.0 k y x.4 x.5 (carries, keys ∙ sym some) x.8))
 
   -- the entry was read
-  entry_before : (n p : ℕ) (j : Job) (k a b : ℕ) (r : Value) (c' : Spot) (l : List Call) → Tells σ s (Entry n p j k) r c' → Good σ s c' l → JobRest σ s n p j k (reading σ (job_tag j) a b r l)
+  entry_before : (n p : ℕ) (j : Job) (k a b : ℕ) (r : Value) (c' : Spot) (l : List Call) → TellsSpot σ s (Entry n p j k) r c' → Good σ s c' l → JobRest σ s n p j k (reading σ (job_tag j) a b r l)
   entry_before n p j k a b r c' l tells =
       on_entry σ s (λ r c'. Good σ s c' l → JobRest σ s n p j k (reading σ (job_tag j) a b r l)) n p j k
       (λ h. let side = some_side j in (side.0, side.1, (Gone, reading σ (job_tag j) a b NullBulk (leaving h.0), h.1, Missing_tries k a b h.0, h.3, ap (reading σ (job_tag j) a b NullBulk) h.2)))
@@ -281,7 +281,7 @@ module _ (σ : Setting) (s : ℕ) where
   abbrev Before : ℕ → ℕ → ℕ → Words → List Call → Value → Spot → Type 0
   Before n p a words l r c' = Good σ s c' l → Rest σ s n p (call a words r ∷ l)
 
-  start_before : (n p a : ℕ) (words : Words) (q : Ask) (r : Value) (c' : Spot) (l : List Call) → Begins σ s n p words q → Tells σ s q r c' → Before n p a words l r c'
+  start_before : (n p a : ℕ) (words : Words) (q : Ask) (r : Value) (c' : Spot) (l : List Call) → Begins σ s n p words q → TellsSpot σ s q r c' → Before n p a words l r c'
   start_before n p a words q r c' l (Declares e b x t u v w y) tells = on_count σ s (Before n p a words l) (Free n p) (λ z. block_then σ s n p Other _ l (Declare e b x t _ (Told a z u v w y))) r c' tells
   start_before n p a words q r c' l (Undeclares e b x t u v w y) tells = on_count σ s (Before n p a words l) (Free n p) (λ z. block_then σ s n p Other _ l (Undeclare e b x t _ (Told a z u v w y))) r c' tells
   start_before n p a words q r c' l (Publishes k v tag none one) tells = on_count σ s (Before n p a words l) (Free (suc n) p) (λ z. block_then σ s n p Drawing _ l (Publish v _ (Plain a k z tag none one))) r c' tells
@@ -300,7 +300,7 @@ module _ (σ : Setting) (s : ℕ) where
   abbrev Next : Spot → ℕ → Words → List Call → Value → Spot → Type 0
   Next c a words l r c' = Good σ s c' l → Good σ s c (call a words r ∷ l)
 
-  before : (c : Spot) (a : ℕ) (words : Words) (q : Ask) (r : Value) (c' : Spot) (l : List Call) → Asks σ s c a words q → Tells σ s q r c' → Next c a words l r c'
+  before : (c : Spot) (a : ℕ) (words : Words) (q : Ask) (r : Value) (c' : Spot) (l : List Call) → Asks σ s c a words q → TellsSpot σ s q r c' → Next c a words l r c'
   before c a words q r c' l (Starts n p b w x begins) tells = start_before n p a words q r c' l begins tells
   before c a words q r c' l (Starts_next n p e ms b w x begins) tells = λ h d is ex.
       block_then σ s n p Drawing (call d (codes "SMEMBERS" ∷ σ.binding e ∷ []) (bulks ms) ∷ []) (call a words r ∷ l) (Publish_short _ (Asked d e ms is ex)) (start_before (suc n) p a words q r c' l begins tells h)

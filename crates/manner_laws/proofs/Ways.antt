@@ -18,7 +18,7 @@ use Rattle.command_blocks.specs.Blocks.{Pings, IsNeutralBlock, Answered as Answe
 use Rattle.command_blocks.specs.declared.side.Side.{Side}
 use Rattle.command_blocks.specs.declared.side.Side.TheVariants.{Left, Right}
 use Rattle.manner_laws.specs.Spots.{Job, Open, Alone, Of_pass, job_tag, MayPush, sided, Spot, Free, Listed, Pushing, Popped, Pop_begun, Pop_indexed, End_begun, End_removed, Filled, Looking, Waiting, Watched, Leaving, Asking, Ready, Begun, Removed, Putting, Locked, Turning, Release_watched, Release_own, Release_begun, Release_deleted, Release_foreign, pushing, finished, gave_up, routed, Ask, Consent, Entry}
-use Rattle.manner_laws.specs.Machine.{Begins, Declares, Undeclares, Publishes, Lists, Pops, Ends, Returns, Passes, Concerns_none, Asks, Starts, Starts_next, Pushes_first, Pushes, Pop_begins, Pop_indexes, Pop_sets, End_removes, End_deletes, Executes, Names, Tries, Reads, Leaves, Looks_up, Takes, Removes, Deletes, Puts, Moves, Looks, Turns, Lets_go, Inspects, Release_begins, Release_deletes, Release_ends, Leaves_foreign, Tells, Counted, Consented, Was_queued, Counted_both, Answered, Bound, Nothing_there, Unreadable, Readable, Missing, Useless, Unnamed, Named, Looked_up, Moved, Failed, Contended, Taken, Given, Members, Own, Foreign, Nobody, Released, Altered, Goes, Runs, RunsThrough, RunsOff, TellsExchanges}
+use Rattle.manner_laws.specs.Machine.{Begins, Declares, Undeclares, Publishes, Lists, Pops, Ends, Returns, Passes, Concerns_none, Asks, Starts, Starts_next, Pushes_first, Pushes, Pop_begins, Pop_indexes, Pop_sets, End_removes, End_deletes, Executes, Names, Tries, Reads, Leaves, Looks_up, Takes, Removes, Deletes, Puts, Moves, Looks, Turns, Lets_go, Inspects, Release_begins, Release_deletes, Release_ends, Leaves_foreign, TellsSpot, Counted, Consented, Was_queued, Counted_both, Answered, Bound, Nothing_there, Unreadable, Readable, Missing, Useless, Unnamed, Named, Looked_up, Moved, Failed, Contended, Taken, Given, Members, Own, Foreign, Nobody, Released, Altered, Goes, Runs, RunsThrough, RunsOff, TellsExchanges}
 use Rattle.std.specs.Prelude.{pos}
 use Rattle.manner_laws.proofs.Steps.{by}
 use Rattle.manner_laws.proofs.Made.{runs_join, runs_split, good}
@@ -119,7 +119,7 @@ module _ (σ : Setting) (s : ℕ) where
 
   -- the answer to HGET, and what follows
   abbrev EntryRuns : ℕ → ℕ → Job → ℕ → Value → List Call → Spot → Type 0
-  EntryRuns n p j k r l b = (mid : Spot) × Tells σ s (Entry n p j k) r mid × Runs σ s mid l b
+  EntryRuns n p j k r l b = (mid : Spot) × TellsSpot σ s (Entry n p j k) r mid × Runs σ s mid l b
 
   asking_runs : IsLawful σ → (n p : ℕ) (j : Job) (k : ℕ) (side : Side) (y : Try) (x : Value) (rest : List Call) (b : Spot) (o : Option Bytes) → σ.exchange_in y.entry ≡ o → MayPush j side → IsTry σ (job_tag j) y
       → Runs σ s (Putting n p (sided j side) k y.envelope []) (call y.g (codes "EXEC" ∷ []) x ∷ rest) b
@@ -234,15 +234,15 @@ module _ (σ : Setting) (s : ℕ) where
   release_runs n p l (Own_release a b c d e r any) =
       (Release_watched n p, by σ s (Lets_go n p a) (Consented _), (Release_own n p, by σ s (Inspects n p b) (Own n p), (Release_begun n p, by σ s (Release_begins n p c) (Consented _), (Release_deleted n p, by σ s (Release_deletes n p d) (Was_queued _), (Free n (suc p), by σ s (Release_ends n p e) (ends any), refl)))))
     where
-      ends : ((rs : List Value) × (r ≡ Array rs)) ⊎ (r ≡ NullArray) → Tells σ s (Rattle.manner_laws.specs.Spots.Release n p) r (Free n (suc p))
-      ends (inl h) = subst (λ z. Tells σ s (Rattle.manner_laws.specs.Spots.Release n p) z (Free n (suc p))) (sym h.1) (Released n p h.0)
-      ends (inr h) = subst (λ z. Tells σ s (Rattle.manner_laws.specs.Spots.Release n p) z (Free n (suc p))) (sym h) (Altered n p)
+      ends : ((rs : List Value) × (r ≡ Array rs)) ⊎ (r ≡ NullArray) → TellsSpot σ s (Rattle.manner_laws.specs.Spots.Release n p) r (Free n (suc p))
+      ends (inl h) = subst (λ z. TellsSpot σ s (Rattle.manner_laws.specs.Spots.Release n p) z (Free n (suc p))) (sym h.1) (Released n p h.0)
+      ends (inr h) = subst (λ z. TellsSpot σ s (Rattle.manner_laws.specs.Spots.Release n p) z (Free n (suc p))) (sym h) (Altered n p)
   release_runs n p l (Foreign_release a b c r foreign) =
       (Release_watched n p, by σ s (Lets_go n p a) (Consented _), (Release_foreign n p, by σ s (Inspects n p b) (holds foreign), (Free n (suc p), by σ s (Leaves_foreign n p c) (Consented _), refl)))
     where
-      holds : ((u : Bytes) × (r ≡ Bulk u) × (u ≡ token s (suc p) → ⊥)) ⊎ (r ≡ NullBulk) → Tells σ s (Rattle.manner_laws.specs.Spots.Holder n p) r (Release_foreign n p)
-      holds (inl h) = subst (λ z. Tells σ s (Rattle.manner_laws.specs.Spots.Holder n p) z (Release_foreign n p)) (sym h.1) (Foreign n p h.0 h.2)
-      holds (inr h) = subst (λ z. Tells σ s (Rattle.manner_laws.specs.Spots.Holder n p) z (Release_foreign n p)) (sym h) (Nobody n p)
+      holds : ((u : Bytes) × (r ≡ Bulk u) × (u ≡ token s (suc p) → ⊥)) ⊎ (r ≡ NullBulk) → TellsSpot σ s (Rattle.manner_laws.specs.Spots.Holder n p) r (Release_foreign n p)
+      holds (inl h) = subst (λ z. TellsSpot σ s (Rattle.manner_laws.specs.Spots.Holder n p) z (Release_foreign n p)) (sym h.1) (Foreign n p h.0 h.2)
+      holds (inr h) = subst (λ z. TellsSpot σ s (Rattle.manner_laws.specs.Spots.Holder n p) z (Release_foreign n p)) (sym h) (Nobody n p)
 
   -- ---- blocks
 

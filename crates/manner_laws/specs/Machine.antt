@@ -67,38 +67,38 @@ pub data Asks (σ : Setting) (s : ℕ) : Spot → ℕ → Words → Ask → Type
   Leaves_foreign : (n p a : ℕ) → Asks σ s (Release_foreign n p) a (codes "UNWATCH" ∷ []) (Consent (Free n (suc p)))
 
 -- a listed answer to what was asked, and the spot after it
-pub data Tells (σ : Setting) (s : ℕ) : Ask → Value → Spot → Type 0 where
-  Counted : (c : Spot) (z : ℤ) → Tells σ s (Count c) (Integer z) c
-  Consented : (c : Spot) → Tells σ s (Consent c) done c
-  Was_queued : (c : Spot) → Tells σ s (Queueing c) queued c
-  Counted_both : (c : Spot) (x y : ℤ) → Tells σ s (Counts c) (integers (x ∷ y ∷ [])) c
-  Answered : (c : Spot) (r : Value) → is_error r ≡ false → Tells σ s (Anything c) r c
-  Bound : (n p : ℕ) (e : Bytes) (ms : List Bytes) → Tells σ s (Bindings n p e) (bulks ms) (Listed n p e ms)
-  Nothing_there : (n p : ℕ) → Tells σ s (Message n p) NullArray (Free n p)
-  Unreadable : (n p : ℕ) (q v : Bytes) → σ.tag_of v ≡ None → Tells σ s (Message n p) (pair q v) (Free n p)
-  Readable : (n p : ℕ) (q v t : Bytes) → σ.tag_of v ≡ Some t → Tells σ s (Message n p) (pair q v) (Popped n p v t)
-  Missing : (n p : ℕ) (j : Job) (k : ℕ) → Tells σ s (Entry n p j k) NullBulk (Leaving n p j)
-  Useless : (n p : ℕ) (j : Job) (k : ℕ) (u : Bytes) → ((v : Bytes) → Carries σ u (job_tag j) v → ⊥) → Tells σ s (Entry n p j k) (Bulk u) (Leaving n p j)
-  Unnamed : (n p : ℕ) (j : Job) (k : ℕ) (u v : Bytes) → Carries σ u (job_tag j) v → σ.exchange_in u ≡ None → Tells σ s (Entry n p j k) (Bulk u) (routed n p j k v (σ.keys_in u []))
-  Named : (n p : ℕ) (j : Job) (k : ℕ) (u v e : Bytes) → Carries σ u (job_tag j) v → σ.exchange_in u ≡ Some e → Tells σ s (Entry n p j k) (Bulk u) (Asking n p j k u v e)
-  Looked_up : (n p : ℕ) (j : Job) (k : ℕ) (u v : Bytes) (ms : List Bytes) → Tells σ s (Routes n p j k u v) (bulks ms) (routed n p j k v (σ.keys_in u ms))
-  Moved : (n p : ℕ) (j : Job) (k : ℕ) (zs : List ℤ) → Tells σ s (Move n p j k) (integers zs) (finished n p j)
-  Failed : (n p : ℕ) (j : Job) (k : ℕ) → k < 7 → Tells σ s (Move n p j k) NullArray (Waiting n p j (suc k))
-  Contended : (n p : ℕ) (j : Job) (k : ℕ) → k ≡ 7 → Tells σ s (Move n p j k) NullArray (gave_up n p j)
-  Taken : (n p : ℕ) → Tells σ s (Lock n p) NullBulk (Free n (suc p))
-  Given : (n p : ℕ) → Tells σ s (Lock n p) done (Locked n p)
-  Members : (n p : ℕ) (ms : List Bytes) → Tells σ s (Due n p) (bulks ms) (Turning n p (tags_among σ ms))
-  Own : (n p : ℕ) → Tells σ s (Holder n p) (Bulk (token s (suc p))) (Release_own n p)
-  Foreign : (n p : ℕ) (u : Bytes) → (u ≡ token s (suc p) → ⊥) → Tells σ s (Holder n p) (Bulk u) (Release_foreign n p)
-  Nobody : (n p : ℕ) → Tells σ s (Holder n p) NullBulk (Release_foreign n p)
-  Released : (n p : ℕ) (rs : List Value) → Tells σ s (Release n p) (Array rs) (Free n (suc p))
-  Altered : (n p : ℕ) → Tells σ s (Release n p) NullArray (Free n (suc p))
+pub data TellsSpot (σ : Setting) (s : ℕ) : Ask → Value → Spot → Type 0 where
+  Counted : (c : Spot) (z : ℤ) → TellsSpot σ s (Count c) (Integer z) c
+  Consented : (c : Spot) → TellsSpot σ s (Consent c) done c
+  Was_queued : (c : Spot) → TellsSpot σ s (Queueing c) queued c
+  Counted_both : (c : Spot) (x y : ℤ) → TellsSpot σ s (Counts c) (integers (x ∷ y ∷ [])) c
+  Answered : (c : Spot) (r : Value) → is_error r ≡ false → TellsSpot σ s (Anything c) r c
+  Bound : (n p : ℕ) (e : Bytes) (ms : List Bytes) → TellsSpot σ s (Bindings n p e) (bulks ms) (Listed n p e ms)
+  Nothing_there : (n p : ℕ) → TellsSpot σ s (Message n p) NullArray (Free n p)
+  Unreadable : (n p : ℕ) (q v : Bytes) → σ.tag_of v ≡ None → TellsSpot σ s (Message n p) (pair q v) (Free n p)
+  Readable : (n p : ℕ) (q v t : Bytes) → σ.tag_of v ≡ Some t → TellsSpot σ s (Message n p) (pair q v) (Popped n p v t)
+  Missing : (n p : ℕ) (j : Job) (k : ℕ) → TellsSpot σ s (Entry n p j k) NullBulk (Leaving n p j)
+  Useless : (n p : ℕ) (j : Job) (k : ℕ) (u : Bytes) → ((v : Bytes) → Carries σ u (job_tag j) v → ⊥) → TellsSpot σ s (Entry n p j k) (Bulk u) (Leaving n p j)
+  Unnamed : (n p : ℕ) (j : Job) (k : ℕ) (u v : Bytes) → Carries σ u (job_tag j) v → σ.exchange_in u ≡ None → TellsSpot σ s (Entry n p j k) (Bulk u) (routed n p j k v (σ.keys_in u []))
+  Named : (n p : ℕ) (j : Job) (k : ℕ) (u v e : Bytes) → Carries σ u (job_tag j) v → σ.exchange_in u ≡ Some e → TellsSpot σ s (Entry n p j k) (Bulk u) (Asking n p j k u v e)
+  Looked_up : (n p : ℕ) (j : Job) (k : ℕ) (u v : Bytes) (ms : List Bytes) → TellsSpot σ s (Routes n p j k u v) (bulks ms) (routed n p j k v (σ.keys_in u ms))
+  Moved : (n p : ℕ) (j : Job) (k : ℕ) (zs : List ℤ) → TellsSpot σ s (Move n p j k) (integers zs) (finished n p j)
+  Failed : (n p : ℕ) (j : Job) (k : ℕ) → k < 7 → TellsSpot σ s (Move n p j k) NullArray (Waiting n p j (suc k))
+  Contended : (n p : ℕ) (j : Job) (k : ℕ) → k ≡ 7 → TellsSpot σ s (Move n p j k) NullArray (gave_up n p j)
+  Taken : (n p : ℕ) → TellsSpot σ s (Lock n p) NullBulk (Free n (suc p))
+  Given : (n p : ℕ) → TellsSpot σ s (Lock n p) done (Locked n p)
+  Members : (n p : ℕ) (ms : List Bytes) → TellsSpot σ s (Due n p) (bulks ms) (Turning n p (tags_among σ ms))
+  Own : (n p : ℕ) → TellsSpot σ s (Holder n p) (Bulk (token s (suc p))) (Release_own n p)
+  Foreign : (n p : ℕ) (u : Bytes) → (u ≡ token s (suc p) → ⊥) → TellsSpot σ s (Holder n p) (Bulk u) (Release_foreign n p)
+  Nobody : (n p : ℕ) → TellsSpot σ s (Holder n p) NullBulk (Release_foreign n p)
+  Released : (n p : ℕ) (rs : List Value) → TellsSpot σ s (Release n p) (Array rs) (Free n (suc p))
+  Altered : (n p : ℕ) → TellsSpot σ s (Release n p) NullArray (Free n (suc p))
 
 -- one call at a spot, and the spot after it
 pub record Goes (σ : Setting) (s : ℕ) (c : Spot) (x : Call) (c' : Spot) : Type 0 where
   pub ask : Ask
   pub asks : Asks σ s c x.at x.words ask
-  pub tells : Tells σ s ask x.answer c'
+  pub tells : TellsSpot σ s ask x.answer c'
 
 -- calls in a row
 abbrev pub Runs : Setting → ℕ → Spot → List Call → Spot → Type 0

@@ -13,7 +13,7 @@ ghost use Rattle.command_blocks.specs.Setting.{Setting, IsLawful};
 ghost use Rattle.command_blocks.specs.Calls.{Call};
 ghost use Rattle.command_blocks.specs.Blocks.{IsFrontOfBlocks, IsUnlisted, IsMannered};
 ghost use Rattle.manner_laws.specs.Spots.{Spot, Free, Ask};
-ghost use Rattle.manner_laws.specs.Machine.{Asks, Tells, Runs, RunsThrough, RunsOff, TellsExchanges};
+ghost use Rattle.manner_laws.specs.Machine.{Asks, TellsSpot, Runs, RunsThrough, RunsOff, TellsExchanges};
 ghost use Rattle.manner_laws.specs.Cursor.{ask_at, spot_after, At, Unlisted, Unmannered, judge, cursor_of, IsReadable, HaveMomentsOf64Bits};
 ghost use Rattle.manner_laws.specs.LayoutKeys.{LayoutsTell};
 
@@ -42,7 +42,7 @@ pub fn cursor_exact()
 pub fn cursor_steps()
     ensures asks { (σ : Setting) (exchange_at : Bytes → Option Bytes) → IsLawful σ → IsReadable σ exchange_at → (s : ℕ) (c : Spot) (a : ℕ) (words : Words) (q : Ask) → a < 2 ^ 64
         → (ask_at σ exchange_at s c a words ≡ Some q → Asks σ s c a words q) × (Asks σ s c a words q → ask_at σ exchange_at s c a words ≡ Some q) }
-    ensures tells { (σ : Setting) (s : ℕ) (q : Ask) (r : Value) (c : Spot) → (spot_after σ s q r ≡ Some c → Tells σ s q r c) × (Tells σ s q r c → spot_after σ s q r ≡ Some c) }
+    ensures tells { (σ : Setting) (s : ℕ) (q : Ask) (r : Value) (c : Spot) → (spot_after σ s q r ≡ Some c → TellsSpot σ s q r c) × (TellsSpot σ s q r c → spot_after σ s q r ≡ Some c) }
     ensures next { (σ : Setting) (exchange_at : Bytes → Option Bytes) (s : ℕ) (l : List Call) (x : Call) → cursor_of σ exchange_at s (l ++ x ∷ []) ≡ judge σ exchange_at s (cursor_of σ exchange_at s l) x }
 {}
 

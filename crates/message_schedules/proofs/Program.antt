@@ -1,5 +1,5 @@
 -- What the program's schedules determine.
-use Rattle.std.proofs.Common.{◌≡◌, true, length, ◌≤◌, refl, subst, arith}
+use Rattle.std.proofs.Common.{◌≡◌, ℕ, true, List, length, ◌≤◌, refl, subst, arith}
 use Rattle.command_blocks.specs.EnvelopeTexts.{plain_setting, texts}
 use Rattle.place_model.specs.Histories.{History, after}
 use Rattle.queue_keys.specs.Layouts.{is_layout, plain}
@@ -9,7 +9,9 @@ use Rattle.place_model.specs.declared.heard.Heard.{Heard}
 use Rattle.place_theorem.proofs.Sound.{placed_one}
 use Rattle.message_places.proofs.Serving.{exchanges, facts, full}
 use Rattle.schedule_model.specs.EachPlaced.{IsEachPlaced}
-use Rattle.schedule_model.specs.Desk.{ScheduleReader}
+use Rattle.schedule_model.specs.Costs.{is_full}
+use Rattle.schedule_model.specs.Desk.{ScheduleReader, first_desk}
+use Rattle.schedule_model.specs.Filled.{FilledDesk, lines_read}
 use Rattle.schedule_model.specs.Programs.{program_craft}
 use Rattle.schedule_model.specs.Schedules.{Determined, Whole, Full, Bad_line, reader_history, schedule_run}
 use Rattle.schedule_laws.specs.Sound.{IsCraft, IsSoundlyDetermined}
@@ -35,19 +37,19 @@ sound bytes = schedule_sound program_craft craft bytes
 placed : (h : History Heard) → IsSound plain_setting h → IsEachPlaced h
 placed h is p t front accepted single = placed_one (full plain lawful) h p t is front accepted single
 
-all_placed : (r : Determined) → IsSoundlyDetermined plain_setting r → ArePlaced r
-all_placed (Whole d) s = placed (reader_history d) s.history
-all_placed (Full n cost) s = (s.0, placed (reader_history s.0) s.1.history, s.2, s.3, s.4)
-all_placed (Bad_line n reason) s = tt
+all_placed : (ls : List Bytes) (r : Determined) → IsSoundlyDetermined program_craft ls r → ArePlaced ls r
+all_placed ls (Whole d) s = placed (reader_history d) s.history
+all_placed ls (Full n cost) s = (s.0, placed (reader_history s.0.desk) s.1.history, s.2)
+all_placed ls (Bad_line n reason) s = tt
 
 pub each_placed : HistoriesPlaced
-each_placed bytes = all_placed (schedule_run program_craft bytes) (sound bytes)
+each_placed bytes = all_placed (lines_read bytes) (schedule_run program_craft bytes) (sound bytes)
 
 -- ---- of a whole history
 
 -- the history that a schedule determines is sound
 pub whole_sound : (bytes : Bytes) (d : ScheduleReader) → schedule_run program_craft bytes ≡ Whole d → IsSound plain_setting (reader_history d)
-whole_sound bytes d e = (subst (IsSoundlyDetermined plain_setting) e (sound bytes)).history
+whole_sound bytes d e = (subst (IsSoundlyDetermined program_craft (lines_read bytes)) e (sound bytes)).history
 
 -- and its messages are in their places
 pub whole_placed : (bytes : Bytes) (d : ScheduleReader) → schedule_run program_craft bytes ≡ Whole d → IsEachPlaced (reader_history d)
@@ -55,4 +57,11 @@ whole_placed bytes d e = placed (reader_history d) (whole_sound bytes d e)
 
 -- and it leaves the desk's store
 pub whole_store : (bytes : Bytes) (d : ScheduleReader) → schedule_run program_craft bytes ≡ Whole d → (after (reader_history d)).store ≡ d.store
-whole_store bytes d e = (subst (IsSoundlyDetermined plain_setting) e (sound bytes)).store
+whole_store bytes d e = (subst (IsSoundlyDetermined program_craft (lines_read bytes)) e (sound bytes)).store
+
+-- ---- of a history that was full
+
+-- the desk that the lines filled: it is full, its history is sound, and its messages are in their places
+pub full_desk : (bytes : Bytes) (n cost : ℕ) → schedule_run program_craft bytes ≡ Full n cost
+    → (f : FilledDesk program_craft first_desk (lines_read bytes) n cost) × (is_full f.desk.entries ≡ true) × IsSound plain_setting (reader_history f.desk) × IsEachPlaced (reader_history f.desk)
+full_desk bytes n cost e = let s = subst (IsSoundlyDetermined program_craft (lines_read bytes)) e (sound bytes) in (s.0, s.2, s.1.history, placed (reader_history s.0.desk) s.1.history)

@@ -10,7 +10,7 @@ pub fn program_crafts()
     ensures { IsCraft program_craft }
 {}
 
-/// What a schedule determines is sound: a whole history, and also one that was full.
+/// What a schedule determines is sound: a whole history, and also that of the desk that was full.
 pub fn schedules_sound()
     ensures { HistoriesSound }
 {}

@@ -36,17 +36,16 @@ abbrev pub held_after : Setting → Option (Bytes × Bytes) → List Call → Op
 held_after σ old [] = old
 held_after σ old (x ∷ xs) = held_after σ (held_by σ old (command_of x.words) x.answer) xs
 
--- a client that isn't stopped has it in hand: its last BRPOP that named a queue gave an envelope with this tag, which is b but for its two marks, and no EXEC came since
+-- a client has it in hand, or had it when it was stopped: its last BRPOP that named a queue gave an envelope with this tag, which is b but for its two marks, and no EXEC came since
 pub record HoldsEnvelope (σ : Setting) (w : SystemState) (t b : Bytes) : Type 0 where
   pub connection : ℕ
   pub client : Client
   pub known : get w.clients connection ≡ Some client
-  pub runs : client.stopped ≡ false
   pub envelope : Bytes
   pub in_hand : held_after σ None client.calls ≡ Some (t, envelope)
   pub body : σ.body_of envelope ≡ b
 
--- it stands in the list of a queue, in the table or in a hand
+-- it stands in the list of a queue, in the table or in a hand, that of a stopped client too
 abbrev pub HasAnywhere : Setting → SystemState → Bytes → Bytes → Type 0
 HasAnywhere σ w t b = HasEnvelope σ w.store.keys t b ⊎ HoldsEnvelope σ w t b
 

@@ -46,10 +46,10 @@ use Rattle.place_theorem.proofs.Whole.{AllMannered, call_in, grows_one, inv_read
 abbrev pub OriginIn : Full → Keys → SystemState → Bytes → Bytes → Type 0
 OriginIn σ m w t b = HasEnvelope σ.names m t b ⊎ IsPublished σ.names w t b
 
--- what is known of each envelope that stands in the store, or that a client has in hand
+-- what is known of each envelope that stands in the store, or that a client has in hand, stopped or not
 pub record AllKnown (σ : Full) (m : Keys) (w : SystemState) : Type 0 where
   pub stored : (t b : Bytes) → HasEnvelope σ.names w.store.keys t b → OriginIn σ m w t b
-  pub held : (c : ℕ) (cl : Client) (t v : Bytes) → get w.clients c ≡ Some cl → cl.stopped ≡ false → held_after σ.names None cl.calls ≡ Some (t, v) → OriginIn σ m w t (σ.names.body_of v)
+  pub held : (c : ℕ) (cl : Client) (t v : Bytes) → get w.clients c ≡ Some cl → held_after σ.names None cl.calls ≡ Some (t, v) → OriginIn σ m w t (σ.names.body_of v)
   pub hands : (c : ℕ) (cl : Client) (cur : Cursor) (h : Bytes × Bytes) → get w.clients c ≡ Some cl → cl.stopped ≡ false → Runs σ Idle cl.calls cur → held_in cur ≡ Some h → OriginIn σ m w h.0 (σ.names.body_of h.1)
 
 -- ---- what a pop gives stood in a list
@@ -219,12 +219,12 @@ module _ (σ : Full) (base : Bytes → ℕ) (m : Keys) (w : SystemState) (inv : 
 
       by_queue : (p : Bytes × Bytes) (b : Bool) → is_queue σ.names p.0 ≡ b → pair_of reply.answer ≡ Some p → (if b then option_map {U = Bytes × Bytes} (λ u. (u, p.1)) (σ.names.tag_of p.1) else held_after σ.names None cl.calls) ≡ Some (t, v) → OriginIn σ m w t (σ.names.body_of v)
       by_queue p true q f h = by_tag p (σ.names.tag_of p.1) q refl f h
-      by_queue p false q f h = known.held c cl t v is runs_on h
+      by_queue p false q f h = known.held c cl t v is h
 
       by_pair : (o : Option (Bytes × Bytes)) → pair_of reply.answer ≡ o → held_from σ.names (held_after σ.names None cl.calls) o ≡ Some (t, v) → OriginIn σ m w t (σ.names.body_of v)
-      by_pair None f h = known.held c cl t v is runs_on h
+      by_pair None f h = known.held c cl t v is h
       by_pair (Some p) f h = by_queue p (is_queue σ.names p.0) refl f h
-    held_came t v other e h = known.held c cl t v is runs_on h
+    held_came t v other e h = known.held c cl t v is h
 
     -- the client's calls, with this one
     now : get (next w entry).clients c ≡ Some new
@@ -240,16 +240,16 @@ module _ (σ : Full) (base : Bytes → ℕ) (m : Keys) (w : SystemState) (inv : 
         | inl o ↦ origin_kept σ m w entry t b o
         | inr push ↦ inr (c, new, now, pushed_last σ t b cl.calls x push)
       ];
-      held = λ d dl t v dis on h. origin_kept σ m w entry t (σ.names.body_of v) (in_hand_of d dl t v dis on h (conn_or d c));
+      held = λ d dl t v dis h. origin_kept σ m w entry t (σ.names.body_of v) (in_hand_of d dl t v dis h (conn_or d c));
       hands = λ d dl cur h dis on runs in_hand. origin_kept σ m w entry h.0 (σ.names.body_of h.1) (go d dl cur h dis on runs in_hand (conn_or d c));
     }
       where
-        in_hand_of : (d : ℕ) (dl : Client) (t v : Bytes) → get (next w entry).clients d ≡ Some dl → dl.stopped ≡ false → held_after σ.names None dl.calls ≡ Some (t, v) → (d ≡ c) ⊎ (d ≢ c) → OriginIn σ m w t (σ.names.body_of v)
-        in_hand_of d dl t v dis on h (inl e) =
+        in_hand_of : (d : ℕ) (dl : Client) (t v : Bytes) → get (next w entry).clients d ≡ Some dl → held_after σ.names None dl.calls ≡ Some (t, v) → (d ≡ c) ⊎ (d ≢ c) → OriginIn σ m w t (σ.names.body_of v)
+        in_hand_of d dl t v dis h (inl e) =
             let at_c : get (next w entry).clients c ≡ Some dl = subst (λ y. get (next w entry).clients y ≡ Some dl) e dis in
             let they : new ≡ dl = cc (at_c, now) in
             held_came t v (command_of words) refl (sym (held_more σ.names None cl.calls x) ∙ (ap (λ y. held_after σ.names None y.calls) they ∙ h))
-        in_hand_of d dl t v dis on h (inr n) = known.held d dl t v (sym (others d n) ∙ dis) on h
+        in_hand_of d dl t v dis h (inr n) = known.held d dl t v (sym (others d n) ∙ dis) h
 
         go : (d : ℕ) (dl : Client) (cur : Cursor) (h : Bytes × Bytes) → get (next w entry).clients d ≡ Some dl → dl.stopped ≡ false → Runs σ Idle dl.calls cur → held_in cur ≡ Some h → (d ≡ c) ⊎ (d ≢ c) → OriginIn σ m w h.0 (σ.names.body_of h.1)
         go d dl cur h dis on runs in_hand (inl e) =
@@ -271,17 +271,16 @@ module _ (σ : Full) (base : Bytes → ℕ) (m : Keys) (w : SystemState) (inv : 
     pub known_stopped : AllKnown σ m (next {N = N} w (Stop c))
     known_stopped = record {
       stored = λ t b st. origin_kept {N = N} σ m w (Stop c) t b (known.stored t b (subst (λ y. HasEnvelope σ.names y.store.keys t b) at_stop st));
-      held = λ d dl t v dis on h. origin_kept {N = N} σ m w (Stop c) t (σ.names.body_of v) (in_hand_of d dl t v (sym (ap (λ y. get y.clients d) at_stop) ∙ dis) on h (conn_or d c));
+      held = λ d dl t v dis h. origin_kept {N = N} σ m w (Stop c) t (σ.names.body_of v) (in_hand_of d dl t v (sym (ap (λ y. get y.clients d) at_stop) ∙ dis) h (conn_or d c));
       hands = λ d dl cur h dis on runs in_hand. origin_kept {N = N} σ m w (Stop c) h.0 (σ.names.body_of h.1) (go d dl cur h (sym (ap (λ y. get y.clients d) at_stop) ∙ dis) on runs in_hand (conn_or d c));
     }
       where
-        in_hand_of : (d : ℕ) (dl : Client) (t v : Bytes) → get (insert w.clients c halted) d ≡ Some dl → dl.stopped ≡ false → held_after σ.names None dl.calls ≡ Some (t, v) → (d ≡ c) ⊎ (d ≢ c) → OriginIn σ m w t (σ.names.body_of v)
-        in_hand_of d dl t v dis on h (inl e) =
+        in_hand_of : (d : ℕ) (dl : Client) (t v : Bytes) → get (insert w.clients c halted) d ≡ Some dl → held_after σ.names None dl.calls ≡ Some (t, v) → (d ≡ c) ⊎ (d ≢ c) → OriginIn σ m w t (σ.names.body_of v)
+        in_hand_of d dl t v dis h (inl e) =
             let at_c : get (insert w.clients c halted) c ≡ Some dl = subst (λ y. get (insert w.clients c halted) y ≡ Some dl) e dis in
             let they : halted ≡ dl = cc (at_c, get-insert_same nat_cmp nat_cmp_total nat_cmp-IsAntisymmetric w.clients c halted) in
-            let wrong : true ≡ false = ap (λ y. y.stopped) they ∙ on in
-            absurd (cc wrong)
-        in_hand_of d dl t v dis on h (inr n) = known.held d dl t v (sym (get-insert_other nat_cmp nat_cmp_total nat_cmp-IsAntisymmetric w.clients c halted d n) ∙ dis) on h
+            known.held c cl t v is (ap (λ y. held_after σ.names None y.calls) they ∙ h)
+        in_hand_of d dl t v dis h (inr n) = known.held d dl t v (sym (get-insert_other nat_cmp nat_cmp_total nat_cmp-IsAntisymmetric w.clients c halted d n) ∙ dis) h
 
         go : (d : ℕ) (dl : Client) (cur : Cursor) (h : Bytes × Bytes) → get (insert w.clients c halted) d ≡ Some dl → dl.stopped ≡ false → Runs σ Idle dl.calls cur → held_in cur ≡ Some h → (d ≡ c) ⊎ (d ≢ c) → OriginIn σ m w h.0 (σ.names.body_of h.1)
         go d dl cur h dis on runs in_hand (inl e) =
@@ -296,7 +295,7 @@ module _ (σ : Full) (base : Bytes → ℕ) (m : Keys) (w : SystemState) (inv : 
 known_start : (σ : Full) (m : Keys) (cs : List (ℕ × ℕ)) → AllKnown σ m (start_from m cs)
 known_start σ m cs = record {
   stored = λ t b st. inl st;
-  held = λ c cl t v is on h. no_pair (t, v) (sym (ap (held_after σ.names None) (table_get cs c cl is).0) ∙ h);
+  held = λ c cl t v is h. no_pair (t, v) (sym (ap (held_after σ.names None) (table_get cs c cl is).0) ∙ h);
   hands = λ c cl cur h is on runs in_hand.
       let idle : Idle ≡ cur = subst (λ l. Runs σ Idle l cur) (table_get cs c cl is).0 runs in
       let no_hand : held_in Idle ≡ Some h = subst (λ y. held_in y ≡ Some h) (sym idle) in_hand in
@@ -327,4 +326,4 @@ identity σ h p t b sound pre st = (known_of σ h p sound pre).stored t b st
 -- and so has each that is in a hand
 pub identity_anywhere : {N : Type 0} (σ : Full) (h p : History N) (t b : Bytes) → IsSound σ.names h → IsHistoryPrefix p h → HasAnywhere σ.names (after p) t b → HasOrigin σ.names p t b
 identity_anywhere σ h p t b sound pre (inl st) = identity σ h p t b sound pre st
-identity_anywhere σ h p t b sound pre (inr g) = subst (HasOrigin σ.names p t) g.body ((known_of σ h p sound pre).held g.connection g.client t g.envelope g.known g.runs g.in_hand)
+identity_anywhere σ h p t b sound pre (inr g) = subst (HasOrigin σ.names p t) g.body ((known_of σ h p sound pre).held g.connection g.client t g.envelope g.known g.in_hand)

@@ -5,12 +5,15 @@ use Rattle.wire_values.specs.declared.value.Value.{Value}
 use Rattle.wire_values.specs.declared.value.Value.TheVariants.{Array}
 use Rattle.store_model.specs.Commands.{Around, is_queued, run}
 use Rattle.store_model.specs.Connections.{Conns, around, conn}
-use Rattle.store_model.specs.Keys.{Keys, is_expired, live_at, value_at, value_of}
+use Rattle.store_model.specs.Keys.{Keys, expiry_of, is_expired, live_at, value_at, value_of}
 use Rattle.store_model.specs.Replies.{bulks}
 use Rattle.store_model.specs.Store.{State, run_all, serve, settled}
 use Rattle.store_model.specs.Words.{Words, command_of}
 use Rattle.store_model.specs.declared.command.Command.{Command}
 use Rattle.store_model.specs.declared.command.Command.TheVariants.{Exec, Hdel, Zrem}
+use Rattle.store_model.specs.declared.held.Held.{Held}
+use Rattle.store_model.specs.declared.held.Stored.{Stored}
+use Rattle.store_model.specs.declared.held.Stored.TheVariants.{Hash, Items, Members, Scores, Text}
 use Rattle.store_model.specs.declared.reply.Reply.{Reply}
 use Rattle.store_laws.proofs.Changes.{queue_not_index, queue_not_unacked, unacked_not_index}
 use Rattle.store_laws.proofs.Others.{hdel_others, zrem_others}
@@ -28,8 +31,9 @@ use Rattle.command_blocks.specs.ReturnBlocks.{Carries}
 use Rattle.place_model.specs.Returns.{IsWholeReturn, ReturnsWhole, gain, push_commands, take_out}
 use Rattle.place_model.specs.Seen.{Seen, seen}
 use Rattle.command_blocks.specs.Setting.{is_queue}
-use Rattle.place_model.specs.Starts.{IsHashOrNone, IsSound, elements_at, elements_of}
+use Rattle.place_model.specs.Starts.{IsHashOrNone, IsListOrNone, IsSound, elements_at, elements_of}
 use Rattle.command_blocks.specs.declared.side.Side.{Side}
+use Rattle.command_blocks.specs.declared.side.Side.TheVariants.{Left, Right}
 use Rattle.place_model.specs.declared.history.Entry.TheVariants.{Call as Called}
 use Rattle.place_theorem.proofs.Full.{Alike, Full, Kinds, keys_of}
 use Rattle.place_theorem.proofs.Kept.{Inv}
@@ -70,6 +74,7 @@ pub record Taken (σ : Full) (m m' : Keys) (side : Side) (t v : Bytes) (ks : Lis
   pub gained : (k : Bytes) → Among k ks → elements_at m' k ≡ gain side v (elements_at m k)
   pub others : (x : Bytes) → x ≢ t → (table_entry σ.names m' x ≡ table_entry σ.names m x) × (score_at σ.names m' x ≡ score_at σ.names m x)
   pub elsewhere : (k : Bytes) → IsAway k (σ.names.unacked ∷ σ.names.index ∷ ks) → get m' k ≡ get m k
+  pub kinds : Kinds σ m'
 
 module _ (σ : Full) (at : ℕ) (cs : Conns) (s : State) (c : ℕ) (sn : Seen) (kinds : Kinds σ s.keys) (alike : Alike σ s.keys) (t : Bytes) (side : Side) (u v : Bytes) (ms : List Bytes) (tag : σ.names.tag_of v ≡ Some t) where
   abbrev ks : List Bytes
@@ -128,7 +133,26 @@ module _ (σ : Full) (at : ℕ) (cs : Conns) (s : State) (c : ℕ) (sn : Seen) (
         pushes_gain σ at cs mid side v k ks out.kinds (σ.laws.keys_in_are u ms) (σ.laws.keys_in_differ u ms) is ∙ ap (λ o. gain side v (elements_of (value_of o))) (between k n.0 n.1);
     others = λ x n. (entries_kept x n, scores_kept x n);
     elsewhere = λ k far. pushes_away at cs mid side v k ks far.1.1 ∙ between k far.0 far.1.0;
+    kinds = all.kinds;
   }
+
+-- a list gained something
+gained_some : {A : Type 0} (side : Side) (v : Bytes) (xs : List Bytes) → ◌≡◌ {A = List Bytes} [] (gain side v xs) → A
+gained_some Left v xs e = absurd (cc e)
+gained_some Right v [] e = absurd (cc e)
+gained_some Right v (x ∷ xs) e = absurd (cc e)
+
+-- what holds a list that doesn't expire is known by its elements
+items_held : (h : Held) (value : Stored) (ys : List Bytes) → h.value ≡ value → IsListOrNone (Some value) → h.expiry ≡ None → elements_of (Some value) ≡ ys → ◌≡◌ {A = Option Held} (Some h) (Some (record { value = Items ys; expiry = None }))
+items_held h (Items xs) ys is list lasts e = λ i. Some (record { value = (is ∙ ap Items e) i; expiry = lasts i })
+items_held h (Text x) ys is list lasts e = absurd list
+items_held h (Members g) ys is list lasts e = absurd list
+items_held h (Hash g) ys is list lasts e = absurd list
+items_held h (Scores g) ys is list lasts e = absurd list
+
+gained_held : (side : Side) (v : Bytes) (xs : List Bytes) (o : Option Held) → IsListOrNone (value_of o) → expiry_of o ≡ None → elements_of (value_of o) ≡ gain side v xs → o ≡ Some (record { value = Items (gain side v xs); expiry = None })
+gained_held side v xs None list lasts e = gained_some side v xs e
+gained_held side v xs (Some h) list lasts e = items_held h h.value (gain side v xs) refl list lasts e
 
 -- and from the keys before what was due was dropped
 whole_from : (σ : Full) (m m' : Keys) (at : ℕ) (side : Side) (t u v : Bytes) (ms : List Bytes) → Kinds σ m → Carries σ.names u t v → table_entry σ.names (live_at at m) t ≡ Some u → Taken σ (live_at at m) m' side t v (σ.names.keys_in u ms) → IsWholeReturn σ.names m m' at side t u v (σ.names.keys_in u ms)
@@ -140,7 +164,12 @@ whole_from σ m m' at side t u v ms kinds carries was taken =
       carries = carries;
       no_field = taken.no_field;
       no_member = taken.no_member;
-      gained = λ k is. taken.gained k is ∙ ap (λ o. gain side v (elements_of (value_of o))) (get-lasting σ m at kinds k (kinds.lists_last k (among_queue σ k (σ.names.keys_in u ms) (σ.laws.keys_in_are u ms) is)));
+      gained = λ k is.
+          let queue : is_queue σ.names k ≡ true = among_queue σ k (σ.names.keys_in u ms) (σ.laws.keys_in_are u ms) is in
+          gained_held side v (elements_at m k) (get m' k) (taken.kinds.lists k queue) (taken.kinds.lists_last k queue)
+          (taken.gained k is ∙ ap (λ o. gain side v (elements_of (value_of o))) (get-lasting σ m at kinds k (kinds.lists_last k queue)));
+      table = (taken.kinds.table, taken.kinds.table_lasts);
+      index = (taken.kinds.members, taken.kinds.members_last);
       others = λ x n. ((taken.others x n).0 ∙ ap (λ o. field_of (value_of o) x) ua, (taken.others x n).1 ∙ ap (λ o. score_of (value_of o) x) ia);
       elsewhere = λ k far. go k (is_expired at (get m k)) refl (taken.elsewhere k far ∙ get-live_at at m k);
     }

@@ -5,6 +5,8 @@
 #[cfg(test)]
 mod ends;
 #[cfg(test)]
+mod long_runs;
+#[cfg(test)]
 mod played;
 #[cfg(test)]
 mod process;

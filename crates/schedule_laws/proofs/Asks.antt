@@ -1,15 +1,15 @@
 -- What each line keeps of a desk: each client's calls are those of the blocks that it was asked for.
-use Rattle.std.proofs.Common.{◌≡◌, ◌≢◌, ◌⊎◌, inl, inr, ℕ, ◌<◌, ◌+◌, ◌^◌, suc, refl, ap, sym, ◌∙◌, subst, arith, List, [], ◌∷◌, ◌++◌, append_assoc, Bool, true, false, Option, None, Some, if◌then◌else◌, length, take, codes}
+use Rattle.std.proofs.Common.{◌≡◌, ◌≢◌, ◌⊎◌, inl, inr, ℕ, ◌<◌, ◌+◌, ◌^◌, suc, refl, ap, sym, ◌∙◌, subst, arith, List, [], ◌∷◌, ◌++◌, append_assoc, Bool, true, false, Option, None, Some, if◌then◌else◌}
 use Rattle.std.proofs.lemmas.List.{append-nil}
 use Rattle.std.proofs.lemmas.Grind.{common_steps}
-use Rattle.std.specs.Prelude.{◌==◌, ◌||◌, nat_eq, nat_lt, bytes_eq}
+use Rattle.std.specs.Prelude.{◌==◌, ◌||◌, nat_eq}
 use Rattle.std.specs.Ordering.{nat_cmp}
 use Rattle.std.specs.FinMap.{get, insert, empty, get-empty}
 use Rattle.wire_values.specs.declared.value.Value.{Value}
-use Rattle.line_text.specs.Lines.{lines_of, text_fault}
+use Rattle.line_text.specs.Lines.{text_fault}
 use Rattle.line_text.specs.Words.{words_of}
 use Rattle.line_text.specs.declared.reason.Reason.{Reason}
-use Rattle.line_text.specs.declared.reason.Reason.TheVariants.{Header, Later}
+use Rattle.line_text.specs.declared.reason.Reason.TheVariants.{Later}
 use Rattle.store_model.specs.Words.{Words}
 use Rattle.store_model.specs.Store.{State, apply_of}
 use Rattle.store_model.specs.declared.reply.Reply.{Reply}
@@ -21,19 +21,21 @@ use Rattle.schedule_model.specs.Built.{waits}
 use Rattle.schedule_model.specs.Costs.{is_full}
 use Rattle.schedule_model.specs.Desk.{ScheduleReader, ClientBook, Said, first_desk, with_book, with_call, reader_with_client, begun, said_one, said_all, with_stop}
 use Rattle.schedule_model.specs.Faults.{Craft, first_reason, tests, is_gone, is_busy, is_script_off, has_number, has_seed, asked_tests, client_seed, counter_of}
+use Rattle.schedule_model.specs.Filled.{FilledDesk, IsLedBy, LeadTo, lines_read, lines_until}
 use Rattle.schedule_model.specs.Lines.{line_in}
-use Rattle.schedule_model.specs.Schedules.{Led, Went, Filled, Bad, plan_of, with_plan, reader_after, stepped, run_through, stopped, led, led_unless, led_by, text_led, line_led, header_led, Determined, Whole, led_on, last_led, lines_led, header_on, max_input}
+use Rattle.schedule_model.specs.Schedules.{Led, Went, Filled, Bad, plan_of, with_plan, reader_after, stepped, run_through, stopped, led, led_unless, led_by, text_led, line_led, Determined, Whole, Full, Bad_line, max_line, schedule_run}
 use Rattle.schedule_model.specs.declared.line.Asked.{Asked}
 use Rattle.schedule_model.specs.declared.line.Line.{Line}
 use Rattle.schedule_model.specs.declared.line.Line.TheVariants.{Client, At, Begin, Step, Run, Stop}
 use Rattle.block_laws.proofs.Values.{some_is}
 use Rattle.block_laws.proofs.PlanRows.{plan_row}
 use Rattle.schedule_laws.specs.Sound.{IsCraft}
-use Rattle.schedule_laws.specs.BegunBlocks.{after_header, asked_at, asked_by, AreAskedBlocks, SaysAsked, IsAskedFor, SchedulesSayBlocks}
+use Rattle.schedule_laws.specs.BegunBlocks.{asked_at, asks_in, AreAskedBlocks, SaysAsked, IsAskedFor, SchedulesSayBlocks}
 use Rattle.schedule_laws.proofs.Asking.{AreFaultless, faultless, lawful_plan}
 use Rattle.schedule_laws.proofs.Begun.{IsAsked, new_asked, begun_asked, call_asked, gone_asked, asked_said}
 use Rattle.schedule_laws.proofs.Desks.{Holds, first_holds}
-use Rattle.schedule_laws.proofs.Determined.{LedHolds, line_holds, over_of}
+use Rattle.schedule_laws.proofs.Leads.{schedule_leads}
+use Rattle.schedule_laws.proofs.Determined.{LedHolds, filled_holds, line_holds, lines_hold, over_of}
 use Rattle.schedule_laws.proofs.Numbered.{same_or, get_same, get_other, insert_twice}
 use Rattle.schedule_laws.proofs.Spelled.{IfThere, IsAskedWithin, IsWithin, line_there}
 use Rattle.schedule_laws.proofs.Worlds.{neither, own_more, foreign_more}
@@ -316,64 +318,44 @@ text_asks κ craft f d line soon h (Some r) = tt
 text_asks κ craft f d line soon h None =
     if_asks κ (and_line f (line_in (words_of line))) (waits κ.built (words_of line)) (Bad Later) (led_by κ d (line_in (words_of line))) tt (by_asks κ craft f d soon h (line_in (words_of line)) (line_there (words_of line)))
 
-asked_later : (c : ℕ) (ls : List Bytes) (l : Bytes) → asked_by c (ls ++ l ∷ []) ≡ asked_by c ls ++ asked_at c (line_in (words_of l))
+asked_later : (c : ℕ) (ls : List Bytes) (l : Bytes) → asks_in c (ls ++ l ∷ []) ≡ asks_in c ls ++ asked_at c (line_in (words_of l))
 asked_later c [] l = append-nil (asked_at c (line_in (words_of l)))
-asked_later c (k ∷ ls) l = ap (λ z. asked_at c (line_in (words_of k)) ++ z) (asked_later c ls l) ∙ sym (append_assoc (asked_at c (line_in (words_of k))) (asked_by c ls) (asked_at c (line_in (words_of l))))
+asked_later c (k ∷ ls) l = ap (λ z. asked_at c (line_in (words_of k)) ++ z) (asked_later c ls l) ∙ sym (append_assoc (asked_at c (line_in (words_of k))) (asks_in c ls) (asked_at c (line_in (words_of l))))
 
 -- what a client was asked by these lines
 abbrev of_lines : List Bytes → ℕ → List Asked
-of_lines ls c = asked_by c ls
+of_lines ls c = asks_in c ls
 
 line_asks : (κ : Craft) (craft : IsCraft κ) (ls : List Bytes) (d : ScheduleReader) (line : Bytes) → d.moment < 2 ^ 40 → Asks κ (of_lines ls) d → LedAsks κ (of_lines (ls ++ line ∷ [])) (line_led κ d line)
 line_asks κ craft ls d line soon h =
-    led_same κ (and_line (of_lines ls) (line_in (words_of line))) (of_lines (ls ++ line ∷ [])) (λ c. asked_later c ls line) (line_led κ d line) (text_asks κ craft (of_lines ls) d line soon h (text_fault 65536 line))
+    led_same κ (and_line (of_lines ls) (line_in (words_of line))) (of_lines (ls ++ line ∷ [])) (λ c. asked_later c ls line) (line_led κ d line) (text_asks κ craft (of_lines ls) d line soon h (text_fault max_line line))
 
 -- ---- a schedule
 
 says : (κ : Craft) (craft : IsCraft κ) (ls : List Bytes) (d : ScheduleReader) → Holds κ.setting d → Asks κ (of_lines ls) d → SaysAsked κ ls d
 says κ craft ls d h a c s among =
     let b = h.book_of c s among in
-    subst (λ q. AreAskedBlocks κ q 0 0 (asked_by c ls) (calls_of c d.entries)) b.2 (asked_said κ craft (asked_by c ls) (calls_of c d.entries) b.0 (a.books c b.0 b.1))
+    subst (λ q. AreAskedBlocks κ q 0 0 (asks_in c ls) (calls_of c d.entries)) b.2 (asked_said κ craft (asks_in c ls) (calls_of c d.entries) b.0 (a.books c b.0 b.1))
 
-module _ (κ : Craft) (craft : IsCraft κ) where
-  on_says : (go : ScheduleReader → Determined) (n : ℕ) (ls : List Bytes) (l : Bytes) (later : List Bytes) (r : Led) → LedHolds κ.setting r → LedAsks κ (of_lines (ls ++ l ∷ [])) r
-      → ((d : ScheduleReader) → Holds κ.setting d → Asks κ (of_lines (ls ++ l ∷ [])) d → IsAskedFor κ ((ls ++ l ∷ []) ++ later) (go d)) → IsAskedFor κ (ls ++ l ∷ later) (led_on go n r)
-  on_says go n ls l later (Went d) h a f = subst (λ z. IsAskedFor κ z (go d)) (append_assoc ls (l ∷ []) later) (f d h a)
-  on_says go n ls l later (Filled d) h a f = (d, ls ++ l ∷ [], refl, refl, (later, append_assoc ls (l ∷ []) later), says κ craft (ls ++ l ∷ []) d h.0 a)
-  on_says go n ls l later (Bad r) h a f = tt
+-- lines in a row, each of which leads to a desk
+lines_ask : (κ : Craft) (craft : IsCraft κ) (before ls : List Bytes) (d e : ScheduleReader) → Holds κ.setting d → Asks κ (of_lines before) d → LeadTo κ d ls e → Asks κ (of_lines (before ++ ls)) e
+lines_ask κ craft before [] d e h a to = subst (Asks κ (of_lines (before ++ []))) to (subst (λ z. Asks κ (of_lines z) d) (sym (append-nil before)) a)
+lines_ask κ craft before (l ∷ ls) d e h a to =
+    subst (λ z. Asks κ (of_lines z) e) (append_assoc before (l ∷ []) ls)
+    (lines_ask κ craft (before ++ l ∷ []) ls to.0 e (subst (LedHolds κ.setting) to.1 (line_holds κ craft d l h)) (subst (LedAsks κ (of_lines (before ++ l ∷ []))) to.1 (line_asks κ craft before d l h.present a)) to.2)
 
-  last_holds : (cut : Bool) (r : Led) → LedHolds κ.setting r → LedHolds κ.setting (last_led cut r)
-  last_holds true r h = tt
-  last_holds false r h = h
+-- the line that had no room
+filled_asks : (κ : Craft) (craft : IsCraft κ) (ls : List Bytes) (n cost : ℕ) (f : FilledDesk κ first_desk ls n cost) → Asks κ (of_lines (lines_until f.filled)) f.desk
+filled_asks κ craft ls n cost f =
+    let h = lines_hold κ craft first_desk f.filled.desk f.filled.before (first_holds κ.setting) f.filled.led in
+    subst (LedAsks κ (of_lines (lines_until f.filled))) f.filled.filled
+    (line_asks κ craft f.filled.before f.filled.desk f.filled.line h.present (lines_ask κ craft [] f.filled.before first_desk f.filled.desk (first_holds κ.setting) (first_asks κ) f.filled.led))
 
-  last_asks : (cut : Bool) (f : ℕ → List Asked) (r : Led) → LedAsks κ f r → LedAsks κ f (last_led cut r)
-  last_asks true f r h = tt
-  last_asks false f r h = h
-
-  whole_says : (ls : List Bytes) (d : ScheduleReader) → Holds κ.setting d → Asks κ (of_lines ls) d → IsAskedFor κ (ls ++ []) (Whole d)
-  whole_says ls d h a = subst (λ z. SaysAsked κ z d) (sym (append-nil ls)) (says κ craft ls d h a)
-
-  lines_say : (cut : Bool) (n : ℕ) (ls : List Bytes) (d : ScheduleReader) (later : List Bytes) → Holds κ.setting d → Asks κ (of_lines ls) d → IsAskedFor κ (ls ++ later) (lines_led κ cut n d later)
-  lines_say cut n ls d [] h a = whole_says ls d h a
-  lines_say cut n ls d (l ∷ []) h a =
-      on_says Whole n ls l [] (last_led cut (line_led κ d l)) (last_holds cut (line_led κ d l) (line_holds κ craft d l h)) (last_asks cut (of_lines (ls ++ l ∷ [])) (line_led κ d l) (line_asks κ craft ls d l h.present a)) (λ e g b. whole_says (ls ++ l ∷ []) e g b)
-  lines_say cut n ls d (l ∷ m ∷ later) h a =
-      on_says (λ e. lines_led κ cut (n + 1) e (m ∷ later)) n ls l (m ∷ later) (line_led κ d l) (line_holds κ craft d l h) (line_asks κ craft ls d l h.present a) (λ e g b. lines_say cut (n + 1) (ls ++ l ∷ []) e (m ∷ later) g b)
-
-  -- the header asks nothing
-  from_header : (go : ScheduleReader → Determined) (n : ℕ) (later : List Bytes) (line : Bytes) (cut : Bool) (o : Option Reason) → ((d : ScheduleReader) → Holds κ.setting d → Asks κ (of_lines []) d → IsAskedFor κ later (go d))
-      → IsAskedFor κ later (led_on go n (last_led cut (header_led line o)))
-  from_header go n later line true o f = tt
-  from_header go n later line false (Some r) f = tt
-  from_header go n later line false None f = by (bytes_eq line (codes "celery-schedule 1")) where
-    by : (b : Bool) → IsAskedFor κ later (led_on go n (if b then Went first_desk else Bad Header))
-    by true = f first_desk (first_holds κ.setting) (first_asks κ)
-    by false = tt
-
-  header_says : (cut : Bool) (ls : List Bytes) → IsAskedFor κ (after_header ls) (header_on κ cut ls)
-  header_says cut [] = tt
-  header_says cut (h ∷ []) = from_header Whole 1 [] h cut (text_fault 65536 h) (λ d g a. whole_says [] d g a)
-  header_says cut (h ∷ l ∷ ls) = from_header (λ d. lines_led κ cut 2 d (l ∷ ls)) 1 (l ∷ ls) h false (text_fault 65536 h) (λ d g a. lines_say cut 2 [] d (l ∷ ls) g a)
+determined_asked : (κ : Craft) (craft : IsCraft κ) (ls : List Bytes) (r : Determined) → IsLedBy κ first_desk ls r → IsAskedFor κ ls r
+determined_asked κ craft ls (Whole d) to =
+    says κ craft ls d (lines_hold κ craft first_desk d ls (first_holds κ.setting) to) (lines_ask κ craft [] ls first_desk d (first_holds κ.setting) (first_asks κ) to)
+determined_asked κ craft ls (Full n cost) f = (f, says κ craft (lines_until f.filled) f.desk (filled_holds κ craft first_desk ls n cost (first_holds κ.setting) f).0 (filled_asks κ craft ls n cost f))
+determined_asked κ craft ls (Bad_line n reason) to = tt
 
 pub said_blocks : SchedulesSayBlocks
-said_blocks κ craft bytes = header_says κ craft (nat_lt max_input (length bytes)) (lines_of (take (max_input + 1) bytes))
+said_blocks κ craft bytes = determined_asked κ craft (lines_read bytes) (schedule_run κ bytes) (schedule_leads κ bytes)

@@ -1,12 +1,12 @@
 -- What a schedule determines is sound.
-use Rattle.std.proofs.Common.{◌≡◌, ℕ, ◌<◌, ◌≤◌, ◌+◌, ◌^◌, suc, refl, arith, List, [], ◌∷◌, Bool, true, false, Option, None, Some, if◌then◌else◌, length, take, codes}
-use Rattle.std.specs.Prelude.{nat_le, nat_lt, bytes_eq}
+use Rattle.std.proofs.Common.{◌≡◌, ℕ, ◌<◌, ◌≤◌, ◌+◌, ◌^◌, suc, refl, subst, arith, List, [], ◌∷◌, Bool, true, false, Option, None, Some, if◌then◌else◌}
+use Rattle.std.specs.Prelude.{nat_le, nat_lt}
 use Rattle.std.specs.FinMap.{get}
 use Rattle.std.proofs.lemmas.Grind.{common_steps}
-use Rattle.line_text.specs.Lines.{lines_of, text_fault}
+use Rattle.line_text.specs.Lines.{text_fault}
 use Rattle.line_text.specs.Words.{words_of}
 use Rattle.line_text.specs.declared.reason.Reason.{Reason}
-use Rattle.line_text.specs.declared.reason.Reason.TheVariants.{Header, Later}
+use Rattle.line_text.specs.declared.reason.Reason.TheVariants.{Later}
 use Rattle.queue_keys.specs.Names.{Bytes}
 use Rattle.place_model.specs.Histories.{calls_of}
 use Rattle.command_blocks.specs.Setting.{Setting}
@@ -15,13 +15,15 @@ use Rattle.schedule_model.specs.Built.{waits}
 use Rattle.schedule_model.specs.Costs.{is_full}
 use Rattle.schedule_model.specs.Desk.{ScheduleReader, ClientBook, Said, first_desk, with_book, begun, said_one, said_all, with_stop}
 use Rattle.schedule_model.specs.Faults.{Craft, first_reason, tests, is_script_off, is_gone, has_more, is_busy, has_number, has_seed, asked_tests, client_seed, counter_of}
+use Rattle.schedule_model.specs.Filled.{FilledDesk, IsLedBy, LeadTo, lines_read}
 use Rattle.schedule_model.specs.Lines.{line_in}
-use Rattle.schedule_model.specs.Schedules.{Led, Went, Filled, Bad, plan_of, with_plan, reader_after, stepped, run_through, stopped, led, led_unless, led_by, text_led, line_led, header_led, Determined, Whole, led_on, last_led, lines_led, header_on, max_input, schedule_run}
+use Rattle.schedule_model.specs.Schedules.{Led, Went, Filled, Bad, plan_of, with_plan, reader_after, stepped, run_through, stopped, led, led_unless, led_by, text_led, line_led, Determined, Whole, Full, Bad_line, max_line, schedule_run}
 use Rattle.schedule_model.specs.declared.line.Asked.{Asked}
 use Rattle.schedule_model.specs.declared.line.Line.{Line}
 use Rattle.schedule_model.specs.declared.line.Line.TheVariants.{Client, At, Begin, Step, Run, Stop}
 use Rattle.schedule_laws.specs.Sound.{IsCraft, IsSoundlyDetermined}
 use Rattle.block_laws.proofs.PlanRows.{plan_row}
+use Rattle.schedule_laws.proofs.Leads.{schedule_leads}
 use Rattle.schedule_laws.proofs.Kept.{DecidesFronts, begun_kept}
 use Rattle.schedule_laws.proofs.Worlds.{neither}
 use Rattle.schedule_laws.proofs.Desks.{Holds, first_holds, book_holds, HeardHolds, said_one_holds, said_all_holds, moment_holds, stop_holds, client_holds}
@@ -117,39 +119,23 @@ text_holds κ craft d line h None = if_led κ.setting (waits κ.built (words_of 
 
 -- each line keeps a desk
 pub line_holds : (κ : Craft) (craft : IsCraft κ) (d : ScheduleReader) (line : Bytes) → Holds κ.setting d → LedHolds κ.setting (line_led κ d line)
-line_holds κ craft d line h = text_holds κ craft d line h (text_fault 65536 line)
-
-pub header_holds : (σ : Setting) (line : Bytes) (o : Option Reason) → LedHolds σ (header_led line o)
-header_holds σ line (Some r) = tt
-header_holds σ line None = if_led σ (bytes_eq line (codes "celery-schedule 1")) (Went first_desk) (Bad Header) (first_holds σ) tt
+line_holds κ craft d line h = text_holds κ craft d line h (text_fault max_line line)
 
 -- ---- a schedule
 
-module _ (σ : Setting) (decide : DecidesFronts σ) where
-  on_sound : (go : ScheduleReader → Determined) (n : ℕ) (r : Led) → LedHolds σ r → ((d : ScheduleReader) → Holds σ d → IsSoundlyDetermined σ (go d)) → IsSoundlyDetermined σ (led_on go n r)
-  on_sound go n (Went d) h f = f d h
-  on_sound go n (Filled d) h f = (d, desk_sound σ d h.0 decide, h.1, refl, refl)
-  on_sound go n (Bad r) h f = tt
+-- so do lines in a row
+pub lines_hold : (κ : Craft) (craft : IsCraft κ) (d e : ScheduleReader) (ls : List Bytes) → Holds κ.setting d → LeadTo κ d ls e → Holds κ.setting e
+lines_hold κ craft d e [] h to = subst (Holds κ.setting) to h
+lines_hold κ craft d e (l ∷ ls) h to = lines_hold κ craft to.0 e ls (subst (LedHolds κ.setting) to.1 (line_holds κ craft d l h)) to.2
 
-  last_holds : (cut : Bool) (r : Led) → LedHolds σ r → LedHolds σ (last_led cut r)
-  last_holds true r h = tt
-  last_holds false r h = h
+-- and the line that had no room
+pub filled_holds : (κ : Craft) (craft : IsCraft κ) (d : ScheduleReader) (ls : List Bytes) (n cost : ℕ) → Holds κ.setting d → (f : FilledDesk κ d ls n cost) → Holds κ.setting f.desk × (is_full f.desk.entries ≡ true)
+filled_holds κ craft d ls n cost h f = subst (LedHolds κ.setting) f.filled.filled (line_holds κ craft f.filled.desk f.filled.line (lines_hold κ craft d f.filled.desk f.filled.before h f.filled.led))
 
-lines_sound : (κ : Craft) (craft : IsCraft κ) (decide : DecidesFronts κ.setting) (cut : Bool) (n : ℕ) (d : ScheduleReader) (ls : List Bytes) → Holds κ.setting d → IsSoundlyDetermined κ.setting (lines_led κ cut n d ls)
-lines_sound κ craft decide cut n d [] h = desk_sound κ.setting d h decide
-lines_sound κ craft decide cut n d (l ∷ []) h =
-    on_sound κ.setting decide Whole n (last_led cut (line_led κ d l)) (last_holds κ.setting decide cut (line_led κ d l) (line_holds κ craft d l h)) (λ e g. desk_sound κ.setting e g decide)
-lines_sound κ craft decide cut n d (l ∷ m ∷ ls) h =
-    on_sound κ.setting decide (λ e. lines_led κ cut (n + 1) e (m ∷ ls)) n (line_led κ d l) (line_holds κ craft d l h) (λ e g. lines_sound κ craft decide cut (n + 1) e (m ∷ ls) g)
+determined_sound : (κ : Craft) (craft : IsCraft κ) (ls : List Bytes) (r : Determined) → DecidesFronts κ.setting → IsLedBy κ first_desk ls r → IsSoundlyDetermined κ ls r
+determined_sound κ craft ls (Whole d) decide to = desk_sound κ.setting d (lines_hold κ craft first_desk d ls (first_holds κ.setting) to) decide
+determined_sound κ craft ls (Full n cost) decide f = let h = filled_holds κ craft first_desk ls n cost (first_holds κ.setting) f in (f, desk_sound κ.setting f.desk h.0 decide, h.1)
+determined_sound κ craft ls (Bad_line n reason) decide to = tt
 
-header_sound : (κ : Craft) (craft : IsCraft κ) (decide : DecidesFronts κ.setting) (cut : Bool) (ls : List Bytes) → IsSoundlyDetermined κ.setting (header_on κ cut ls)
-header_sound κ craft decide cut [] = tt
-header_sound κ craft decide cut (h ∷ []) =
-    on_sound κ.setting decide Whole 1 (last_led cut (header_led h (text_fault 65536 h))) (last_holds κ.setting decide cut (header_led h (text_fault 65536 h)) (header_holds κ.setting h (text_fault 65536 h)))
-    (λ e g. desk_sound κ.setting e g decide)
-header_sound κ craft decide cut (h ∷ l ∷ ls) =
-    on_sound κ.setting decide (λ d. lines_led κ cut 2 d (l ∷ ls)) 1 (header_led h (text_fault 65536 h)) (header_holds κ.setting h (text_fault 65536 h))
-    (λ e g. lines_sound κ craft decide cut 2 e (l ∷ ls) g)
-
-pub schedule_sound : (κ : Craft) → IsCraft κ → (bytes : Bytes) → IsSoundlyDetermined κ.setting (schedule_run κ bytes)
-schedule_sound κ craft bytes = header_sound κ craft (fronts_decided κ.setting craft.exchange_at craft.lawful craft.readable) (nat_lt max_input (length bytes)) (lines_of (take (max_input + 1) bytes))
+pub schedule_sound : (κ : Craft) → IsCraft κ → (bytes : Bytes) → IsSoundlyDetermined κ (lines_read bytes) (schedule_run κ bytes)
+schedule_sound κ craft bytes = determined_sound κ craft (lines_read bytes) (schedule_run κ bytes) (fronts_decided κ.setting craft.exchange_at craft.lawful craft.readable) (schedule_leads κ bytes)

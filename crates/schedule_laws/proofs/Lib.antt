@@ -1,3 +1,4 @@
+pub mod Leads
 pub mod Asks
 pub mod Begun
 pub mod Steps

@@ -1,14 +1,14 @@
 -- The lines of a schedule decide what each client says: the blocks of its `begin` lines, in order.
-use Rattle.std.specs.Prelude.{◌≡◌, ◌⊎◌, ◌==◌, ℕ, ◌+◌, zero, suc, Bool, false, if◌then◌else◌, List, [], ◌∷◌, ◌++◌, length, take, codes, Option, None, Some}
+use Rattle.std.specs.Prelude.{◌≡◌, ◌⊎◌, ◌==◌, ℕ, zero, suc, Bool, false, if◌then◌else◌, List, [], ◌∷◌, ◌++◌, codes, Option, None, Some}
 use Rattle.std.specs.FinMap.{get}
 use Rattle.wire_values.specs.declared.value.Value.{Value}
-use Rattle.line_text.specs.Lines.{lines_of, text_fault}
+use Rattle.line_text.specs.Lines.{text_fault}
 use Rattle.line_text.specs.Words.{words_of}
 use Rattle.store_model.specs.Words.{Words}
 use Rattle.queue_keys.specs.Names.{Bytes}
 use Rattle.queue_keys.specs.Texts.{token}
 use Rattle.queue_keys.specs.QueueKeys.{Among}
-use Rattle.command_blocks.specs.Calls.{Call, call, IsPrefixOf}
+use Rattle.command_blocks.specs.Calls.{Call, call}
 use Rattle.command_blocks.specs.Blocks.{CounterUse, Drawing, Passing, Other, drawn, passes_after}
 use Rattle.command_blocks.specs.RouteBlocks.{IsDeclareBlock, IsPublishBlock}
 use Rattle.command_blocks.specs.TakeBlocks.{IsPopBlock, IsEndBlock}
@@ -17,11 +17,11 @@ use Rattle.command_blocks.specs.PassBlocks.{PassEnd, IsPassBlock}
 use Rattle.command_blocks.specs.declared.side.Side.TheVariants.{Left, Right}
 use Rattle.place_model.specs.Histories.{calls_of}
 use Rattle.schedule_model.specs.Built.{waits}
-use Rattle.schedule_model.specs.Costs.{total_cost}
-use Rattle.schedule_model.specs.Desk.{ScheduleReader}
+use Rattle.schedule_model.specs.Desk.{ScheduleReader, first_desk}
 use Rattle.schedule_model.specs.Faults.{Craft, is_busy}
 use Rattle.schedule_model.specs.Lines.{line_in}
-use Rattle.schedule_model.specs.Schedules.{Determined, Whole, Full, Bad_line, Went, line_led, lines_led, max_input, schedule_run}
+use Rattle.schedule_model.specs.Filled.{FilledDesk, lines_read, lines_until}
+use Rattle.schedule_model.specs.Schedules.{Determined, Whole, Full, Bad_line, Went, line_led, lines_led, max_line, schedule_run}
 use Rattle.schedule_model.specs.declared.line.Asked.{Asked}
 use Rattle.schedule_model.specs.declared.line.Asked.TheVariants as asked
 use Rattle.schedule_model.specs.declared.line.Line.{Line}
@@ -36,17 +36,9 @@ asked_at c (Some (Begin d a)) = if d == c then a ∷ [] else []
 asked_at c other = []
 
 -- what these lines have it begin, in order
-abbrev pub asked_by : ℕ → List Bytes → List Asked
-asked_by c [] = []
-asked_by c (l ∷ ls) = asked_at c (line_in (words_of l)) ++ asked_by c ls
-
--- the lines of a schedule after its header, as far as it is read
-abbrev pub after_header : List Bytes → List Bytes
-after_header [] = []
-after_header (h ∷ ls) = ls
-
-abbrev pub lines_read : Bytes → List Bytes
-lines_read bytes = after_header (lines_of (take (max_input + 1) bytes))
+abbrev pub asks_in : ℕ → List Bytes → List Asked
+asks_in c [] = []
+asks_in c (l ∷ ls) = asked_at c (line_in (words_of l)) ++ asks_in c ls
 
 -- ---- the block of each
 
@@ -83,12 +75,12 @@ AreAskedBlocks κ s n p (a ∷ b ∷ bs) l = (whole : List Call) × (rest : List
 
 -- each client of a desk said the blocks that these lines have it begin
 abbrev pub SaysAsked : Craft → List Bytes → ScheduleReader → Type 0
-SaysAsked κ ls d = (c s : ℕ) → Among (c, s) d.clients → AreAskedBlocks κ s 0 0 (asked_by c ls) (calls_of c d.entries)
+SaysAsked κ ls d = (c s : ℕ) → Among (c, s) d.clients → AreAskedBlocks κ s 0 0 (asks_in c ls) (calls_of c d.entries)
 
--- so does each client of a whole history, by all of the lines; where the history was full, there is one with these many entries and this cost in which each client does, by a front of the lines
+-- so does each client of a whole history, by all of the lines; where the history was full, each of the desk that they filled does, by the lines up to the one that had no room
 abbrev pub IsAskedFor : Craft → List Bytes → Determined → Type 0
 IsAskedFor κ ls (Whole d) = SaysAsked κ ls d
-IsAskedFor κ ls (Full n cost) = (d : ScheduleReader) × (front : List Bytes) × (length d.entries ≡ n) × (total_cost d.entries ≡ cost) × IsPrefixOf front ls × SaysAsked κ front d
+IsAskedFor κ ls (Full n cost) = (f : FilledDesk κ first_desk ls n cost) × SaysAsked κ (lines_until f.filled) f.desk
 IsAskedFor κ ls (Bad_line n reason) = Unit {0}
 
 -- each schedule has its clients say what its lines ask for
@@ -99,7 +91,7 @@ SchedulesSayBlocks = (κ : Craft) → IsCraft κ → (bytes : Bytes) → IsAsked
 
 -- the bytes are this line, and it is built
 pub record SpellsLine (κ : Craft) (l : Line) (bytes : Bytes) : Type 0 where
-  pub text : text_fault 65536 bytes ≡ None
+  pub text : text_fault max_line bytes ≡ None
   pub built : waits κ.built (words_of bytes) ≡ false
   pub line : line_in (words_of bytes) ≡ Some l
 

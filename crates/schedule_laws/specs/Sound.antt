@@ -10,9 +10,10 @@ use Rattle.place_model.specs.declared.history.Entry.{Entry}
 use Rattle.place_model.specs.declared.history.Entry.TheVariants.{Call as Called, Heard, Stop}
 use Rattle.manner_laws.specs.Cursor.{IsReadable}
 use Rattle.manner_laws.specs.LayoutKeys.{TellsShortExchanges}
-use Rattle.schedule_model.specs.Costs.{is_full, total_cost}
-use Rattle.schedule_model.specs.Desk.{ScheduleReader}
+use Rattle.schedule_model.specs.Costs.{is_full}
+use Rattle.schedule_model.specs.Desk.{ScheduleReader, first_desk}
 use Rattle.schedule_model.specs.Faults.{Craft}
+use Rattle.schedule_model.specs.Filled.{FilledDesk, IsLedBy, lines_read}
 use Rattle.schedule_model.specs.Schedules.{Determined, Whole, Full, Bad_line, schedule_run, reader_history}
 
 -- the envelope v, as it is written, tells what was asked: a tag's seed and counter, an exchange, and with the empty exchange one key, that of the queue k at a step
@@ -43,15 +44,19 @@ pub record IsSoundDesk (σ : Setting) (d : ScheduleReader) : Type 0 where
   pub moments : RisesTo 0 d.entries d.moment
   pub present : d.moment < moment_limit
 
--- a whole history is sound; where one was full, there is a sound one that is full, with these many entries and this cost
-abbrev pub IsSoundlyDetermined : Setting → Determined → Type 0
-IsSoundlyDetermined σ (Whole d) = IsSoundDesk σ d
-IsSoundlyDetermined σ (Full n cost) = (d : ScheduleReader) × IsSoundDesk σ d × (is_full d.entries ≡ true) × (length d.entries ≡ n) × (total_cost d.entries ≡ cost)
-IsSoundlyDetermined σ (Bad_line n reason) = Unit {0}
+-- a whole history is sound; where one was full, the desk that the lines filled has a sound history that is full
+abbrev pub IsSoundlyDetermined : Craft → List Bytes → Determined → Type 0
+IsSoundlyDetermined κ ls (Whole d) = IsSoundDesk κ.setting d
+IsSoundlyDetermined κ ls (Full n cost) = (f : FilledDesk κ first_desk ls n cost) × IsSoundDesk κ.setting f.desk × (is_full f.desk.entries ≡ true)
+IsSoundlyDetermined κ ls (Bad_line n reason) = Unit {0}
 
 -- what each schedule determines is sound
 abbrev pub SchedulesSound : Type 0
-SchedulesSound = (κ : Craft) → IsCraft κ → (bytes : Bytes) → IsSoundlyDetermined κ.setting (schedule_run κ bytes)
+SchedulesSound = (κ : Craft) → IsCraft κ → (bytes : Bytes) → IsSoundlyDetermined κ (lines_read bytes) (schedule_run κ bytes)
+
+-- what a schedule determines is where its lines lead from the first desk
+abbrev pub SchedulesLead : Type 0
+SchedulesLead = (κ : Craft) (bytes : Bytes) → IsLedBy κ first_desk (lines_read bytes) (schedule_run κ bytes)
 
 -- ---- crafts of layouts
 

@@ -3,15 +3,21 @@
 #![tactic(auto)]
 
 ghost use Rattle.schedule_laws.specs.BegunBlocks.{RunsAreSteps, RunsEndBlocks, SchedulesSayBlocks};
-ghost use Rattle.schedule_laws.specs.Sound.{LayoutsMakeCrafts, SchedulesSound};
+ghost use Rattle.schedule_laws.specs.Sound.{LayoutsMakeCrafts, SchedulesLead, SchedulesSound};
 
-/// What a schedule determines is sound: a whole history, and also one that was full.
+/// What a schedule determines is where its lines lead: all of them to the desk of a whole history, or one of them to the
+/// desk that was full, which has the numbers that are told.
+pub fn lines_lead()
+    ensures { SchedulesLead }
+{}
+
+/// What a schedule determines is sound: a whole history, and also that of the desk that was full.
 pub fn schedules()
     ensures { SchedulesSound }
 {}
 
 /// The lines of a schedule decide each client's blocks: its calls are the blocks of its `begin` lines, in order, and the
-/// last of them may be only begun.
+/// last of them may be only begun. Where the history was full, this holds by the lines up to the one that had no room.
 pub fn begun_blocks()
     ensures { SchedulesSayBlocks }
 {}

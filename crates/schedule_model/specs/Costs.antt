@@ -36,6 +36,14 @@ cost (Stop c) = 64
 abbrev pub total_cost : {N : Type 0} → List (Entry N) → ℕ
 total_cost es = sum_by cost es
 
--- whether a history may not grow any more: it has 1,000,000 entries, or they cost 2^30
+-- the most entries of a history
+abbrev pub max_entries : ℕ
+max_entries = 1000000
+
+-- the most that they cost together
+abbrev pub max_cost : ℕ
+max_cost = 2 ^ 30
+
+-- whether a history may not grow any more: it has that many entries, or they cost that much
 abbrev pub is_full : {N : Type 0} → List (Entry N) → Bool
-is_full es = nat_le 1000000 (length es) || nat_le (2 ^ 30) (total_cost es)
+is_full es = nat_le max_entries (length es) || nat_le max_cost (total_cost es)

@@ -4,6 +4,7 @@ pub mod Desk
 pub mod Drafts
 pub mod EachPlaced
 pub mod Faults
+pub mod Filled
 pub mod Legends
 pub mod Lines
 pub mod Programs

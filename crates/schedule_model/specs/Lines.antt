@@ -11,9 +11,13 @@ use Rattle.schedule_model.specs.declared.line.Line.TheVariants.{Client, At, Begi
 
 -- ---- words
 
+-- the highest number of a client
+abbrev pub max_client : ℕ
+max_client = 4096
+
 -- the number of a client
 abbrev pub client_in : Bytes → Option ℕ
-client_in w = number_in 1 4096 w
+client_in w = number_in 1 max_client w
 
 -- the seed of a client
 abbrev pub seed_in : Bytes → Option ℕ

@@ -99,9 +99,13 @@ abbrev pub text_led : Craft → ScheduleReader → Bytes → Option Reason → L
 text_led κ d line (Some r) = Bad r
 text_led κ d line None = words_led κ d (words_of line)
 
+-- the longest line in bytes
+abbrev pub max_line : ℕ
+max_line = 65536
+
 -- what a line after the header leads to
 abbrev pub line_led : Craft → ScheduleReader → Bytes → Led
-line_led κ d line = text_led κ d line (text_fault 65536 line)
+line_led κ d line = text_led κ d line (text_fault max_line line)
 
 -- what the header leads to
 abbrev pub header_led : Bytes → Option Reason → Led
@@ -136,8 +140,8 @@ lines_led κ cut n d (l ∷ m ∷ ls) = led_on (λ e. lines_led κ cut (n + 1) e
 -- the first line is the header
 abbrev pub header_on : Craft → Bool → List Bytes → Determined
 header_on κ cut [] = Bad_line 1 Header
-header_on κ cut (h ∷ []) = led_on Whole 1 (last_led cut (header_led h (text_fault 65536 h)))
-header_on κ cut (h ∷ l ∷ ls) = led_on (λ d. lines_led κ cut 2 d (l ∷ ls)) 1 (header_led h (text_fault 65536 h))
+header_on κ cut (h ∷ []) = led_on Whole 1 (last_led cut (header_led h (text_fault max_line h)))
+header_on κ cut (h ∷ l ∷ ls) = led_on (λ d. lines_led κ cut 2 d (l ∷ ls)) 1 (header_led h (text_fault max_line h))
 
 -- the longest input in bytes
 abbrev pub max_input : ℕ

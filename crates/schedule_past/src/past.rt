@@ -1,6 +1,7 @@
 //! What happened so far: the present moment, the history with its running cost, and the store.
-ghost use Rattle.std.specs.Prelude.{◌≡◌, ◌<◌, ◌+◌, ◌^◌, IfOk, OnOk, Some, true};
+ghost use Rattle.std.specs.Prelude.{◌≡◌, ◌<◌, ◌+◌, IfOk, OnOk, Some, true};
 ghost use Rattle.place_model.specs.Shown.{history_of};
+ghost use Rattle.store_model.specs.Limits.{moment_limit};
 ghost use Rattle.schedule_model.specs.Costs.{reply_size, total_cost, words_size};
 ghost use Rattle.schedule_model.specs.Faults.{has_more, has_number, has_seed};
 ghost use Rattle.client_blocks.specs.Blocks.{script_left};
@@ -32,7 +33,7 @@ pub struct Past {
     pub cost: u64,
     /// The store that answered its calls.
     pub store: Store,
-    ghost early: { moment < 2 ^ 40 },
+    ghost early: { moment < moment_limit },
     ghost running: { AreRunning (history_of history).entries },
     ghost costs: { cost ≡ total_cost (history_of history).entries },
 }
@@ -85,7 +86,7 @@ impl Past {
 
     /// Another moment is the present one.
     pub fn set_moment(&mut self, moment: u64)
-        requires { moment < 2 ^ 40 }
+        requires { moment < moment_limit }
         ensures { (bs : FinMap nat_cmp ClientBook) → desk_with self.new bs ≡ record (desk_with self.old bs) { moment = moment } }
     {
         self.moment = moment;
@@ -221,7 +222,7 @@ fn answered(
     reply: &Reply,
     left: &mut BlockLeft,
 ) -> Result<u64, AllocError>
-    requires moment { moment < 2 ^ 40 }
+    requires moment { moment < moment_limit }
     requires asked { has_more (script_left left.old) ≡ true }
     ensures left { OnOk result (script_left left.new ≡ after_answer (script_left left.old) reply.now.answer) }
     ensures cost { IfOk result (λ cost. cost ≡ before + (64 + words_size words.now + reply_size reply.now)) }

@@ -10,5 +10,5 @@ abbrev pub desk_of : World → ScheduleReader
 desk_of w = desk_with w.past (books_of w.books)
 
 -- whether memory was wanting at its last line: such a world takes no line any more
-abbrev pub is_spent : World → Bool
-is_spent w = w.spent
+abbrev pub is_world_spent : World → Bool
+is_world_spent w = w.spent

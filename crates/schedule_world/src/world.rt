@@ -39,7 +39,7 @@ impl World {
     ghost use Rattle.schedule_model.specs.Schedules as schedules;
     ghost use Rattle.schedule_model.specs.declared.line.Line.TheVariants.{At, Begin, Client, Run, Step};
     ghost use Rattle.schedule_world.specs.Books.{book_of};
-    ghost use Rattle.schedule_world.specs.Desks.{desk_of, is_spent};
+    ghost use Rattle.schedule_world.specs.Desks.{desk_of, is_world_spent};
     ghost use Rattle.schedule_world.specs.declared.fault.LineFault.TheVariants.{Memory};
     ghost use Rattle.client_plans.specs.Plans.{IsBuiltBlock};
     ghost use Rattle.schedule_world.specs.BuiltLines.{IsBuiltLine};
@@ -48,7 +48,7 @@ impl World {
     /// A world before its first line; takes no memory.
     pub fn new(alloc: Global) -> World
         ensures desk { desk_of result ≡ first_desk }
-        ensures spent { is_spent result ≡ false }
+        ensures spent { is_world_spent result ≡ false }
     {
         World {
             past: Past::new(alloc),
@@ -66,8 +66,8 @@ impl World {
     /// world is spent from then on, and answers each line so.
     pub fn line(&mut self, alloc: Global, text: &[u8]) -> Result<(), LineFault>
         ensures told { IsTold (line_led program_craft (desk_of self.old) text.now) (desk_of self.old) (desk_of self.new) result }
-        ensures spent { is_spent self.new ≡ lacked_memory result }
-        ensures stays { is_spent self.old ≡ true → result ≡ Err Memory }
+        ensures spent { is_world_spent self.new ≡ lacked_memory result }
+        ensures stays { is_world_spent self.old ≡ true → result ≡ Err Memory }
     {
         if self.spent {
             return Err(LineFault::Memory);

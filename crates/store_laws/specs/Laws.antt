@@ -3,6 +3,7 @@ use Rattle.std.specs.Prelude.{◌≡◌, ◌⊎◌, ◌≤◌, ℕ, ◌||◌, �
 use Rattle.std.specs.List.{list_any}
 use Rattle.std.specs.FinMap.{get, entries}
 use Rattle.wire_values.specs.declared.value.Value.{Value}
+use Rattle.store_model.specs.Limits.{pending_limit}
 use Rattle.store_model.specs.Words.{Bytes}
 use Rattle.store_model.specs.Keys.{Keys, is_expired, due_keys}
 use Rattle.store_model.specs.Replies.{message}
@@ -29,14 +30,14 @@ abbrev pub AreHeard : List Bytes → List Value → Type 0
 AreHeard channels [] = Unit {0}
 AreHeard channels (v ∷ vs) = ((channel : Bytes) × (text : Bytes) × (list_any (bytes_eq channel) channels ≡ true) × (v ≡ message channel text)) × AreHeard channels vs
 
--- a connection after these keys were altered: it is marked where it watches one of them, and messages on its channels may have come to be pending, after those that were, up to 1,024 in all
+-- a connection after these keys were altered: it is marked where it watches one of them, and messages on its channels may have come to be pending, after those that were, up to their limit in all
 pub record IsTouched (altered : List Bytes) (before now : Conn) : Type 0 where
   pub queue : now.queue ≡ before.queue
   pub watched : now.watched ≡ before.watched
   pub marked : now.marked ≡ (before.marked || hit altered before.watched)
   pub channels : now.channels ≡ before.channels
   pub pending : (more : List Value) × (now.pending ≡ before.pending ++ more) × AreHeard before.channels more
-  pub room : (now.pending ≡ before.pending) ⊎ (length now.pending ≤ 1024)
+  pub room : (now.pending ≡ before.pending) ⊎ (length now.pending ≤ pending_limit)
 
 -- what a step of connection c leaves beside it: keys that aren't told of as altered, and connections that watch none of the altered ones, are as before
 pub record IsElsewhere (before now : State) (c : ℕ) : Type 0 where

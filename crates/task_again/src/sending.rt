@@ -5,7 +5,7 @@ ghost use Rattle.envelope.specs.Envelopes.{parts_in};
 ghost use Rattle.moments.specs.CivilTimes.{is_within_years};
 ghost use Rattle.task_message.specs.Again.{again_of, again_tree, body_again, if_short, with_body};
 ghost use Rattle.task_again.specs.Whole.{IsBody, IsOfLength, IsWhole, refused};
-ghost use Rattle.task_message.specs.Reading.{Gives};
+ghost use Rattle.task_message.specs.Reading.{GivesTask};
 ghost use Rattle.task_message.specs.Shown.{task_view};
 ghost use Rattle.task_message.specs.Tasks.{task_of};
 
@@ -34,7 +34,7 @@ pub fn again(
     requires read { task_of (data_of e.now) ≡ Ok (task_view t.now) }
     requires retries { t.now.retries + 1 < 2 ^ 32 }
     requires eta { is_within_years eta.0 ≡ true }
-    ensures { Gives data_of result (again_of (data_of e.now) (task_view t.now) tag.0 eta.0) }
+    ensures { GivesTask data_of result (again_of (data_of e.now) (task_view t.now) tag.0 eta.0) }
 {
     let next = Retry {
         retries: t.retries,
@@ -89,7 +89,7 @@ fn renew_body(
 /// The envelope of a tree that is one but for its length.
 fn short_tree(alloc: Global, tree: Value) -> Result<Envelope, TaskFault>
     requires { IsWhole (data_of tree) }
-    ensures { Gives data_of result (if_short (data_of tree)) }
+    ensures { GivesTask data_of result (if_short (data_of tree)) }
 {
     match of_tree(alloc, tree) {
         Ok(envelope) => Ok(envelope),

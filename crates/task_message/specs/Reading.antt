@@ -19,9 +19,9 @@ Fails TooLong read = read ≡ Err TooLong
 Fails Memory read = Unit {0}
 
 -- what a function returned, seen by view, is what the reading gives, unless memory ran out
-abbrev pub Gives : {X Y : Type 0} → (X → Y) → Result X TaskFault → Result Y TaskFault → Type 0
-Gives view (Ok x) read = read ≡ Ok (view x)
-Gives view (Err e) read = Fails e read
+abbrev pub GivesTask : {X Y : Type 0} → (X → Y) → Result X TaskFault → Result Y TaskFault → Type 0
+GivesTask view (Ok x) read = read ≡ Ok (view x)
+GivesTask view (Err e) read = Fails e read
 
 -- what is there, or else the fault
 abbrev pub needed : {A : Type 0} → TaskFault → Option A → Result A TaskFault

@@ -5,7 +5,7 @@ ghost use Rattle.serde_json.specs.View.{members_view, view as data_of};
 ghost use Rattle.envelope_trees.specs.Members.{if_object};
 ghost use Rattle.task_message.specs.Drafted.{can_draft, is_writable, moment_data};
 ghost use Rattle.task_message.specs.Put.{with_settings};
-ghost use Rattle.task_message.specs.Reading.{Gives, needed, wanted};
+ghost use Rattle.task_message.specs.Reading.{GivesTask, needed, wanted};
 ghost use Rattle.task_message.specs.Shown.{micros_if, task_view};
 ghost use Rattle.task_message.specs.Tasks.{array_at, if_32_bits, if_array, if_word, moment_at, retries_at, spelled_moment, word_at};
 ghost use Rattle.task_message.specs.declared.fault.Part.TheVariants as part;
@@ -23,7 +23,7 @@ use std::alloc::{AllocError, Global};
 
 /// The fault, unless the fact holds.
 pub(crate) fn want(holds: bool, fault: TaskFault) -> Result<(), TaskFault>
-    ensures { Gives (λ x. x) result (wanted fault holds) }
+    ensures { GivesTask (λ x. x) result (wanted fault holds) }
 {
     if holds { Ok(()) } else { Err(fault) }
 }
@@ -65,7 +65,7 @@ pub(crate) fn word<'a>(value: &'a Value, name: &str) -> Option<&'a str>
 
 /// The value that was found, or the fault of its part.
 pub(crate) fn needed(found: Option<&Value>, part: Part) -> Result<&Value, TaskFault>
-    ensures { Gives (λ v. data_of v.now) result
+    ensures { GivesTask (λ v. data_of v.now) result
         (needed (BadField part) (option_map (λ v. data_of v.now) found.entry)) }
 {
     match found {
@@ -76,7 +76,7 @@ pub(crate) fn needed(found: Option<&Value>, part: Part) -> Result<&Value, TaskFa
 
 /// The text that was found, or the fault of its part.
 pub(crate) fn needed_word(found: Option<&str>, part: Part) -> Result<&str, TaskFault>
-    ensures { Gives (λ s. s.now) result
+    ensures { GivesTask (λ s. s.now) result
         (needed (BadField part) (option_map (λ s. s.now) found.entry)) }
 {
     match found {
@@ -87,7 +87,7 @@ pub(crate) fn needed_word(found: Option<&str>, part: Part) -> Result<&str, TaskF
 
 /// The text that names the task of a message of version 1.
 pub(crate) fn needed_name(found: Option<&str>) -> Result<&str, TaskFault>
-    ensures { Gives (λ s. s.now) result (needed NoTask (option_map (λ s. s.now) found.entry)) }
+    ensures { GivesTask (λ s. s.now) result (needed NoTask (option_map (λ s. s.now) found.entry)) }
 {
     match found {
         Some(name) => Ok(name),
@@ -118,7 +118,7 @@ fn if_32_bits(number: u64) -> Option<u32>
 
 /// How often a task was retried, or the fault.
 pub(crate) fn needed_retries(value: &Value) -> Result<u32, TaskFault>
-    ensures { Gives (λ n. n) result
+    ensures { GivesTask (λ n. n) result
         (needed (BadField part.Retries) (retries_at (data_of value.now))) }
 {
     match retries(value) {
@@ -129,7 +129,7 @@ pub(crate) fn needed_retries(value: &Value) -> Result<u32, TaskFault>
 
 /// The moment of the text at a name, none where nothing or null stands.
 pub(crate) fn moment(value: &Value, name: &str) -> Result<Option<Moment>, TaskFault>
-    ensures { Gives micros_if result (moment_at name.now (data_of value.now)) }
+    ensures { GivesTask micros_if result (moment_at name.now (data_of value.now)) }
 {
     if is_nothing_at(value, name) {
         return Ok(None);

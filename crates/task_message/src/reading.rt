@@ -3,7 +3,7 @@ ghost use Rattle.std.specs.Prelude.{◌≡◌, IfOk, Ok, option_map};
 ghost use Rattle.serde_json.specs.Find.{as_array};
 ghost use Rattle.serde_json.specs.View.{items_view, view as data_of};
 ghost use Rattle.envelope.specs.Envelopes.{json_at};
-ghost use Rattle.task_message.specs.Reading.{Gives, needed};
+ghost use Rattle.task_message.specs.Reading.{GivesTask, needed};
 ghost use Rattle.task_message.specs.Shown.{call_view, found_view, settings_view, task_view};
 ghost use Rattle.task_message.specs.Tasks.{call_in, call_of_items, content_in, first_task, fit_call, headers_in, is_second, second_task, settings_in, task_in, task_of, told_name};
 ghost use Rattle.task_message.specs.declared.fault.Part.TheVariants as part;
@@ -33,7 +33,7 @@ const MAX_LEVELS: u32 = 100;
 /// `BadField` of the first part in the order of `Part`; `BadMoment`. `Memory` is want of memory; `TooLong` never comes.
 #[tactic(auto, unfolding(crate::specs::Tasks::task_of))]
 pub fn read(alloc: Global, e: &Envelope) -> Result<Task, TaskFault>
-    ensures { Gives task_view result (task_of (data_of e.now)) }
+    ensures { GivesTask task_view result (task_of (data_of e.now)) }
 {
     let content = content_of(alloc, e.content())?;
     let found = found_in(e.tree(), &content)?;
@@ -43,7 +43,7 @@ pub fn read(alloc: Global, e: &Envelope) -> Result<Task, TaskFault>
 /// The tree of a content.
 #[tactic(auto, unfolding(crate::specs::Tasks::content_in))]
 fn content_of(alloc: Global, content: &[u8]) -> Result<Value, TaskFault>
-    ensures { Gives data_of result (content_in content.now) }
+    ensures { GivesTask data_of result (content_in content.now) }
 {
     let tree = json(alloc, content)?;
     want(
@@ -56,7 +56,7 @@ fn content_of(alloc: Global, content: &[u8]) -> Result<Value, TaskFault>
 
 /// The JSON tree of a content.
 fn json(alloc: Global, content: &[u8]) -> Result<Value, TaskFault>
-    ensures { Gives data_of result (needed (BadField part.Body) (json_at content.now)) }
+    ensures { GivesTask data_of result (needed (BadField part.Body) (json_at content.now)) }
 {
     match Value::from_slice(alloc, content) {
         Ok(value) => Ok(value),
@@ -70,7 +70,7 @@ fn json(alloc: Global, content: &[u8]) -> Result<Value, TaskFault>
 
 /// The task of an envelope's tree and of a content's tree.
 fn found_in<'a>(tree: &'a Value, content: &'a Value) -> Result<Found<'a>, TaskFault>
-    ensures { Gives found_view result
+    ensures { GivesTask found_view result
         (task_in (headers_in (data_of tree.now)) (data_of content.now)) }
 {
     match tree.get("headers") {
@@ -81,7 +81,7 @@ fn found_in<'a>(tree: &'a Value, content: &'a Value) -> Result<Found<'a>, TaskFa
 
 /// The task of headers and of a content's tree.
 fn found_by<'a>(headers: &'a Value, content: &'a Value) -> Result<Found<'a>, TaskFault>
-    ensures { Gives found_view result (task_in (data_of headers.now) (data_of content.now)) }
+    ensures { GivesTask found_view result (task_in (data_of headers.now) (data_of content.now)) }
 {
     if is_second(headers) {
         second(headers, content)
@@ -100,7 +100,7 @@ fn is_second(headers: &Value) -> bool
 /// The task of version 2.
 #[tactic(auto, unfolding(crate::specs::Tasks::second_task))]
 fn second<'a>(headers: &'a Value, content: &'a Value) -> Result<Found<'a>, TaskFault>
-    ensures { Gives found_view result
+    ensures { GivesTask found_view result
         (second_task (data_of headers.now) (data_of content.now)) }
 {
     let call = needed_call(content)?;
@@ -121,7 +121,7 @@ fn second<'a>(headers: &'a Value, content: &'a Value) -> Result<Found<'a>, TaskF
 /// The call, where its three parts are of the right kinds.
 #[tactic(auto, unfolding(crate::specs::Tasks::fit_call))]
 fn fit_call<'a>(call: &Call<'a>) -> Result<Call<'a>, TaskFault>
-    ensures { Gives call_view result (fit_call (call_view call.now)) }
+    ensures { GivesTask call_view result (fit_call (call_view call.now)) }
 {
     let args = needed(if_array(call.args), Part::Args)?;
     let kwargs = needed(if_object(call.kwargs), Part::Kwargs)?;
@@ -135,7 +135,7 @@ fn fit_call<'a>(call: &Call<'a>) -> Result<Call<'a>, TaskFault>
 
 /// The call of a content of version 2, an array of three.
 fn needed_call(content: &Value) -> Result<Call<'_>, TaskFault>
-    ensures { Gives call_view result (needed (BadField part.Body) (call_in (data_of content.now))) }
+    ensures { GivesTask call_view result (needed (BadField part.Body) (call_in (data_of content.now))) }
 {
     match call(content) {
         Some(found) => Ok(found),
@@ -168,7 +168,7 @@ fn three_of(items: &[Value]) -> Option<Call<'_>>
 /// The task of version 1.
 #[tactic(auto, unfolding(crate::specs::Tasks::first_task))]
 fn first(content: &Value) -> Result<Found<'_>, TaskFault>
-    ensures { Gives found_view result (first_task (data_of content.now)) }
+    ensures { GivesTask found_view result (first_task (data_of content.now)) }
 {
     let name = told_name(content)?;
     let id = needed_word(word(content, "id"), Part::Id)?;
@@ -188,7 +188,7 @@ fn first(content: &Value) -> Result<Found<'_>, TaskFault>
 /// The name that a content of version 1 tells.
 #[tactic(auto, unfolding(crate::specs::Tasks::told_name))]
 fn told_name(content: &Value) -> Result<&str, TaskFault>
-    ensures { Gives (λ s. s.now) result (told_name (data_of content.now)) }
+    ensures { GivesTask (λ s. s.now) result (told_name (data_of content.now)) }
 {
     let told = needed_name(text(content, "task"))?;
     needed_word(some_word(told), Part::Name)
@@ -197,7 +197,7 @@ fn told_name(content: &Value) -> Result<&str, TaskFault>
 /// The settings that an object tells.
 #[tactic(auto, unfolding(crate::specs::Tasks::settings_in))]
 fn settings(object: &Value) -> Result<Settings, TaskFault>
-    ensures { Gives settings_view result (settings_in (data_of object.now)) }
+    ensures { GivesTask settings_view result (settings_in (data_of object.now)) }
 {
     let retries = needed_retries(object)?;
     let eta = moment(object, "eta")?;
@@ -211,7 +211,7 @@ fn settings(object: &Value) -> Result<Settings, TaskFault>
 
 /// A task of its own.
 fn taken(alloc: Global, found: &Found<'_>) -> Result<Task, TaskFault>
-    ensures { Gives task_view result (Ok (found_view found.now)) }
+    ensures { GivesTask task_view result (Ok (found_view found.now)) }
 {
     let name = Bytes::from_slice(alloc, found.name.as_bytes())?;
     let id = Bytes::from_slice(alloc, found.id.as_bytes())?;

@@ -37,10 +37,10 @@ show_lawful words place show bad = none-some place (sym (show_good words show) �
 some_none : {n : ℕ} → Some n ≡ None → ⊥
 some_none e = cc
 
-asked_by : (a b : Bool) → b ≡ false → if◌then◌else◌ {A = Option ℕ} (a || b) None (Some 0) ≡ None → a ≡ true
-asked_by true b e good = refl
-asked_by false true e good = absurd (bool_clash (sym e))
-asked_by false false e good = absurd (some_none good)
+asked_alone : (a b : Bool) → b ≡ false → if◌then◌else◌ {A = Option ℕ} (a || b) None (Some 0) ≡ None → a ≡ true
+asked_alone true b e good = refl
+asked_alone false true e good = absurd (bool_clash (sym e))
+asked_alone false false e good = absurd (some_none good)
 
 asked_more : (a : Bool) → if◌then◌else◌ {A = Option ℕ} a (Some 1) (Some 0) ≡ None → ⊥
 asked_more true e = some_none e
@@ -49,7 +49,7 @@ asked_more false e = some_none e
 -- good words that don't ask for `show` ask for `replay`
 pub asks_replay : (words : List (List ℕ)) → is_show words ≡ false → bad_place words ≡ None → is_replay words ≡ true
 asks_replay [] other good = absurd (some_none good)
-asks_replay (word ∷ []) other good = asked_by (bytes_eq word (codes "replay")) (bytes_eq word (codes "show")) other good
+asks_replay (word ∷ []) other good = asked_alone (bytes_eq word (codes "replay")) (bytes_eq word (codes "show")) other good
 asks_replay (word ∷ more ∷ words) other good = absurd (asked_more (bytes_eq word (codes "replay") || bytes_eq word (codes "show")) good)
 
 one_name : (word : List ℕ) → bytes_eq word (codes "show") ≡ true → bytes_eq word (codes "replay") ≡ true → ⊥

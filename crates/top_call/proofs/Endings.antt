@@ -1,17 +1,22 @@
 -- Why a run ends as it does.
-use Rattle.std.proofs.Common.{List, ap, inl, inr, sym, true, ℕ, ◌≡◌, ◌∙◌}
+use Rattle.std.proofs.Common.{List, Result, Err, ap, inl, inr, sym, true, ℕ, ◌≡◌, ◌∙◌}
 use Rattle.links.specs.Ends.{IsPast, IsWholeInput}
 use Rattle.links.specs.Views.{SourceView}
-use Rattle.message_schedules.proofs.Program.{whole_placed, whole_sound}
+use Rattle.message_schedules.proofs.Program.{full_desk, whole_placed, whole_sound}
 use Rattle.place_model.specs.Histories.{History}
 use Rattle.place_model.specs.declared.heard.Heard.{Heard}
 use Rattle.schedule_model.specs.Desk.{ScheduleReader}
 use Rattle.schedule_model.specs.Programs.{program_craft, program_legend}
 use Rattle.schedule_model.specs.Reports.{report_text}
-use Rattle.schedule_model.specs.Schedules.{Whole, reader_history}
+use Rattle.schedule_model.specs.Schedules.{Whole, max_input, reader_history}
+use Rattle.schedule_model.specs.Schedules as schedules
+use Rattle.schedule_world.specs.Runs.{HasRun}
+use Rattle.schedule_world.specs.declared.run.RunFault.{RunFault}
+use Rattle.schedule_world.specs.declared.run.RunFault.TheVariants as run
 use Rattle.top_call.proofs.Fronts.{schedule_run-past}
-use Rattle.top_call.specs.Endings.{EndsAs, Shown}
-use Rattle.top_call.specs.Replays.{IsReport, replay_run}
+use Rattle.top_call.specs.Endings.{EndsAs, MayEnd}
+use Rattle.top_call.specs.Mappings.{end_given}
+use Rattle.top_call.specs.Replays.{IsFull, IsReport, replay_run}
 use Rattle.top_call.specs.Words.{is_replay}
 use Rattle.top_call.specs.declared.ending.End.TheVariants.{BadByte, BadLine, BadWord, Full, LongStream, Memory, ReadFault, Reported, Shown as ShownEnd, Unfinished}
 use Rattle.top_call.specs.declared.ending.End.{End}
@@ -26,8 +31,18 @@ report_of schedule text h (d, run, same) written = record {
   placed = whole_placed schedule d run;
 }
 
+-- the desk that a schedule filled
+pub full_of : (schedule : List ℕ) (entries cost : ℕ) → replay_run schedule ≡ schedules.Full entries cost → IsFull schedule entries cost
+full_of schedule entries cost run = let (filled, full, sound, placed) = full_desk schedule entries cost run in record { determined = run; filled = filled; full = full; sound = sound; placed = placed }
+
+-- what a schedule without a whole history leads to
+pub end_of_fault : (schedule : List ℕ) (fault : RunFault) → HasRun (replay_run schedule) (Err fault) → EndsAs schedule (end_given fault)
+end_of_fault schedule (run.Bad bad) is = is
+end_of_fault schedule (run.Full entries cost) is = full_of schedule entries cost is
+end_of_fault schedule run.Memory is = tt
+
 -- an input that was read to its end
-pub shown_whole : (words : List (List ℕ)) (before now : SourceView) (bytes : List ℕ) (end : End) → is_replay words ≡ true → IsWholeInput 67108864 before now bytes → EndsAs bytes end → Shown words before now end
+pub shown_whole : (words : List (List ℕ)) (before now : SourceView) (bytes : List ℕ) (end : End) → is_replay words ≡ true → IsWholeInput max_input before now bytes → EndsAs bytes end → MayEnd words before now end
 shown_whole words before now bytes (Reported report) lawful whole ends = (lawful, (bytes, whole, ends))
 shown_whole words before now bytes (BadWord place) lawful whole ends = absurd ends
 shown_whole words before now bytes ShownEnd lawful whole ends = absurd ends
@@ -40,7 +55,7 @@ shown_whole words before now bytes (Full entries cost) lawful whole ends = (lawf
 shown_whole words before now bytes Memory lawful whole ends = whole.kept
 
 -- an input past the limit
-pub shown_past : (words : List (List ℕ)) (before now : SourceView) (bytes : List ℕ) (end : End) → is_replay words ≡ true → IsPast 67108864 before now bytes → EndsAs bytes end → Shown words before now end
+pub shown_past : (words : List (List ℕ)) (before now : SourceView) (bytes : List ℕ) (end : End) → is_replay words ≡ true → IsPast max_input before now bytes → EndsAs bytes end → MayEnd words before now end
 shown_past words before now bytes (Reported report) lawful past ends = absurd (schedule_run-past program_craft bytes ends.desk past.over ends.determined)
 shown_past words before now bytes (BadWord place) lawful past ends = absurd ends
 shown_past words before now bytes ShownEnd lawful past ends = absurd ends

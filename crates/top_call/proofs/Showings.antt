@@ -6,7 +6,7 @@ use Rattle.links.specs.Causes.{AppendsFront, Rose}
 use Rattle.links.specs.Ends.{HasReadUpTo, IsWholeInput}
 use Rattle.links.specs.Views.{SinkView, SourceView}
 use Rattle.top_call.proofs.Statuses.{consumed_all, consumed_front}
-use Rattle.top_call.specs.Endings.{HasTold, Tells, TellsShown, Took, Written, ended_of, telling, text_of, told_of}
+use Rattle.top_call.specs.Endings.{HasTold, IsTold, TellsShown, Took, Written, ended_of, telling, text_of, told_text}
 use Rattle.top_call.specs.Showings.{IsAllShown, IsByteWrong, IsEndWithin, IsMemoryCut, IsPastShowing, IsReadCut, IsShowing, IsWriteCut}
 use Rattle.top_call.specs.declared.ending.End.TheVariants.{BadByte, LongStream, Memory, ReadFault, Shown as ShownEnd, Unfinished}
 use Rattle.top_call.specs.declared.ending.End.{End}
@@ -26,15 +26,34 @@ none_is e = cc
 some_is : {e : End} → Some e ≡ None → ⊥
 some_is e = cc
 
+-- what is told of the end of a showing, and the ending without a text where nothing is
+abbrev told_of : ShowEnd → End
+told_of Whole = ShownEnd
+told_of (Bad kind place) = BadByte kind place
+told_of (show.Unfinished place) = Unfinished place
+told_of Long = LongStream
+told_of show.ReadFault = ReadFault
+told_of show.Memory = Memory
+told_of WriteFault = ShownEnd
+
+text_told : (end : ShowEnd) → text_of (told_of end) ≡ told_text (telling end)
+text_told Whole = refl
+text_told (Bad kind place) = refl
+text_told (show.Unfinished place) = refl
+text_told Long = refl
+text_told show.ReadFault = refl
+text_told show.Memory = refl
+text_told WriteFault = refl
+
 abbrev told_or : Option End → End
 told_or None = Memory
 told_or (Some g) = g
 
 module _ (m x : SinkView) (r : Ended) where
-  tells_same : (e f : End) → Some f ≡ Some e → Tells e m x r → Tells f m x r
-  tells_same e f same tells = subst (λ (o : Option End). Tells (told_or o) m x r) (sym same) tells
+  tells_same : (e f : End) → Some f ≡ Some e → IsTold e m x r → IsTold f m x r
+  tells_same e f same tells = subst (λ (o : Option End). IsTold (told_or o) m x r) (sym same) tells
 
-  pub told_some : (end : ShowEnd) (e : End) → telling end ≡ Some e → Tells e m x r → TellsShown end m x r
+  pub told_some : (end : ShowEnd) (e : End) → telling end ≡ Some e → IsTold e m x r → TellsShown end m x r
   told_some Whole e same tells = tells_same e (told_of Whole) same tells
   told_some (Bad kind place) e same tells = tells_same e (told_of (Bad kind place)) same tells
   told_some (show.Unfinished place) e same tells = tells_same e (told_of (show.Unfinished place)) same tells
@@ -62,7 +81,7 @@ data Way (b n : SourceView) (o x : SinkView) (r : Ended) : Type 0 where
       → AppendsFront o.taken x.taken (value_lines vs ++ text_of (told_of end)) → o.faults ≤ x.faults → Rose o.faults x.faults → Way b n o x r
 
 module _ (b n : SourceView) (o m x : SinkView) (r : Ended) (bytes lines : List ℕ) (vs : List Value) (are : lines ≡ value_lines vs) (wrote : IsWritten o m lines) where
-  tells_way : (end : ShowEnd) → HasReadFor end b n bytes → EndsShown bytes vs end → (end ≡ WriteFault → ⊥) → Tells (told_of end) m x r → Way b n o x r
+  tells_way : (end : ShowEnd) → HasReadFor end b n bytes → EndsShown bytes vs end → (end ≡ WriteFault → ⊥) → IsTold (told_of end) m x r → Way b n o x r
   tells_way end read ends other (written, inl same, inl (is, text, kept)) =
       let w = written_more o m x lines (text_of written) wrote text kept in
       Told bytes vs end read ends other (is ∙ ap ended_of same)
@@ -168,7 +187,8 @@ module _ (b n : SourceView) (o x : SinkView) (r : Ended) where
       by show.ReadFault five = absurd (omega (arith, five))
       by show.Memory five = absurd (omega (arith, five))
   write_cut (Starved bytes vs end read ends calm is text kept) five = let eleven = sym (ap (λ v. v.status) is) ∙ five in absurd (omega (arith, eleven))
-  write_cut (Cut bytes vs read end source ends is front later rose) five = (later, rose, (bytes, vs, end, consumed_for bytes read source, ends, front))
+  write_cut (Cut bytes vs read end source ends is front later rose) five =
+      (later, rose, (bytes, vs, end, consumed_for bytes read source, ends, subst (λ (t : List ℕ). AppendsFront o.taken x.taken (value_lines vs ++ t)) (text_told end) front))
 
   memory_cut : Way b n o x r → r.status ≡ 11 → IsMemoryCut b n o x
   memory_cut (Told bytes vs end read ends other is text kept) eleven = by end read ends (sym (ap (λ v. v.status) is) ∙ eleven) text

@@ -8,17 +8,18 @@ use Rattle.schedule_model.specs.Programs.{program_craft}
 use Rattle.schedule_model.specs.Schedules.{Bad_line, Determined, Whole}
 use Rattle.schedule_model.specs.Schedules as schedules
 use Rattle.top_call.proofs.Fronts.{schedule_run-front}
-use Rattle.top_call.specs.Endings.{HasAnswered, IsToldFor, Shown, ended_of, text_of}
+use Rattle.top_call.specs.Endings.{HasAnswered, IsToldFor, MayEnd, ended_of, text_of}
 use Rattle.top_call.specs.Replays.{HasInput, IsReport, calm_statuses, replay_run}
 use Rattle.top_call.specs.Statuses.{IsAnswerTo, IsBadLine, IsBadWord, IsHistoryFull, IsOutOfMemory, IsReadFault, IsReported, IsWriteFault, WritesBadLine, WritesFull, WritesReport}
 use Rattle.top_call.specs.Words.{bad_place, is_replay}
 use Rattle.top_call.proofs.Asked.{lawful_good}
+use Rattle.top_call.proofs.Endings.{full_of}
 use Rattle.top_call.specs.declared.ending.End.TheVariants.{BadByte, BadLine, BadWord, Full, LongStream, Memory, ReadFault, Reported, Shown as ShownEnd, Unfinished}
 use Rattle.top_call.specs.declared.ending.End.{End}
 use Rattle.top_call.specs.declared.ending.Ended.{Ended}
 
 -- a run that ends so for another cause has a source that didn't fail
-calm_source_of : (words : List (List ℕ)) (b n : SourceView) (end : End) → Shown words b n end → (end ≡ ReadFault → ⊥) → n.faults ≡ b.faults
+calm_source_of : (words : List (List ℕ)) (b n : SourceView) (end : End) → MayEnd words b n end → (end ≡ ReadFault → ⊥) → n.faults ≡ b.faults
 calm_source_of words b n (Reported report) (lawful, (bytes, whole, is)) other = whole.kept
 calm_source_of words b n ShownEnd shown other = absurd shown
 calm_source_of words b n (BadByte kind place) shown other = absurd shown
@@ -33,15 +34,15 @@ calm_source_of words b n (Full entries cost) (lawful, (bytes, inr past, is)) oth
 calm_source_of words b n Memory shown other = shown
 
 -- so it may also end for want of memory
-pub shown_memory : (words : List (List ℕ)) (b n : SourceView) (end told : End) → Shown words b n end → IsToldFor end told → Shown words b n told
-shown_memory words b n end told shown (inl same) = subst (Shown words b n) (sym same) shown
-shown_memory words b n end told shown (inr (memory, other)) = subst (Shown words b n) (sym memory) (calm_source_of words b n end shown other)
+pub shown_memory : (words : List (List ℕ)) (b n : SourceView) (end told : End) → MayEnd words b n end → IsToldFor end told → MayEnd words b n told
+shown_memory words b n end told shown (inl same) = subst (MayEnd words b n) (sym same) shown
+shown_memory words b n end told shown (inr (memory, other)) = subst (MayEnd words b n) (sym memory) (calm_source_of words b n end shown other)
 
 module _ (words : List (List ℕ)) (b n : SourceView) (o x : SinkView) (r : Ended) where
   pub status_reported : HasAnswered words b n o x r → r.status ≡ 0 → IsReported words b n o x
   status_reported (e, shown, inl (is, text, kept)) zero = by e shown text (sym (ap (λ v. v.status) is) ∙ zero)
     where
-      by : (e : End) → Shown words b n e → Appends o.taken x.taken (text_of e) → (ended_of e).status ≡ 0 → IsReported words b n o x
+      by : (e : End) → MayEnd words b n e → Appends o.taken x.taken (text_of e) → (ended_of e).status ≡ 0 → IsReported words b n o x
       by ShownEnd shown text zero = absurd shown
       by (Reported report) (lawful, (bytes, whole, is)) text zero = (lawful, (bytes, whole, (report, is, text)))
       by _ shown text zero = absurd (omega (arith, zero))
@@ -50,7 +51,7 @@ module _ (words : List (List ℕ)) (b n : SourceView) (o x : SinkView) (r : Ende
   pub status_bad_word : HasAnswered words b n o x r → r.status ≡ 2 → IsBadWord words b n o x r.place
   status_bad_word (e, shown, inl (is, text, kept)) two = by e shown text (sym (ap (λ v. v.status) is) ∙ two) (ap (λ v. v.place) is)
     where
-      by : (e : End) → Shown words b n e → Appends o.taken x.taken (text_of e) → (ended_of e).status ≡ 2 → r.place ≡ (ended_of e).place → IsBadWord words b n o x r.place
+      by : (e : End) → MayEnd words b n e → Appends o.taken x.taken (text_of e) → (ended_of e).status ≡ 2 → r.place ≡ (ended_of e).place → IsBadWord words b n o x r.place
       by (BadWord place) shown text two at = rw at (shown.0, shown.1, text)
       by _ shown text two at = absurd (omega (arith, two))
   status_bad_word (e, shown, inr (is, front, later, rose)) two = let five = sym (ap (λ v. v.status) is) ∙ two in absurd (omega (arith, five))
@@ -58,7 +59,7 @@ module _ (words : List (List ℕ)) (b n : SourceView) (o x : SinkView) (r : Ende
   pub status_bad_line : HasAnswered words b n o x r → r.status ≡ 3 → IsBadLine words b n o x r.place
   status_bad_line (e, shown, inl (is, text, kept)) three = by e shown text (sym (ap (λ v. v.status) is) ∙ three) (ap (λ v. v.place) is)
     where
-      by : (e : End) → Shown words b n e → Appends o.taken x.taken (text_of e) → (ended_of e).status ≡ 3 → r.place ≡ (ended_of e).place → IsBadLine words b n o x r.place
+      by : (e : End) → MayEnd words b n e → Appends o.taken x.taken (text_of e) → (ended_of e).status ≡ 3 → r.place ≡ (ended_of e).place → IsBadLine words b n o x r.place
       by (BadByte kind place) shown text three at = absurd shown
       by (Unfinished place) shown text three at = absurd shown
       by LongStream shown text three at = absurd shown
@@ -69,7 +70,7 @@ module _ (words : List (List ℕ)) (b n : SourceView) (o x : SinkView) (r : Ende
   pub status_read_fault : HasAnswered words b n o x r → r.status ≡ 4 → IsReadFault b n o x
   status_read_fault (e, shown, inl (is, text, kept)) four = by e shown text (sym (ap (λ v. v.status) is) ∙ four)
     where
-      by : (e : End) → Shown words b n e → Appends o.taken x.taken (text_of e) → (ended_of e).status ≡ 4 → IsReadFault b n o x
+      by : (e : End) → MayEnd words b n e → Appends o.taken x.taken (text_of e) → (ended_of e).status ≡ 4 → IsReadFault b n o x
       by ReadFault shown text four = (shown.1, shown.2, text)
       by _ shown text four = absurd (omega (arith, four))
   status_read_fault (e, shown, inr (is, front, later, rose)) four = let five = sym (ap (λ v. v.status) is) ∙ four in absurd (omega (arith, five))
@@ -93,7 +94,7 @@ module _ (words : List (List ℕ)) (b n : SourceView) (o x : SinkView) (r : Ende
   pub status_history_full : HasAnswered words b n o x r → r.status ≡ 9 → IsHistoryFull words b n o x
   status_history_full (e, shown, inl (is, text, kept)) nine = by e shown text (sym (ap (λ v. v.status) is) ∙ nine)
     where
-      by : (e : End) → Shown words b n e → Appends o.taken x.taken (text_of e) → (ended_of e).status ≡ 9 → IsHistoryFull words b n o x
+      by : (e : End) → MayEnd words b n e → Appends o.taken x.taken (text_of e) → (ended_of e).status ≡ 9 → IsHistoryFull words b n o x
       by (Full entries cost) (lawful, (bytes, input, run)) text nine = (lawful, (bytes, input, (entries, cost, run, text)))
       by _ shown text nine = absurd (omega (arith, nine))
   status_history_full (e, shown, inr (is, front, later, rose)) nine = let five = sym (ap (λ v. v.status) is) ∙ nine in absurd (omega (arith, five))
@@ -101,7 +102,7 @@ module _ (words : List (List ℕ)) (b n : SourceView) (o x : SinkView) (r : Ende
   pub status_out_of_memory : HasAnswered words b n o x r → r.status ≡ 11 → IsOutOfMemory b n o x
   status_out_of_memory (e, shown, inl (is, text, kept)) eleven = by e shown text (sym (ap (λ v. v.status) is) ∙ eleven)
     where
-      by : (e : End) → Shown words b n e → Appends o.taken x.taken (text_of e) → (ended_of e).status ≡ 11 → IsOutOfMemory b n o x
+      by : (e : End) → MayEnd words b n e → Appends o.taken x.taken (text_of e) → (ended_of e).status ≡ 11 → IsOutOfMemory b n o x
       by Memory shown text eleven = (shown, text)
       by _ shown text eleven = absurd (omega (arith, eleven))
   status_out_of_memory (e, shown, inr (is, front, later, rose)) eleven = let five = sym (ap (λ v. v.status) is) ∙ eleven in absurd (omega (arith, five))
@@ -129,7 +130,7 @@ module _ (words : List (List ℕ)) (b n : SourceView) (o x : SinkView) (r : Ende
   pub status_unlawful : HasAnswered words b n o x r → (place : ℕ) → bad_place words ≡ Some place → Contains (2 ∷ 5 ∷ 11 ∷ []) r.status
   status_unlawful (e, shown, inl (is, text, kept)) place unlawful = by e shown (ap (λ v. v.status) is)
     where
-      by : (e : End) → Shown words b n e → r.status ≡ (ended_of e).status → Contains (2 ∷ 5 ∷ 11 ∷ []) r.status
+      by : (e : End) → MayEnd words b n e → r.status ≡ (ended_of e).status → Contains (2 ∷ 5 ∷ 11 ∷ []) r.status
       by (Reported report) shown is = absurd (lawful_good words place shown.0 unlawful)
       by ShownEnd shown is = absurd shown
       by (BadByte kind at) shown is = absurd shown
@@ -196,12 +197,12 @@ module _ (words : List (List ℕ)) (b n : SourceView) (o x : SinkView) (r : Ende
       second (lawful, (bytes, input, (why, run, text))) = (why, run_of_input b n schedule bytes told input ∙ run, text)
 
       third : IsHistoryFull words b n o x → WritesFull o x schedule
-      third (lawful, (bytes, input, (entries, cost, run, text))) = (entries, cost, run_of_input b n schedule bytes told input ∙ run, text)
+      third (lawful, (bytes, input, (entries, cost, run, text))) = (entries, cost, full_of schedule entries cost (run_of_input b n schedule bytes told input ∙ run.determined), text)
 
   pub status_complete : HasAnswered words b n o x r → is_replay words ≡ true → ¬ (Rose b.faults n.faults) → ¬ (Rose o.faults x.faults) → Contains (calm_statuses (replay_run schedule)) r.status
   status_complete (e, shown, inl (is, written, kept)) lawful calm_source calm_sink = by e shown (ap (λ v. v.status) is)
     where
-      by : (e : End) → Shown words b n e → r.status ≡ (ended_of e).status → Contains (calm_statuses (replay_run schedule)) r.status
+      by : (e : End) → MayEnd words b n e → r.status ≡ (ended_of e).status → Contains (calm_statuses (replay_run schedule)) r.status
       by (Reported report) (good, (bytes, whole, is)) at = rw at (calm schedule _ 0 (run_of_input b n schedule bytes told (inl whole) ∙ is.determined) (0, lit< tt, refl))
       by (BadWord place) shown at = absurd (lawful_good words place lawful shown.0)
       by ShownEnd shown at = absurd shown
@@ -210,6 +211,6 @@ module _ (words : List (List ℕ)) (b n : SourceView) (o x : SinkView) (r : Ende
       by LongStream shown at = absurd shown
       by (BadLine bad) (good, (bytes, input, run)) at = rw at (calm schedule _ 3 (run_of_input b n schedule bytes told input ∙ run) (0, lit< tt, refl))
       by ReadFault shown at = absurd (calm_source shown.2)
-      by (Full entries cost) (good, (bytes, input, run)) at = rw at (calm schedule _ 9 (run_of_input b n schedule bytes told input ∙ run) (0, lit< tt, refl))
+      by (Full entries cost) (good, (bytes, input, run)) at = rw at (calm schedule _ 9 (run_of_input b n schedule bytes told input ∙ run.determined) (0, lit< tt, refl))
       by Memory shown at = rw at (calm_memory (replay_run schedule))
   status_complete (e, shown, inr (is, front, later, rose)) lawful calm_source calm_sink = absurd (calm_sink rose)

@@ -7,7 +7,8 @@ use Rattle.links.specs.Ends.{IsWholeInput}
 use Rattle.links.specs.Views.{SinkView, SourceView}
 use Rattle.top_call.specs.Replays.{HasInput, IsFirstBad, IsFull, IsReport}
 use Rattle.top_call.specs.Words.{bad_place, is_replay, is_show}
-use Rattle.wire_show.specs.Shows.{HasShown, kind_name}
+use Rattle.schedule_model.specs.Schedules.{max_input}
+use Rattle.wire_show.specs.Shows.{HasShown, input_limit, kind_name}
 use Rattle.wire_show.specs.declared.ending.ShowEnd.{ShowEnd}
 use Rattle.wire_show.specs.declared.ending.ShowEnd.TheVariants.{Bad, Long, Whole, WriteFault}
 use Rattle.wire_show.specs.declared.ending.ShowEnd.TheVariants as show
@@ -34,7 +35,7 @@ ended_of (Reported report) = record { status = 0; place = 0; left = 0 }
 ended_of ShownEnd = record { status = 0; place = 0; left = 0 }
 ended_of (BadByte kind place) = record { status = 3; place = place; left = 0 }
 ended_of (Unfinished place) = record { status = 3; place = place; left = 0 }
-ended_of LongStream = record { status = 3; place = 67108864; left = 0 }
+ended_of LongStream = record { status = 3; place = input_limit; left = 0 }
 ended_of (BadWord place) = record { status = 2; place = place; left = 0 }
 ended_of (BadLine bad) = record { status = 3; place = bad.line; left = 0 }
 ended_of ReadFault = record { status = 4; place = 0; left = 0 }
@@ -55,17 +56,17 @@ EndsAs schedule (Full entries cost) = IsFull schedule entries cost
 EndsAs schedule Memory = Unit {0}
 
 -- why a run that shows no stream may end so: its words, and what it read
-abbrev pub Shown : List (List ℕ) → SourceView → SourceView → End → Type 0
-Shown words before now (Reported report) = (is_replay words ≡ true) × ((bytes : List ℕ) × IsWholeInput 67108864 before now bytes × IsReport bytes report)
-Shown words before now ShownEnd = ⊥
-Shown words before now (BadByte kind place) = ⊥
-Shown words before now (Unfinished place) = ⊥
-Shown words before now LongStream = ⊥
-Shown words before now (BadWord place) = (bad_place words ≡ Some place) × (now ≡ before)
-Shown words before now (BadLine bad) = (is_replay words ≡ true) × ((bytes : List ℕ) × HasInput before now bytes × IsFirstBad bytes bad)
-Shown words before now ReadFault = (is_replay words ≡ true) × (before.faults ≤ now.faults) × Rose before.faults now.faults
-Shown words before now (Full entries cost) = (is_replay words ≡ true) × ((bytes : List ℕ) × HasInput before now bytes × IsFull bytes entries cost)
-Shown words before now Memory = now.faults ≡ before.faults
+abbrev pub MayEnd : List (List ℕ) → SourceView → SourceView → End → Type 0
+MayEnd words before now (Reported report) = (is_replay words ≡ true) × ((bytes : List ℕ) × IsWholeInput max_input before now bytes × IsReport bytes report)
+MayEnd words before now ShownEnd = ⊥
+MayEnd words before now (BadByte kind place) = ⊥
+MayEnd words before now (Unfinished place) = ⊥
+MayEnd words before now LongStream = ⊥
+MayEnd words before now (BadWord place) = (bad_place words ≡ Some place) × (now ≡ before)
+MayEnd words before now (BadLine bad) = (is_replay words ≡ true) × ((bytes : List ℕ) × HasInput before now bytes × IsFirstBad bytes bad)
+MayEnd words before now ReadFault = (is_replay words ≡ true) × (before.faults ≤ now.faults) × Rose before.faults now.faults
+MayEnd words before now (Full entries cost) = (is_replay words ≡ true) × ((bytes : List ℕ) × HasInput before now bytes × IsFull bytes entries cost)
+MayEnd words before now Memory = now.faults ≡ before.faults
 
 -- the whole text was written and this is answered, or the sink failed within it and the status is 5
 abbrev pub WritesText : SinkView → SinkView → List ℕ → Ended → Ended → Type 0
@@ -79,51 +80,45 @@ Written before now end result = WritesText before now (text_of end) (ended_of en
 
 -- at most one byte more than 64 MiB was read, and no count of the source fell
 pub record Took (before now : SourceView) : Type 0 where
-  pub taken : (bytes : List ℕ) × Consumes before.left now.left bytes × (length bytes ≤ 67108864 + 1)
+  pub taken : (bytes : List ℕ) × Consumes before.left now.left bytes × (length bytes ≤ max_input + 1)
   pub faults : before.faults ≤ now.faults
   pub ends : before.ends ≤ now.ends
 
 -- how a run ends that shows no stream: it may end so, and its text was written
 abbrev pub HasAnswered : List (List ℕ) → SourceView → SourceView → SinkView → SinkView → Ended → Type 0
-HasAnswered words before now old new result = (end : End) × Shown words before now end × Written old new end result
+HasAnswered words before now old new result = (end : End) × MayEnd words before now end × Written old new end result
 
 -- which ending is told of one: itself, or want of memory, but that a source failed is told as it is
 abbrev pub IsToldFor : End → End → Type 0
 IsToldFor end told = (told ≡ end) ⊎ ((told ≡ Memory) × (end ≡ ReadFault → ⊥))
 
 -- the text of the ending that is told was written, or the sink failed within it
-abbrev pub Tells : End → SinkView → SinkView → Ended → Type 0
-Tells end old new result = (told : End) × IsToldFor end told × Written old new told result
+abbrev pub IsTold : End → SinkView → SinkView → Ended → Type 0
+IsTold end old new result = (told : End) × IsToldFor end told × Written old new told result
 
--- the ending of a run of `show` by that of its showing; where the sink failed nothing more is told
-abbrev pub told_of : ShowEnd → End
-told_of Whole = ShownEnd
-told_of (Bad kind place) = BadByte kind place
-told_of (show.Unfinished place) = Unfinished place
-told_of Long = LongStream
-told_of show.ReadFault = ReadFault
-told_of show.Memory = Memory
-told_of WriteFault = ShownEnd
-
--- what is told of the end of a showing, where anything is
+-- what is told of the end of a showing: nothing where the sink failed
 abbrev pub telling : ShowEnd → Option End
-telling Whole = Some (told_of Whole)
-telling (Bad kind place) = Some (told_of (Bad kind place))
-telling (show.Unfinished place) = Some (told_of (show.Unfinished place))
-telling Long = Some (told_of Long)
-telling show.ReadFault = Some (told_of show.ReadFault)
-telling show.Memory = Some (told_of show.Memory)
+telling Whole = Some ShownEnd
+telling (Bad kind place) = Some (BadByte kind place)
+telling (show.Unfinished place) = Some (Unfinished place)
+telling Long = Some LongStream
+telling show.ReadFault = Some ReadFault
+telling show.Memory = Some Memory
 telling WriteFault = None
+
+-- its text, none where nothing is told
+abbrev pub told_text : Option End → List ℕ
+told_text None = []
+told_text (Some end) = text_of end
+
+-- this was told, where anything is to be told
+abbrev pub IsToldIf : Option End → SinkView → SinkView → Ended → Type 0
+IsToldIf None old new result = (result ≡ record { status = 5; place = 0; left = 0 }) × (new ≡ old)
+IsToldIf (Some end) old new result = IsTold end old new result
 
 -- what was told of the end of a showing
 abbrev pub TellsShown : ShowEnd → SinkView → SinkView → Ended → Type 0
-TellsShown Whole old new result = Tells (told_of Whole) old new result
-TellsShown (Bad kind place) old new result = Tells (told_of (Bad kind place)) old new result
-TellsShown (show.Unfinished place) old new result = Tells (told_of (show.Unfinished place)) old new result
-TellsShown Long old new result = Tells (told_of Long) old new result
-TellsShown show.ReadFault old new result = Tells (told_of show.ReadFault) old new result
-TellsShown show.Memory old new result = Tells (told_of show.Memory) old new result
-TellsShown WriteFault old new result = (result ≡ record { status = 5; place = 0; left = 0 }) × (new ≡ old)
+TellsShown end old new result = IsToldIf (telling end) old new result
 
 -- how a run of `show` ends: a stream was shown, and then its end was told
 abbrev pub HasTold : SourceView → SourceView → SinkView → SinkView → Ended → Type 0

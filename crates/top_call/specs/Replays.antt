@@ -1,20 +1,22 @@
 -- What `replay` makes of an input.
-use Rattle.std.specs.Prelude.{List, [], ℕ, ◌∷◌, ◌≡◌, ◌⊎◌}
+use Rattle.std.specs.Prelude.{List, [], true, ℕ, ◌∷◌, ◌≡◌, ◌⊎◌}
 use Rattle.line_text.specs.declared.reason.BadLine.{BadLine}
 use Rattle.links.specs.Ends.{IsPast, IsWholeInput}
 use Rattle.links.specs.Views.{SourceView}
 use Rattle.command_blocks.specs.EnvelopeTexts.{plain_setting}
 use Rattle.place_model.specs.Starts.{IsSound}
-use Rattle.schedule_model.specs.Desk.{ScheduleReader}
+use Rattle.schedule_model.specs.Costs.{is_full}
+use Rattle.schedule_model.specs.Desk.{ScheduleReader, first_desk}
 use Rattle.schedule_model.specs.EachPlaced.{IsEachPlaced}
+use Rattle.schedule_model.specs.Filled.{FilledDesk, lines_read}
 use Rattle.schedule_model.specs.Programs.{program_craft, program_legend}
 use Rattle.schedule_model.specs.Reports.{report_text}
-use Rattle.schedule_model.specs.Schedules.{Bad_line, Determined, Whole, reader_history, schedule_run}
+use Rattle.schedule_model.specs.Schedules.{Bad_line, Determined, Whole, max_input, reader_history, schedule_run}
 use Rattle.schedule_model.specs.Schedules as schedules
 
 -- what was read of an input that is looked at: all of it to its end, or one byte more than 64 MiB
 abbrev pub HasInput : SourceView → SourceView → List ℕ → Type 0
-HasInput before now bytes = IsWholeInput 67108864 before now bytes ⊎ IsPast 67108864 before now bytes
+HasInput before now bytes = IsWholeInput max_input before now bytes ⊎ IsPast max_input before now bytes
 
 -- what this schedule determines for the program: a history, its first bad line, or a history that was full
 abbrev pub replay_run : List ℕ → Determined
@@ -33,9 +35,15 @@ pub record IsReport (schedule text : List ℕ) : Type 0 where
 abbrev pub IsFirstBad : List ℕ → BadLine → Type 0
 IsFirstBad schedule bad = replay_run schedule ≡ Bad_line bad.line bad.reason
 
--- a line of this schedule was to add to a history of so many entries, which cost so many bytes, and that is full
-abbrev pub IsFull : List ℕ → ℕ → ℕ → Type 0
-IsFull schedule entries cost = replay_run schedule ≡ schedules.Full entries cost
+-- a line of this schedule was to add to a history of so many entries, which cost so many bytes: that of the desk that the
+-- schedule's lines filled; it is full and sound, and after each of its prefixes each message that is accepted and single
+-- is in exactly one place
+pub record IsFull (schedule : List ℕ) (entries cost : ℕ) : Type 0 where
+  pub determined : replay_run schedule ≡ schedules.Full entries cost
+  pub filled : FilledDesk program_craft first_desk (lines_read schedule) entries cost
+  pub full : is_full filled.desk.entries ≡ true
+  pub sound : IsSound plain_setting (reader_history filled.desk)
+  pub placed : IsEachPlaced (reader_history filled.desk)
 
 -- the statuses that a run over such a schedule may have, where neither its source nor its sink fails: its own, or want of memory
 abbrev pub calm_statuses : Determined → List ℕ

@@ -4,7 +4,7 @@ use Rattle.std.specs.Prelude.{Contains, List, Some, [], ℕ, ◌++◌, ◌∷◌
 use Rattle.links.specs.Causes.{AppendsFront, Rose}
 use Rattle.links.specs.Ends.{HasReadUpTo, IsPast, IsWholeInput}
 use Rattle.links.specs.Views.{SinkView, SourceView}
-use Rattle.top_call.specs.Endings.{text_of, told_of}
+use Rattle.top_call.specs.Endings.{telling, text_of, told_text}
 use Rattle.top_call.specs.declared.ending.End.TheVariants.{BadByte, LongStream, Memory, ReadFault, Unfinished}
 use Rattle.top_call.specs.declared.ending.Ended.{Ended}
 use Rattle.wire_grammar.specs.declared.kind.WireKind.{WireKind}
@@ -44,7 +44,7 @@ IsReadCut before now old new = (before.faults ≤ now.faults) × Rose before.fau
 -- status 5: the sink's count rose, within the lines of values that begin what was read, or within the text after them
 abbrev pub IsWriteCut : SourceView → SourceView → SinkView → SinkView → Type 0
 IsWriteCut before now old new = (old.faults ≤ new.faults) × Rose old.faults new.faults × ((bytes : List ℕ) × (vs : List Value) × (end : ShowEnd)
-    × Consumes before.left now.left bytes × EndsShown bytes vs end × AppendsFront old.taken new.taken (value_lines vs ++ text_of (told_of end)))
+    × Consumes before.left now.left bytes × EndsShown bytes vs end × AppendsFront old.taken new.taken (value_lines vs ++ told_text (telling end)))
 
 -- status 11: the source didn't fail; the lines of values that begin what was read were written, and then its text
 abbrev pub IsMemoryCut : SourceView → SourceView → SinkView → SinkView → Type 0

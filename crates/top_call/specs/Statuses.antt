@@ -5,7 +5,8 @@ use Rattle.line_text.specs.declared.reason.Reason.{Reason}
 use Rattle.links.specs.Causes.{AppendsFront, Rose}
 use Rattle.links.specs.Ends.{IsWholeInput}
 use Rattle.links.specs.Views.{SinkView, SourceView}
-use Rattle.top_call.specs.Endings.{Shown, text_of}
+use Rattle.schedule_model.specs.Schedules.{max_input}
+use Rattle.top_call.specs.Endings.{MayEnd, text_of}
 use Rattle.top_call.specs.Replays.{HasInput, IsFirstBad, IsFull, IsReport}
 use Rattle.top_call.specs.Words.{bad_place, is_replay}
 use Rattle.top_call.specs.declared.ending.End.TheVariants.{BadWord, BadLine, Full, Memory, ReadFault}
@@ -30,7 +31,7 @@ WritesFull old new schedule = (entries : ℕ) × (cost : ℕ) × IsFull schedule
 -- status 0: the words are lawful, the input was read to its end, and its report was written
 abbrev pub IsReported : List (List ℕ) → SourceView → SourceView → SinkView → SinkView → Type 0
 IsReported words before now old new = (is_replay words ≡ true)
-    × ((bytes : List ℕ) × IsWholeInput 67108864 before now bytes × WritesReport old new bytes)
+    × ((bytes : List ℕ) × IsWholeInput max_input before now bytes × WritesReport old new bytes)
 
 -- status 2: the word at this place is the first bad one, nothing was read, and its text was written
 abbrev pub IsBadWord : List (List ℕ) → SourceView → SourceView → SinkView → SinkView → ℕ → Type 0
@@ -49,7 +50,7 @@ IsReadFault before now old new = (before.faults ≤ now.faults) × Rose before.f
 -- status 5: the sink's count rose, and a front was written of a text for which there is cause
 abbrev pub IsWriteFault : List (List ℕ) → SourceView → SourceView → SinkView → SinkView → Type 0
 IsWriteFault words before now old new = (old.faults ≤ new.faults) × Rose old.faults new.faults
-    × ((end : End) × Shown words before now end × AppendsFront old.taken new.taken (text_of end))
+    × ((end : End) × MayEnd words before now end × AppendsFront old.taken new.taken (text_of end))
 
 -- status 9: a line of the input was to add to a full history, whose numbers were written
 abbrev pub IsHistoryFull : List (List ℕ) → SourceView → SourceView → SinkView → SinkView → Type 0

@@ -1,6 +1,6 @@
 //! The top call: words, a source and a sink to a status.
 ghost use Rattle.std.specs.Prelude.{Contains, List, [], false, map, true, ℕ, ◌∷◌, ◌≡◌, ◌≤◌, ◌⊎◌};
-ghost use Rattle.top_call.specs.Endings.{EndsAs, HasEnded, HasTold, Shown, Tells, Took, WritesText, Written, telling};
+ghost use Rattle.top_call.specs.Endings.{EndsAs, HasEnded, HasTold, MayEnd, IsTold, Took, WritesText, Written, telling};
 ghost use Rattle.top_call.specs.Mappings.{end_given};
 ghost use Rattle.top_call.specs.Replays.{calm_statuses, replay_run};
 ghost use Rattle.top_call.specs.Statuses.{IsAnswerTo, IsBadLine, IsBadWord, IsHistoryFull, IsOutOfMemory, IsReadFault, IsReported, IsWriteFault};
@@ -116,7 +116,7 @@ fn told(shown: ShowEnd) -> Option<End>
 /// Writes the text of an end, or of want of memory where there is none for that text; that the source failed is written
 /// without memory.
 fn finish<K: Sink>(alloc: Global, out: &mut K, end: End) -> Ended
-    ensures { Tells end (sink_view K.taken K.write_faults out.old) (sink_view K.taken K.write_faults out.new) result }
+    ensures { IsTold end (sink_view K.taken K.write_faults out.old) (sink_view K.taken K.write_faults out.new) result }
 {
     let ended = end.ended();
     if let End::ReadFault = end {
@@ -138,7 +138,7 @@ pub fn out_of_memory<K: Sink>(out: &mut K) -> Ended
 /// What the words, which don't name `show`, and the input lead to.
 fn judge<S: Source>(alloc: Global, words: &[&str], src: &mut S) -> End
     requires { is_show (map (λ w. w.now) words.now) ≡ false }
-    ensures shown { Shown (map (λ w. w.now) words.now)
+    ensures shown { MayEnd (map (λ w. w.now) words.now)
         (source_view S.left S.read_faults S.ends src.old) (source_view S.left S.read_faults S.ends src.new) result }
     ensures took { Took (source_view S.left S.read_faults S.ends src.old) (source_view S.left S.read_faults S.ends src.new) }
 {

@@ -10,7 +10,7 @@ use Rattle.wire_grammar.proofs.Limited.{front_says, limited_front}
 use Rattle.wire_grammar.proofs.StreamLaws.{leads_on, leads_one}
 use Rattle.wire_show.specs.declared.showing.NextLine.{NextLine}
 use Rattle.wire_show.specs.declared.showing.NextLine.TheVariants.{Added, Front as NextFront, Bad, Memory}
-use Rattle.wire_show.specs.Runs.{AreLinesOf, Gives, HasFaultAfter, HasGivenAll, HasGivenLines}
+use Rattle.wire_show.specs.Runs.{AreLinesOf, GivesLines, HasFaultAfter, HasGivenAll, HasGivenLines}
 use Rattle.wire_show.specs.Shows.{value_line, value_lines}
 use Rattle.wire_values.specs.declared.value.Value.{Value}
 
@@ -68,7 +68,7 @@ pub lines_of_more : (stream piece lines : List ℕ) → AreLinesOf stream lines 
 lines_of_more stream piece lines h = (h.0, h.1, h.2 ++ piece, leads_on 0 stream h.0 h.1 h.2 piece h.3, h.4)
 
 -- the lines that asking for more gave
-pub lines_of_gives : (d : Decoder) (stream lines : List ℕ) (next : NextLine) → Gives d stream lines next → AreLinesOf stream lines
+pub lines_of_gives : (d : Decoder) (stream lines : List ℕ) (next : NextLine) → GivesLines d stream lines next → AreLinesOf stream lines
 lines_of_gives d stream lines Added h = lines_of_given d stream lines h
 lines_of_gives d stream lines NextFront h = lines_of_given d stream lines h.given
 lines_of_gives d stream lines (Bad kind place) (vs, from, rest, leads, wrong, are) = (vs, from, rest, leads, are)

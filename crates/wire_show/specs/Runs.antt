@@ -37,11 +37,11 @@ HasFaultAfter stream lines kind place =
     (vs : List Value) × (from : ℕ) × (rest : List ℕ) × Leads 0 stream vs from rest × IsFault from rest kind place × (lines ≡ value_lines vs)
 
 -- what came of asking for lines
-abbrev pub Gives : Decoder → List ℕ → List ℕ → NextLine → Type 0
-Gives d stream lines Added = HasGivenLines d stream lines
-Gives d stream lines Front = HasGivenAll d stream lines
-Gives d stream lines (Bad kind place) = HasFaultAfter stream lines kind place
-Gives d stream lines Memory = AreLinesOf stream lines
+abbrev pub GivesLines : Decoder → List ℕ → List ℕ → NextLine → Type 0
+GivesLines d stream lines Added = HasGivenLines d stream lines
+GivesLines d stream lines Front = HasGivenAll d stream lines
+GivesLines d stream lines (Bad kind place) = HasFaultAfter stream lines kind place
+GivesLines d stream lines Memory = AreLinesOf stream lines
 
 -- why a showing ends amid its stream
 abbrev pub EndsAmid : List ℕ → List ℕ → ShowEnd → Type 0

@@ -2,7 +2,7 @@
 ghost use Rattle.std.specs.Prelude.{◌≡◌, ◌<◌, ◌++◌, [], None, List, ℕ};
 ghost use Rattle.links.specs.Views.{sink_view};
 ghost use Rattle.resp_wire.specs.Moves.{unread_of};
-ghost use Rattle.wire_show.specs.Runs.{Drains, Gives, HasGivenAll, HasGivenLines};
+ghost use Rattle.wire_show.specs.Runs.{Drains, GivesLines, HasGivenAll, HasGivenLines};
 ghost use Rattle.wire_show.specs.declared.showing.NextLine.TheVariants.{Added};
 
 use crate::ending::ShowEnd;
@@ -51,7 +51,7 @@ impl Showing {
     fn add_next(&mut self, alloc: Global) -> NextLine
         ensures less { result ≡ Added → unread_of self.new.decoder < unread_of self.old.decoder }
         ensures gives { (stream text : List ℕ) → HasGivenLines self.old.decoder stream (text ++ self.old.lines.ready.items)
-            → Gives self.new.decoder stream (text ++ self.new.lines.ready.items) result }
+            → GivesLines self.new.decoder stream (text ++ self.new.lines.ready.items) result }
     {
         match self.decoder.next(alloc) {
             Ok(Some(value)) => match self.lines.put(alloc, value) {
@@ -68,7 +68,7 @@ impl Showing {
     fn gather(&mut self, alloc: Global) -> NextLine
         ensures less { result ≡ Added → unread_of self.new.decoder < unread_of self.old.decoder }
         ensures gives { (stream text : List ℕ) → HasGivenLines self.old.decoder stream (text ++ self.old.lines.ready.items)
-            → Gives self.new.decoder stream (text ++ self.new.lines.ready.items) result }
+            → GivesLines self.new.decoder stream (text ++ self.new.lines.ready.items) result }
     {
         'lines: loop {
             match self.add_next(alloc) {

@@ -5,8 +5,8 @@ use Rattle.queue_keys.specs.Names.{Bytes}
 use Rattle.worked_histories.specs.Rows.{Message}
 
 -- the compact text of the envelope of the task tasks.add of 2 and 3 under the tag t, by its exchange and routing key; each of the two marks stands before the member that follows it in byte order
-abbrev pub envelope_text : Bytes → Bytes → Bytes → Bytes → Bytes
-envelope_text t x k mark =
+abbrev pub celery_envelope : Bytes → Bytes → Bytes → Bytes → Bytes
+celery_envelope t x k mark =
     codes "{\"body\":\"W1syLDNdLHt9LHsiY2FsbGJhY2tzIjpudWxsLCJjaGFpbiI6bnVsbCwiY2hvcmQiOm51bGwsImVycmJhY2tzIjpudWxsfV0=\",\"content-encoding\":\"utf-8\",\"content-type\":\"application/json\",\"headers\":{\"argsrepr\":\"[2,3]\",\"eta\":null,\"expires\":null,\"group\":null,\"id\":\""
     ++ t ++ codes "\",\"kwargsrepr\":\"{}\",\"lang\":\"py\",\"origin\":\"node\",\"parent_id\":null," ++ mark ++ codes "\"retries\":0,\"root_id\":\""
     ++ t ++ codes "\",\"task\":\"tasks.add\",\"timelimit\":[null,null]},\"properties\":{\"body_encoding\":\"base64\",\"correlation_id\":\""
@@ -18,15 +18,15 @@ abbrev pub mark_text : Bytes
 mark_text = codes "\"redelivered\":true,"
 
 -- the compact text of the entry of an envelope: the array of its tree and its two names
-abbrev pub entry_text : Bytes → Bytes → Bytes → Bytes
-entry_text x k v = codes "[" ++ v ++ codes ",\"" ++ x ++ codes "\",\"" ++ k ++ codes "\"]"
+abbrev pub celery_entry : Bytes → Bytes → Bytes → Bytes
+celery_entry x k v = codes "[" ++ v ++ codes ",\"" ++ x ++ codes "\",\"" ++ k ++ codes "\"]"
 
 -- the message of a seed and a counter, by its exchange and routing key
 abbrev pub celery_message : ℕ → ℕ → Bytes → Bytes → Message
-celery_message s n x k = let v = envelope_text (tag s n) x k [] in let w = envelope_text (tag s n) x k mark_text in record {
+celery_message s n x k = let v = celery_envelope (tag s n) x k [] in let w = celery_envelope (tag s n) x k mark_text in record {
   tag = tag s n;
   envelope = v;
-  entry = entry_text x k v;
+  entry = celery_entry x k v;
   marked = w;
-  marked_entry = entry_text x k w;
+  marked_entry = celery_entry x k w;
 }
