@@ -169,7 +169,11 @@ fn expect_after_many<R: Abort>(
 fn a_place_is_counted_from_the_beginning_of_the_stream(rt: HostRuntime) -> Result<(), Fail> {
     let deep = b"*1\r\n*1\r\n*1\r\n*1\r\n*1\r\n".as_slice();
     for (more, place, text) in [
-        (b"x".as_slice(), 40_000, b"fault BadKind at 40000\n".as_slice()),
+        (
+            b"x".as_slice(),
+            40_000,
+            b"fault BadKind at 40000\n".as_slice(),
+        ),
         (b":01", 40_002, b"fault BadInteger at 40002\n"),
         (b"+a\n", 40_002, b"fault NoCrLf at 40002\n"),
         (b"$1\r\nab", 40_005, b"fault NoCrLf at 40005\n"),

@@ -21,7 +21,7 @@ pub fn answer<R: Env, S: Source, K: Sink>(rt: &R, alloc: Global, src: &mut S, ou
         (source_view S.left S.read_faults S.ends src.old) (source_view S.left S.read_faults S.ends src.new)
         (sink_view K.taken K.write_faults out.old) (sink_view K.taken K.write_faults out.new) result)
         ⊎ ((source_view S.left S.read_faults S.ends src.new ≡ source_view S.left S.read_faults S.ends src.old)
-            × Written (sink_view K.taken K.write_faults out.old) (sink_view K.taken K.write_faults out.new) Memory result) }
+        × Written (sink_view K.taken K.write_faults out.old) (sink_view K.taken K.write_faults out.new) Memory result) }
     ensures took { Took (source_view S.left S.read_faults S.ends src.old) (source_view S.left S.read_faults S.ends src.new) }
 {
     let Ok(texts) = read_words(rt, alloc) else {

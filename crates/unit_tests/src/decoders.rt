@@ -45,10 +45,7 @@ fn written(alloc: Global, value: &Value) -> Result<String, AllocError> {
         return String::from_str(alloc, "a value that doesn't fit");
     }
     let bytes = encode(alloc, value)?;
-    String::from_str(
-        alloc,
-        str::from_utf8(bytes.as_slice()).unwrap_or("no text"),
-    )
+    String::from_str(alloc, str::from_utf8(bytes.as_slice()).unwrap_or("no text"))
 }
 
 /// What `next` answers, as a row has it.
