@@ -108,8 +108,23 @@ fn a_stream_is_shown_in_any_pieces(rt: HostRuntime) -> Result<(), Fail> {
 }
 
 #[test]
+fn a_text_ends_at_its_limit(rt: HostRuntime) -> Result<(), Fail> {
+    Ok(expect_rows(&rt, rt.alloc(), streams::long_texts(), &[1, 4_096])?)
+}
+
+#[test]
 fn a_value_past_its_limit_is_a_fault(rt: HostRuntime) -> Result<(), Fail> {
     Ok(expect_rows(&rt, rt.alloc(), streams::long_values(), &[4_096, 65_536])?)
+}
+
+#[test]
+fn a_value_passes_its_limit_in_each_state(rt: HostRuntime) -> Result<(), Fail> {
+    Ok(expect_rows(&rt, rt.alloc(), streams::past_values(), &[65_536])?)
+}
+
+#[test]
+fn a_value_has_its_last_byte(rt: HostRuntime) -> Result<(), Fail> {
+    Ok(expect_rows(&rt, rt.alloc(), streams::last_bytes(), &[65_536])?)
 }
 
 /// Asserts what a front of a value's spelling is, and the whole of it in pieces of the front's length.
@@ -308,15 +323,25 @@ fn expect_last<R: Abort>(
 }
 
 #[test]
+fn the_last_byte_of_a_stream_is_wrong(rt: HostRuntime) -> Result<(), Fail> {
+    let text = b"fault NoCrLf at 67108863\n".as_slice();
+    for after in [b"\rx".as_slice(), b"\rx+"] {
+        expect_last(&rt, rt.alloc(), 1_048_564, after, 67_108_863, text)?;
+    }
+    Ok(())
+}
+
+#[test]
 fn a_value_is_cut_at_the_limit_of_its_stream(rt: HostRuntime) -> Result<(), Fail> {
-    let wrong = b"fault NoCrLf at 67108863\n".as_slice();
-    for (length, after, place, text) in [
-        (1_048_564, b"\rx".as_slice(), 67_108_863, wrong),
-        (1_048_564, b"\rx+", 67_108_863, wrong),
-        (1_048_565, b"\r\n", LIMIT as u64, b"long at 67108864\n"),
-        (1_048_565, b"\r", 66_060_288, b"unfinished at 66060288\n"),
+    for (after, place, text) in [
+        (
+            b"\r\n".as_slice(),
+            LIMIT as u64,
+            b"long at 67108864\n".as_slice(),
+        ),
+        (b"\r", 66_060_288, b"unfinished at 66060288\n"),
     ] {
-        expect_last(&rt, rt.alloc(), length, after, place, text)?;
+        expect_last(&rt, rt.alloc(), 1_048_565, after, place, text)?;
     }
     Ok(())
 }
