@@ -29,6 +29,7 @@ fn a_bad_word_is_named_by_its_place(rt: HostRuntime) -> Result<(), Fail> {
     expect_bad_word(&rt, rt.alloc(), &[], 0, b"bad word 0\n")?;
     expect_bad_word(&rt, rt.alloc(), &["check"], 0, b"bad word 0\n")?;
     expect_bad_word(&rt, rt.alloc(), &["replay", "--record"], 1, b"bad word 1\n")?;
+    expect_bad_word(&rt, rt.alloc(), &["show", "--record"], 1, b"bad word 1\n")?;
     Ok(())
 }
 

@@ -79,6 +79,14 @@ fn the_words_of_a_process_name_its_program(rt: HostRuntime) -> Result<(), Fail> 
         "bad word 1\n",
     )?;
     expect_answer(&rt, alloc, &[b"repla\xff"], end_of(2, 0), "bad word 0\n")?;
+    expect_answer(&rt, alloc, &[b"show"], end_of(3, 0), "fault BadKind at 0\n")?;
+    expect_answer(
+        &rt,
+        alloc,
+        &[b"show", b"show"],
+        end_of(2, 1),
+        "bad word 1\n",
+    )?;
     Ok(())
 }
 

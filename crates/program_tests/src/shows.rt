@@ -13,6 +13,9 @@ use wire_values::Bytes;
 /// The spelling of the array of `GET` and `k`.
 const WORDS: &[u8] = b"*2\r\n$3\r\nGET\r\n$1\r\nk\r\n";
 
+/// An array in three others, with a value of each other form.
+const NESTED: &[u8] = b"*1\r\n*1\r\n*1\r\n*5\r\n+a\r\n-b\r\n:-12\r\n$0\r\n\r\n$-1\r\n";
+
 /// The limit of a stream.
 const LIMIT: usize = 67_108_864;
 
@@ -43,7 +46,7 @@ fn expect_shown<R: Abort>(
     end: Ended,
     want: &[u8],
 ) -> Result<(), AllocError> {
-    let mut out = sink_of(alloc, 200_000, 1_000, NEVER)?;
+    let mut out = sink_of(alloc, want.len() as u64 + 1_000, 1_000, NEVER)?;
     let found = shown(alloc, stream, piece, NEVER, &mut out)?;
     let written = str::from_utf8(out.taken()).unwrap_or("no text");
     assert_eq!(rt; written, str::from_utf8(want).unwrap_or("no row"));
@@ -105,32 +108,95 @@ fn a_stream_is_shown_in_any_pieces(rt: HostRuntime) -> Result<(), Fail> {
 }
 
 #[test]
+fn a_text_ends_at_its_limit(rt: HostRuntime) -> Result<(), Fail> {
+    Ok(expect_rows(&rt, rt.alloc(), streams::long_texts(), &[1, 4_096])?)
+}
+
+#[test]
 fn a_value_past_its_limit_is_a_fault(rt: HostRuntime) -> Result<(), Fail> {
     Ok(expect_rows(&rt, rt.alloc(), streams::long_values(), &[4_096, 65_536])?)
 }
 
-/// Asserts what a front of the words' spelling is, and the whole of it in pieces of the front's length.
-fn expect_cut<R: Abort>(rt: &R, alloc: Global, cut: usize) -> Result<(), AllocError> {
-    let (front, _) = WORDS.split_at_checked(cut).expect(rt, "a front");
+#[test]
+fn a_value_passes_its_limit_in_each_state(rt: HostRuntime) -> Result<(), Fail> {
+    Ok(expect_rows(&rt, rt.alloc(), streams::past_values(), &[65_536])?)
+}
+
+#[test]
+fn a_value_has_its_last_byte(rt: HostRuntime) -> Result<(), Fail> {
+    Ok(expect_rows(&rt, rt.alloc(), streams::last_bytes(), &[65_536])?)
+}
+
+/// Asserts what a front of a value's spelling is, and the whole of it in pieces of the front's length.
+fn expect_cut<R: Abort>(
+    rt: &R,
+    alloc: Global,
+    value: &[u8],
+    cut: usize,
+    want: &[u8],
+) -> Result<(), AllocError> {
+    let (front, _) = value.split_at_checked(cut).expect(rt, "a front");
     if cut == 0 {
         expect_shown(rt, alloc, front, 1, end_of(0, 0), b"")?;
     } else {
         expect_shown(rt, alloc, front, 5, end_of(3, 0), b"unfinished at 0\n")?;
     }
-    expect_shown(
-        rt,
-        alloc,
-        WORDS,
-        cut as u64,
-        end_of(0, 0),
-        b"*[$\"GET\", $\"k\"]\n",
-    )
+    expect_shown(rt, alloc, value, cut as u64, end_of(0, 0), want)
 }
 
 #[test]
 fn a_value_is_cut_at_every_byte(rt: HostRuntime) -> Result<(), Fail> {
-    for cut in 0..WORDS.len() {
-        expect_cut(&rt, rt.alloc(), cut)?;
+    for (value, want) in [
+        (WORDS, b"*[$\"GET\", $\"k\"]\n".as_slice()),
+        (
+            NESTED,
+            b"*[*[*[*[+\"a\", -\"b\", :-12, $\"\", $-]]]]\n".as_slice(),
+        ),
+    ] {
+        for cut in 0..value.len() {
+            expect_cut(&rt, rt.alloc(), value, cut, want)?;
+        }
+    }
+    Ok(())
+}
+
+/// Asserts how a stream ends of 10,000 integers and these bytes, and which text follows their lines.
+fn expect_after_many<R: Abort>(
+    rt: &R,
+    alloc: Global,
+    more: &[u8],
+    place: u64,
+    text: &[u8],
+) -> Result<(), AllocError> {
+    let mut stream = Vec::new(alloc);
+    let mut want = Vec::new(alloc);
+    for _ in 0..10_000 {
+        stream.extend_from_slice(b":1\r\n")?;
+        want.extend_from_slice(b":1\n")?;
+    }
+    stream.extend_from_slice(more)?;
+    want.extend_from_slice(text)?;
+    let end = end_of(3, place);
+    expect_shown(rt, alloc, stream.as_slice(), 4_096, end, want.as_slice())
+}
+
+#[test]
+fn a_place_is_counted_from_the_beginning_of_the_stream(rt: HostRuntime) -> Result<(), Fail> {
+    let deep = b"*1\r\n*1\r\n*1\r\n*1\r\n*1\r\n".as_slice();
+    for (more, place, text) in [
+        (
+            b"x".as_slice(),
+            40_000,
+            b"fault BadKind at 40000\n".as_slice(),
+        ),
+        (b":01", 40_002, b"fault BadInteger at 40002\n"),
+        (b"+a\n", 40_002, b"fault NoCrLf at 40002\n"),
+        (b"$1\r\nab", 40_005, b"fault NoCrLf at 40005\n"),
+        (b"$1048577", 40_007, b"fault TooLong at 40007\n"),
+        (deep, 40_016, b"fault TooDeep at 40016\n"),
+        (b"*2\r\n:1\r\n", 40_000, b"unfinished at 40000\n"),
+    ] {
+        expect_after_many(&rt, rt.alloc(), more, place, text)?;
     }
     Ok(())
 }
@@ -176,17 +242,48 @@ fn a_source_that_fails_in_a_showing_cuts_it(rt: HostRuntime) -> Result<(), Fail>
     Ok(())
 }
 
-/// So many bulk strings of which each is spelled by 1,048,576 bytes, and then these bytes.
-fn bulks(alloc: Global, count: usize, more: &[u8]) -> Result<Vec<u8>, AllocError> {
-    let content = vec![in alloc; b'q'; 1_048_564]?;
+/// Appends the spelling of a bulk string of so many bytes, with this in place of its last end of a line.
+fn push_bulk(
+    alloc: Global,
+    stream: &mut Vec<u8>,
+    length: usize,
+    end: &[u8],
+) -> Result<(), AllocError> {
+    let head = format!(in alloc; "${length}\r\n")?;
+    let content = vec![in alloc; b'q'; length]?;
+    stream.extend_from_slice(head.as_bytes())?;
+    stream.extend_from_slice(content.as_slice())?;
+    Ok(stream.extend_from_slice(end)?)
+}
+
+/// So many bulk strings of which each is spelled by 1,048,576 bytes.
+fn bulks(alloc: Global, count: usize) -> Result<Vec<u8>, AllocError> {
     let mut stream = Vec::new(alloc);
     for _ in 0..count {
-        stream.extend_from_slice(b"$1048564\r\n")?;
-        stream.extend_from_slice(content.as_slice())?;
-        stream.extend_from_slice(b"\r\n")?;
+        push_bulk(alloc, &mut stream, 1_048_564, b"\r\n")?;
     }
-    stream.extend_from_slice(more)?;
     Ok(stream)
+}
+
+/// Asserts how a stream ends that begins with so many such bulk strings, and which text follows their lines.
+fn expect_after_bulks<R: Abort>(
+    rt: &R,
+    alloc: Global,
+    count: usize,
+    stream: &[u8],
+    end: Ended,
+    text: &[u8],
+) -> Result<(), AllocError> {
+    let mut out = sink_of(alloc, 68_000_000, 1_000_000, NEVER)?;
+    let found = shown(alloc, stream, 65_536, NEVER, &mut out)?;
+    assert_eq!(rt; found, end);
+    let (lines, rest) = out
+        .taken()
+        .split_at_checked(count.wrapping_mul(1_048_568))
+        .expect(rt, "the lines");
+    assert!(rt; lines.ends_with(b"q\"\n"));
+    assert!(rt; rest == text);
+    Ok(())
 }
 
 /// Asserts how 64 MiB of bulk strings end with these bytes after them, and which text follows their lines.
@@ -197,35 +294,54 @@ fn expect_full<R: Abort>(
     end: Ended,
     text: &[u8],
 ) -> Result<(), AllocError> {
-    let mut out = sink_of(alloc, 68_000_000, 1_000_000, NEVER)?;
-    let stream = bulks(alloc, 64, more)?;
-    let found = shown(alloc, stream.as_slice(), 65_536, NEVER, &mut out)?;
-    assert_eq!(rt; found, end);
-    let (lines, rest) = out
-        .taken()
-        .split_at_checked(67_108_352)
-        .expect(rt, "64 lines");
-    assert!(rt; lines.ends_with(b"q\"\n"));
-    assert!(rt; rest == text);
-    Ok(())
+    let mut stream = bulks(alloc, 64)?;
+    stream.extend_from_slice(more)?;
+    expect_after_bulks(rt, alloc, 64, stream.as_slice(), end, text)
 }
 
 #[test]
 fn a_stream_ends_at_its_limit(rt: HostRuntime) -> Result<(), Fail> {
+    let long = b"long at 67108864\n".as_slice();
+    let end = end_of(3, LIMIT as u64);
     expect_full(&rt, rt.alloc(), b"", end_of(0, 0), b"")?;
-    expect_full(
-        &rt,
-        rt.alloc(),
-        b"+",
-        end_of(3, LIMIT as u64),
-        b"long at 67108864\n",
-    )?;
-    expect_full(
-        &rt,
-        rt.alloc(),
-        b"x",
-        end_of(3, LIMIT as u64),
-        b"long at 67108864\n",
-    )?;
+    expect_full(&rt, rt.alloc(), b"+", end, long)?;
+    Ok(expect_full(&rt, rt.alloc(), b"x", end, long)?)
+}
+
+/// Asserts how 63 such bulk strings end with one of this length and these bytes after its content.
+fn expect_last<R: Abort>(
+    rt: &R,
+    alloc: Global,
+    length: usize,
+    after: &[u8],
+    place: u64,
+    text: &[u8],
+) -> Result<(), AllocError> {
+    let mut stream = bulks(alloc, 63)?;
+    push_bulk(alloc, &mut stream, length, after)?;
+    expect_after_bulks(rt, alloc, 63, stream.as_slice(), end_of(3, place), text)
+}
+
+#[test]
+fn the_last_byte_of_a_stream_is_wrong(rt: HostRuntime) -> Result<(), Fail> {
+    let text = b"fault NoCrLf at 67108863\n".as_slice();
+    for after in [b"\rx".as_slice(), b"\rx+"] {
+        expect_last(&rt, rt.alloc(), 1_048_564, after, 67_108_863, text)?;
+    }
+    Ok(())
+}
+
+#[test]
+fn a_value_is_cut_at_the_limit_of_its_stream(rt: HostRuntime) -> Result<(), Fail> {
+    for (after, place, text) in [
+        (
+            b"\r\n".as_slice(),
+            LIMIT as u64,
+            b"long at 67108864\n".as_slice(),
+        ),
+        (b"\r", 66_060_288, b"unfinished at 66060288\n"),
+    ] {
+        expect_last(&rt, rt.alloc(), 1_048_565, after, place, text)?;
+    }
     Ok(())
 }

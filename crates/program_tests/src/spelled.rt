@@ -10,19 +10,19 @@ pub fn spelled(alloc: Global, text: &str) -> Result<Vec<u8>, AllocError> {
         if number == 0 {
             out.extend_from_slice(part.as_bytes())?;
         } else {
-            push_escaped(&mut out, part)?;
+            push_escaped(alloc, &mut out, part)?;
         }
     }
     Ok(out)
 }
 
 /// Appends what stands after a backslash.
-fn push_escaped(out: &mut Vec<u8>, part: &str) -> Result<(), AllocError> {
+fn push_escaped(alloc: Global, out: &mut Vec<u8>, part: &str) -> Result<(), AllocError> {
     match part.split_at_checked(1) {
         Some(("n", rest)) => push_byte(out, b'\n', rest),
         Some(("r", rest)) => push_byte(out, b'\r', rest),
         Some(("x", rest)) => push_digits(out, rest),
-        Some(("(", rest)) => push_letters(out, rest),
+        Some(("(", rest)) => push_letters(alloc, out, rest),
         _ => Ok(out.extend_from_slice(b"no escape")?),
     }
 }
@@ -46,19 +46,19 @@ fn push_digits(out: &mut Vec<u8>, part: &str) -> Result<(), AllocError> {
 }
 
 /// Appends so many letters, and what stands after them.
-fn push_letters(out: &mut Vec<u8>, part: &str) -> Result<(), AllocError> {
+fn push_letters(alloc: Global, out: &mut Vec<u8>, part: &str) -> Result<(), AllocError> {
     let Some((count, letter, rest)) = letters_in(part) else {
         return Ok(out.extend_from_slice(b"no letters")?);
     };
-    for _ in 0..count {
-        out.extend_from_slice(letter.as_bytes())?;
-    }
+    let letters = vec![in alloc; letter; count]?;
+    out.extend_from_slice(letters.as_slice())?;
     Ok(out.extend_from_slice(rest.as_bytes())?)
 }
 
 /// The count, the letter and the rest of `256:q)` and a rest.
-fn letters_in(part: &str) -> Option<(u64, &str, &str)> {
+fn letters_in(part: &str) -> Option<(usize, u8, &str)> {
     let (inner, rest) = part.split_once(')')?;
     let (count, letter) = inner.split_once(':')?;
-    Some((number_in(0, 2_000_000, count)?, letter, rest))
+    let count = number_in(0, 2_000_000, count)?;
+    Some((count as usize, *letter.as_bytes().first()?, rest))
 }

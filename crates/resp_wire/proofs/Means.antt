@@ -1,22 +1,20 @@
 -- A step and the reading go together.
-use Rattle.std.proofs.Common.{◌≡◌, ℕ, ℤ, pos, negsuc, zero, suc, ◌+◌, ◌-◌, ◌<◌, ◌≤◌, List, [], ◌∷◌, ◌++◌, length, Bool, true, false, nat_le, nat_lt, nat_eq, ◌==◌, if◌then◌else◌, refl, sym, ap, subst, ◌∙◌, arith, append_assoc, append-nil}
+use Rattle.std.proofs.Common.{◌≡◌, ℕ, ℤ, pos, negsuc, zero, suc, ◌+◌, ◌-◌, ◌<◌, ◌≤◌, List, [], ◌∷◌, ◌++◌, length, Bool, true, false, nat_le, nat_lt, nat_eq, ◌==◌, if◌then◌else◌, refl, sym, ap, ◌∙◌, arith, append_assoc, append-nil}
 use Rattle.std.proofs.lemmas.Bool.Decides.{nat_tests}
 use Rattle.wire_values.specs.declared.value.Value.{Value}
 use Rattle.wire_values.specs.declared.value.Value.TheVariants.{Integer, Bulk, NullBulk, Array, NullArray}
 use Rattle.wire_grammar.specs.declared.kind.NumberKind.{NumberKind}
 use Rattle.wire_grammar.specs.declared.kind.NumberKind.TheVariants.{Whole, Length, Count}
-use Rattle.wire_grammar.specs.declared.kind.TextKind.{TextKind}
 use Rattle.wire_grammar.specs.declared.kind.TextKind.TheVariants.{Status, Error}
-use Rattle.wire_grammar.specs.declared.kind.WireKind.{WireKind}
 use Rattle.wire_grammar.specs.declared.kind.WireKind.TheVariants.{BadKind, BadInteger, NoCrLf, TooLong, TooDeep}
 use Rattle.wire_grammar.specs.Limits.{text_limit, depth_limit, limit_of}
-use Rattle.wire_grammar.specs.Reads.{Reading, Wrong, Next, is_digit, signed, grown, over_of, begins_below, wire_text_at, number_at, content_at, values_at, integer_for, bulk_for, array_for, wire_value_at}
+use Rattle.wire_grammar.specs.Reads.{Reading, Wrong, Next, is_digit, signed, grown, over_of, begins_below, wire_text_at, number_at, content_at, values_at, integer_for, bulk_for, wire_value_at}
 use Rattle.resp_wire.specs.declared.state.Open.{Open}
 use Rattle.resp_wire.specs.declared.state.Phase.{Phase}
 use Rattle.resp_wire.specs.declared.state.Phase.TheVariants.{Content, At}
 use Rattle.resp_wire.specs.declared.state.WireSpot.{WireSpot}
 use Rattle.resp_wire.specs.declared.state.WireSpot.TheVariants.{Begin, Text, TextFeed, First, Minus, Zero, Digits, Feed, Return, Line}
-use Rattle.resp_wire.specs.Steps.{WireState, Stepped, On, Done, Wrong_byte, at_spot, with_number, with_bytes, begins, settle, step, step_star, step_begin, text_value, headed}
+use Rattle.resp_wire.specs.Steps.{WireState, Stepped, On, Wrong_byte, at_spot, with_number, with_bytes, begins, settle, step, step_star, step_begin, text_value, headed}
 use Rattle.resp_wire.specs.Meanings.{left_of, room, room_within, up, headed_at, texted_at, at_spot_on, in_phase_on, wire_goes_on, stepped_on}
 use Rattle.resp_wire.specs.Moves.{ran}
 
@@ -66,10 +64,10 @@ left_none (suc d) (o ∷ os) l = left_none d os (omega (arith, l))
 starred : (n : ℕ) (b : List ℕ) (os : List Open) (p : ℕ) (cs : List ℕ) (t : Bool) → nat_lt (length os) depth_limit ≡ t
     → wire_value_at (room os) (up os) p (42 ∷ cs) ≡ stepped_on (if t then On (at_spot (begins n b os) (First Count)) else Wrong_byte TooDeep) p cs
 starred n b os p cs true e =
-    let more : room os ≡ suc (room_within os) = left_more 3 os (grind (arith, nat_tests)) in
+    let more : room os ≡ suc (room_within os) = left_more (depth_limit - 1) os (grind (arith, nat_tests)) in
     ap (λ (d : ℕ). wire_value_at d (up os) p (42 ∷ cs)) more
 starred n b os p cs false e =
-    let none : room os ≡ 0 = left_none 4 os (grind (arith, nat_tests)) in
+    let none : room os ≡ 0 = left_none depth_limit os (grind (arith, nat_tests)) in
     ap (λ (d : ℕ). wire_value_at d (up os) p (42 ∷ cs)) none
 
 head_same : (d : ℕ) (k : Next Value) (c p : ℕ) (cs : List ℕ)

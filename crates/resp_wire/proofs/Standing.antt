@@ -1,11 +1,11 @@
 -- How a decoder stands after a span.
-use Rattle.std.proofs.Common.{◌≡◌, ℕ, zero, suc, ◌+◌, ◌-◌, ◌<◌, ◌≤◌, List, [], ◌∷◌, ◌++◌, length, take, drop, Bool, true, false, refl, sym, ap, subst, ◌∙◌, arith, append_assoc, length-append, append-nil, drop_of_length-le, length-drop, length-take}
+use Rattle.std.proofs.Common.{◌≡◌, ℕ, zero, suc, ◌+◌, ◌-◌, ◌<◌, ◌≤◌, List, [], ◌∷◌, ◌++◌, length, take, drop, false, refl, sym, ap, subst, ◌∙◌, arith, append_assoc, length-append, append-nil, drop_of_length-le, length-drop}
 use Rattle.std.proofs.Math.Seq.{drop-drop}
-use Rattle.std.specs.Prelude.{Option, Some, None, Ok, Err, min}
+use Rattle.std.specs.Prelude.{Option, Some, None, Ok, Err}
 use Rattle.wire_values.specs.declared.value.Value.{Value}
 use Rattle.wire_grammar.specs.declared.kind.WireKind.{WireKind}
 use Rattle.wire_grammar.specs.declared.kind.WireKind.TheVariants.{TooLong}
-use Rattle.wire_grammar.specs.Limits.{depth_limit, value_limit}
+use Rattle.wire_grammar.specs.Limits.{value_limit}
 use Rattle.wire_grammar.specs.Spells.{Spells, IsFront}
 use Rattle.wire_grammar.specs.Reads.{Got, Front, Wrong, Next, wire_value_at, read_on, read, fault_of}
 use Rattle.wire_grammar.proofs.Limited.{take_drop, limited_got, limited_wrong, limited_long, limited_front, got_says, front_says}
@@ -19,7 +19,7 @@ use Rattle.resp_wire.specs.declared.state.WireSpot.TheVariants.{Begin, Text, Tex
 use Rattle.resp_wire.specs.declared.state.StepFault.TheVariants.{Bad}
 use Rattle.resp_wire.specs.Steps.{WireState, state}
 use Rattle.resp_wire.specs.Meanings.{room, up, at_spot_on, in_phase_on, wire_goes_on}
-use Rattle.resp_wire.specs.Stands.{held_to, Reads, HasFoundFault, StandsBy, Stands, IsFault}
+use Rattle.resp_wire.specs.Stands.{held_to, Reads, HasFoundFault, StandsBy, Stands, HasMet, IsFault}
 use Rattle.resp_wire.specs.Moves.{Advances, HasStayed, HasOnlyMarked, HasMoved, HasGivenOne, HasCleared, HasFed, HasCounted, IsSpan, ahead_of, unread_of}
 use Rattle.resp_wire.proofs.Spans.{span_length, byte_of, ahead_byte}
 
@@ -134,10 +134,11 @@ module _ (d e : Decoder) (stayed : HasStayed d e) (before : ℕ) (rest front : L
 
 -- a fault where the decoder stands
 fault_stands : (n : Decoder) (before : ℕ) (rest : List ℕ) (f : FoundFault) (q : ℕ) → n.spent ≡ false → n.fault ≡ Some f → f.place ≡ held_to q → ((cs : List ℕ) → read before (rest ++ cs) ≡ Wrong f.kind q)
-    → held_to (n.held + (length n.unread.items - n.at) + n.later) ≡ held_to (length rest) → IsFault before rest f.kind f.place × Stands n before rest
+    → held_to (n.held + (length n.unread.items - n.at) + n.later) ≡ held_to (length rest) → IsFault before rest f.kind f.place × Stands n before rest × HasMet n f.kind f.place
 fault_stands n before rest f q fresh is placed wrong later = (
   (q, ap fault_of (ap (read before) (sym (append-nil rest)) ∙ wrong []), placed),
   broken n before rest f q fresh is (record { wrong = wrong; place = placed; later = later }),
+  (fresh, is),
 )
 
 module _ (d e n : Decoder) (fresh : d.spent ≡ false) (sound : d.fault ≡ None) (stayed : HasStayed d e) where
@@ -153,14 +154,14 @@ module _ (d e n : Decoder) (fresh : d.spent ≡ false) (sound : d.fault ≡ None
       gave_here d e stayed before rest t.0 t.1 n k v (omega (arith, span.some, span.within)) short is ended (ended.spent ∙ stayed.spent ∙ fresh) (ended.fault ∙ stayed.fault ∙ sound)
 
   pub failed : (k : ℕ) (f : FoundFault) → IsSpan d k → d.held < value_limit → Advances d e k (Err (Bad f.kind)) → HasOnlyMarked e n → f.place ≡ held_to (e.start + e.held) → n.fault ≡ Some f → (before : ℕ) (rest : List ℕ) → Stands d before rest
-      → IsFault before rest f.kind f.place × Stands n before rest
+      → IsFault before rest f.kind f.place × Stands n before rest × HasMet n f.kind f.place
   failed k f span short is kept at marked before rest s =
       let t = reading d before rest sound s in
       fault_stands n before rest f (before + length t.0) (kept.spent ∙ stayed.spent ∙ fresh) marked (omega (arith, at, stayed.start, stayed.held, t.1.start, t.1.held))
       (stuck d e stayed before rest t.0 t.1 k f.kind (omega (arith, span.some, span.within)) short is) (kept_later d e stayed before rest t.0 t.1 n kept)
 
   pub failed_long : (k : ℕ) (f : FoundFault) → IsSpan d k → Advances d e k (Ok None) → HasOnlyMarked e n → f.kind ≡ TooLong → f.place ≡ held_to (e.start + value_limit) → n.fault ≡ Some f → k + d.held ≡ value_limit → (before : ℕ) (rest : List ℕ) → Stands d before rest
-      → IsFault before rest f.kind f.place × Stands n before rest
+      → IsFault before rest f.kind f.place × Stands n before rest × HasMet n f.kind f.place
   failed_long k f span on kept kind at marked full before rest s =
       let t = reading d before rest sound s in
       fault_stands n before rest f (before + value_limit) (kept.spent ∙ stayed.spent ∙ fresh) marked (omega (arith, at, stayed.start, t.1.start))
@@ -185,10 +186,10 @@ ended d n fresh sound short over cleared before rest s =
     )
 
 -- the same fault again
-pub again : (d : Decoder) (f : FoundFault) → d.fault ≡ Some f → (before : ℕ) (rest : List ℕ) → Stands d before rest → IsFault before rest f.kind f.place × Stands d before rest
+pub again : (d : Decoder) (f : FoundFault) → d.fault ≡ Some f → (before : ℕ) (rest : List ℕ) → Stands d before rest → IsFault before rest f.kind f.place × Stands d before rest × HasMet d f.kind f.place
 again d f e before rest s =
     let t : (q : ℕ) × HasFoundFault d before rest f q = subst (λ (o : Option FoundFault). StandsBy o d before rest) e s.1 in
-    ((t.0, ap fault_of (ap (read before) (sym (append-nil rest)) ∙ t.1.wrong []), t.1.place), s)
+    ((t.0, ap fault_of (ap (read before) (sym (append-nil rest)) ∙ t.1.wrong []), t.1.place), s, (s.0, e))
 
 -- a piece more
 pub fed : (d n : Decoder) (piece : List ℕ) → d.fault ≡ None → HasFed d n piece → (before : ℕ) (rest : List ℕ) → Stands d before rest → Stands n before (rest ++ piece)

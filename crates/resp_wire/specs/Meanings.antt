@@ -1,5 +1,5 @@
 -- What a state means: how the reading goes on from it. This serves the decoder alone.
-use Rattle.std.specs.Prelude.{ℕ, ℤ, zero, suc, ◌+◌, List, [], ◌∷◌, ◌++◌}
+use Rattle.std.specs.Prelude.{ℕ, ℤ, zero, suc, ◌+◌, ◌-◌, List, [], ◌∷◌, ◌++◌}
 use Rattle.wire_values.specs.declared.value.Value.{Value}
 use Rattle.wire_values.specs.declared.value.Value.TheVariants.{Bulk, Array}
 use Rattle.wire_grammar.specs.declared.kind.NumberKind.{NumberKind}
@@ -22,10 +22,10 @@ left_of (suc d) (o ∷ os) = left_of d os
 
 -- how many arrays may be opened here, and inside one more
 abbrev pub room : List Open → ℕ
-room os = left_of 4 os
+room os = left_of depth_limit os
 
 abbrev pub room_within : List Open → ℕ
-room_within os = left_of 3 os
+room_within os = left_of (depth_limit - 1) os
 
 -- what a whole value is for
 abbrev pub up : List Open → Next Value

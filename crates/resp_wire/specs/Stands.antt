@@ -1,8 +1,7 @@
 -- Where a decoder stands in its stream.
-use Rattle.std.specs.Prelude.{ℕ, suc, ◌+◌, ◌-◌, ◌^◌, ◌≤◌, ◌≡◌, List, ◌++◌, length, drop, min, Bool, true, false, Option, Some, None, Result, Ok, Err}
+use Rattle.std.specs.Prelude.{ℕ, ◌+◌, ◌-◌, ◌^◌, ◌≡◌, List, ◌++◌, length, drop, min, true, false, Option, Some, None, Result, Ok, Err}
 use Rattle.wire_values.specs.declared.value.Value.{Value}
 use Rattle.wire_grammar.specs.declared.kind.WireKind.{WireKind}
-use Rattle.wire_grammar.specs.Limits.{value_limit}
 use Rattle.wire_grammar.specs.Spells.{Spells, IsFront}
 use Rattle.wire_grammar.specs.Reads.{Wrong, read_on, read, wire_fault}
 use Rattle.resp_wire.specs.declared.decoder.Decoder.{Decoder}
@@ -38,6 +37,10 @@ StandsBy (Some f) d before rest = (q : ℕ) × HasFoundFault d before rest f q
 abbrev pub IsSpentDecoder : Decoder → Type 0
 IsSpentDecoder d = d.spent ≡ true
 
+-- it found this fault, and answers it from then on
+abbrev pub HasMet : Decoder → WireKind → ℕ → Type 0
+HasMet d kind place = (d.spent ≡ false) × (d.fault ≡ Some (record { kind = kind; place = place }))
+
 -- this many bytes of the stream were values that it gave, these bytes were fed since, and it isn't spent
 abbrev pub Stands : Decoder → ℕ → List ℕ → Type 0
 Stands d before rest = (d.spent ≡ false) × StandsBy d.fault d before rest
@@ -50,5 +53,5 @@ IsFault before rest kind place = (q : ℕ) × (wire_fault before rest ≡ Some (
 abbrev pub HasNext : ℕ → List ℕ → Decoder → Result (Option Value) WireFault → Type 0
 HasNext before rest new (Ok (Some v)) = (front : List ℕ) × (more : List ℕ) × (rest ≡ front ++ more) × Spells v front × Stands new (before + length front) more
 HasNext before rest new (Ok None) = IsFront rest × Stands new before rest
-HasNext before rest new (Err (Bad kind place)) = IsFault before rest kind place × Stands new before rest
+HasNext before rest new (Err (Bad kind place)) = IsFault before rest kind place × Stands new before rest × HasMet new kind place
 HasNext before rest new (Err Memory) = IsSpentDecoder new

@@ -1,7 +1,8 @@
 //! What a decoder answers.
-ghost use Rattle.std.specs.Prelude.{◌≡◌, ◌<◌, ◌≤◌, ◌++◌, [], ℕ, List, Err, IsErr, None, false, length, IfOk, OnOk, OnErr, OnSome};
+ghost use Rattle.std.specs.Prelude.{◌≡◌, ◌<◌, ◌≤◌, ◌++◌, [], ℕ, List, Err, IsErr, IsOk, None, false, length, IfOk, OnOk, OnErr, OnSome};
+ghost use Rattle.wire_grammar.specs.declared.kind.WireKind.{WireKind as TheKind};
 ghost use Rattle.resp_wire.specs.declared.decoder.WireFault.TheVariants.{Bad, Memory};
-ghost use Rattle.resp_wire.specs.Stands.{HasNext, IsSpentDecoder, Stands, held_to};
+ghost use Rattle.resp_wire.specs.Stands.{HasMet, HasNext, IsSpentDecoder, Stands, held_to};
 ghost use Rattle.resp_wire.specs.Moves.{HasCleared, HasCounted, HasFed, ahead_of, unread_of};
 
 use crate::decoder::{Decoder, FoundFault, WireFault};
@@ -36,11 +37,13 @@ impl Decoder {
         }
     }
 
-    /// Takes the next piece of the stream. Without memory the decoder is spent.
+    /// Takes the next piece of the stream. Without memory the decoder is spent. After a fault it is counted, and takes
+    /// no memory.
     pub fn feed(&mut self, alloc: Global, piece: &[u8]) -> Result<(), AllocError>
         ensures ok { OnOk result ((before : ℕ) (rest : List ℕ) → Stands self.old before rest → Stands self.new before (rest ++ piece.now)) }
         ensures err { OnErr result (IsSpentDecoder self.new) }
         ensures spent { IsSpentDecoder self.old → IsErr result }
+        ensures again { (kind : TheKind) (place : ℕ) → HasMet self.old kind place → IsOk result × HasMet self.new kind place }
     {
         if self.spent {
             return Err(AllocError);
@@ -95,12 +98,13 @@ impl Decoder {
 
     /// The next value of the stream; none where what was fed since the last one is a front of a value.
     ///
-    /// Where it is neither, the answer is the fault, at this call and at each later one. Without memory the
-    /// decoder is spent: each later call answers that again.
+    /// Where it is neither, the answer is the fault, at this call and at each later one, which take no memory. Without
+    /// memory the decoder is spent: each later call answers that again.
     pub fn next(&mut self, alloc: Global) -> Result<Option<Value>, WireFault>
         ensures less { IfOk result (λ value. OnSome value (unread_of self.new < unread_of self.old)) }
         ensures next { (before : ℕ) (rest : List ℕ) → Stands self.old before rest → HasNext before rest self.new result }
         ensures spent { IsSpentDecoder self.old → (result ≡ Err Memory) × IsSpentDecoder self.new }
+        ensures again { (kind : TheKind) (place : ℕ) → HasMet self.old kind place → (result ≡ Err (Bad kind place)) × HasMet self.new kind place }
     {
         if self.spent {
             return Err(WireFault::Memory);

@@ -6,8 +6,8 @@ use Rattle.links.specs.Causes.{AppendsFront, Rose}
 use Rattle.links.specs.Ends.{HasReadUpTo, IsWholeInput}
 use Rattle.links.specs.Views.{SinkView, SourceView}
 use Rattle.top_call.proofs.Statuses.{consumed_all, consumed_front}
-use Rattle.top_call.specs.Endings.{HasTold, IsTold, TellsShown, Took, Written, ended_of, telling, text_of, told_text}
-use Rattle.top_call.specs.Showings.{IsAllShown, IsByteWrong, IsEndWithin, IsMemoryCut, IsPastShowing, IsReadCut, IsShowing, IsWriteCut}
+use Rattle.top_call.specs.Endings.{HasTold, IsTold, IsToldFor, TellsShown, Took, Written, ended_of, telling, text_of}
+use Rattle.top_call.specs.Showings.{IsAllShown, IsByteWrong, IsCutAfter, IsEndWithin, IsMemoryCut, IsPastShowing, IsReadCut, IsShowing, IsWriteCut}
 use Rattle.top_call.specs.declared.ending.End.TheVariants.{BadByte, LongStream, Memory, ReadFault, Shown as ShownEnd, Unfinished}
 use Rattle.top_call.specs.declared.ending.End.{End}
 use Rattle.top_call.specs.declared.ending.Ended.{Ended}
@@ -35,15 +35,6 @@ told_of Long = LongStream
 told_of show.ReadFault = ReadFault
 told_of show.Memory = Memory
 told_of WriteFault = ShownEnd
-
-text_told : (end : ShowEnd) → text_of (told_of end) ≡ told_text (telling end)
-text_told Whole = refl
-text_told (Bad kind place) = refl
-text_told (show.Unfinished place) = refl
-text_told Long = refl
-text_told show.ReadFault = refl
-text_told show.Memory = refl
-text_told WriteFault = refl
 
 abbrev told_or : Option End → End
 told_or None = Memory
@@ -77,8 +68,18 @@ data Way (b n : SourceView) (o x : SinkView) (r : Ended) : Type 0 where
       → r ≡ ended_of (told_of end) → Appends o.taken x.taken (value_lines vs ++ text_of (told_of end)) → x.faults ≡ o.faults → Way b n o x r
   Starved : (bytes : List ℕ) (vs : List Value) (end : ShowEnd) → HasReadFor end b n bytes → EndsShown bytes vs end → (end ≡ show.ReadFault → ⊥)
       → r ≡ ended_of Memory → Appends o.taken x.taken (value_lines vs ++ text_of Memory) → x.faults ≡ o.faults → Way b n o x r
-  Cut : (bytes : List ℕ) (vs : List Value) (read : ShowEnd) (end : ShowEnd) → HasReadFor read b n bytes → EndsShown bytes vs end → r ≡ record { status = 5; place = 0; left = 0 }
-      → AppendsFront o.taken x.taken (value_lines vs ++ text_of (told_of end)) → o.faults ≤ x.faults → Rose o.faults x.faults → Way b n o x r
+  Cut : (bytes : List ℕ) (vs : List Value) (end : ShowEnd) → HasReadFor end b n bytes → EndsShown bytes vs end → r ≡ record { status = 5; place = 0; left = 0 }
+      → IsCutAfter o x vs (telling end) → o.faults ≤ x.faults → Rose o.faults x.faults → Way b n o x r
+
+-- the sink failed within the text that was told
+cut_told : (o x : SinkView) (vs : List Value) (end : ShowEnd) (told : End) → (end ≡ WriteFault → ⊥) → IsToldFor (told_of end) told → AppendsFront o.taken x.taken (value_lines vs ++ text_of told) → IsCutAfter o x vs (telling end)
+cut_told o x vs Whole told other which front = (told, which, front)
+cut_told o x vs (Bad kind place) told other which front = (told, which, front)
+cut_told o x vs (show.Unfinished place) told other which front = (told, which, front)
+cut_told o x vs Long told other which front = (told, which, front)
+cut_told o x vs show.ReadFault told other which front = (told, which, front)
+cut_told o x vs show.Memory told other which front = (told, which, front)
+cut_told o x vs WriteFault told other which front = absurd (other refl)
 
 module _ (b n : SourceView) (o m x : SinkView) (r : Ended) (bytes lines : List ℕ) (vs : List Value) (are : lines ≡ value_lines vs) (wrote : IsWritten o m lines) where
   tells_way : (end : ShowEnd) → HasReadFor end b n bytes → EndsShown bytes vs end → (end ≡ WriteFault → ⊥) → IsTold (told_of end) m x r → Way b n o x r
@@ -90,14 +91,10 @@ module _ (b n : SourceView) (o m x : SinkView) (r : Ended) (bytes lines : List �
       let w = written_more o m x lines (text_of written) wrote text kept in
       Starved bytes vs end read ends (λ e. calm (ap told_of e)) (is ∙ ap ended_of same)
       (subst (λ (e : End). Appends o.taken x.taken (value_lines vs ++ text_of e)) same (subst (λ (l : List ℕ). Appends o.taken x.taken (l ++ text_of written)) are w.0)) w.1
-  tells_way end read ends other (written, inl same, inr (is, front, later, rose)) =
+  tells_way end read ends other (written, which, inr (is, front, later, rose)) =
       let w = cut_more o m x lines (text_of written) wrote (front, later, rose) in
-      Cut bytes vs end end read ends is
-      (subst (λ (e : End). AppendsFront o.taken x.taken (value_lines vs ++ text_of e)) same (subst (λ (l : List ℕ). AppendsFront o.taken x.taken (l ++ text_of written)) are w.0)) w.1 w.2
-  tells_way end read ends other (written, inr (same, calm), inr (is, front, later, rose)) =
-      let w = cut_more o m x lines (text_of written) wrote (front, later, rose) in
-      Cut bytes vs end show.Memory read (ends_begun bytes vs end ends) is
-      (subst (λ (e : End). AppendsFront o.taken x.taken (value_lines vs ++ text_of e)) same (subst (λ (l : List ℕ). AppendsFront o.taken x.taken (l ++ text_of written)) are w.0)) w.1 w.2
+      Cut bytes vs end read ends is
+      (cut_told o x vs end written other which (subst (λ (l : List ℕ). AppendsFront o.taken x.taken (l ++ text_of written)) are w.0)) w.1 w.2
 
 module _ (b n : SourceView) (o x : SinkView) (r : Ended) where
   -- what was read
@@ -128,8 +125,8 @@ module _ (b n : SourceView) (o x : SinkView) (r : Ended) where
   way_of (show.ReadFault, m, (bytes, lines, read, (vs, ends, are), wrote), tells) = tells_way b n o m x r bytes lines vs are wrote show.ReadFault read ends (λ e. cc) tells
   way_of (show.Memory, m, (bytes, lines, read, (vs, ends, are), wrote), tells) = tells_way b n o m x r bytes lines vs are wrote show.Memory read ends (λ e. cc) tells
   way_of (WriteFault, m, (bytes, lines, read, (vs, ends, are), cut), (is, same)) =
-      let front : AppendsFront o.taken m.taken (value_lines vs ++ []) = subst (AppendsFront o.taken m.taken) (are ∙ sym (append-nil (value_lines vs))) cut.0 in
-      Cut bytes vs WriteFault WriteFault read ends is (subst (λ (y : SinkView). AppendsFront o.taken y.taken (value_lines vs ++ [])) (sym same) front)
+      let front : AppendsFront o.taken m.taken (value_lines vs) = subst (AppendsFront o.taken m.taken) are cut.0 in
+      Cut bytes vs WriteFault read ends is (subst (λ (y : SinkView). AppendsFront o.taken y.taken (value_lines vs)) (sym same) front)
       (subst (λ (y : SinkView). o.faults ≤ y.faults) (sym same) cut.1) (subst (λ (y : SinkView). Rose o.faults y.faults) (sym same) cut.2)
 
   whole : Way b n o x r → r.status ≡ 0 → IsAllShown b n o x
@@ -144,7 +141,7 @@ module _ (b n : SourceView) (o x : SinkView) (r : Ended) where
       by show.ReadFault read ends other nought text = absurd (omega (arith, nought))
       by show.Memory read ends other nought text = absurd (omega (arith, nought))
   whole (Starved bytes vs end read ends calm is text kept) nought = let eleven = sym (ap (λ v. v.status) is) ∙ nought in absurd (omega (arith, eleven))
-  whole (Cut bytes vs read end source ends is front later rose) nought = let five = sym (ap (λ v. v.status) is) ∙ nought in absurd (omega (arith, five))
+  whole (Cut bytes vs end read ends is front later rose) nought = let five = sym (ap (λ v. v.status) is) ∙ nought in absurd (omega (arith, five))
 
   wrong : Way b n o x r → r.status ≡ 3 → IsByteWrong b n o x r.place ⊎ (IsEndWithin b n o x r.place ⊎ IsPastShowing b n o x r.place)
   wrong (Told bytes vs end read ends other is text kept) three = by end read ends other (sym (ap (λ v. v.status) is) ∙ three) (ap (λ v. v.place) is) text
@@ -159,7 +156,7 @@ module _ (b n : SourceView) (o x : SinkView) (r : Ended) where
       by show.ReadFault read ends other three at text = absurd (omega (arith, three))
       by show.Memory read ends other three at text = absurd (omega (arith, three))
   wrong (Starved bytes vs end read ends calm is text kept) three = let eleven = sym (ap (λ v. v.status) is) ∙ three in absurd (omega (arith, eleven))
-  wrong (Cut bytes vs read end source ends is front later rose) three = let five = sym (ap (λ v. v.status) is) ∙ three in absurd (omega (arith, five))
+  wrong (Cut bytes vs end read ends is front later rose) three = let five = sym (ap (λ v. v.status) is) ∙ three in absurd (omega (arith, five))
 
   read_cut : Way b n o x r → r.status ≡ 4 → IsReadCut b n o x
   read_cut (Told bytes vs end read ends other is text kept) four = by end read ends other (sym (ap (λ v. v.status) is) ∙ four) text
@@ -173,7 +170,7 @@ module _ (b n : SourceView) (o x : SinkView) (r : Ended) where
       by show.ReadFault read ends other four text = (read.1, read.2, (bytes, vs, read.0, ends.1, text))
       by show.Memory read ends other four text = absurd (omega (arith, four))
   read_cut (Starved bytes vs end read ends calm is text kept) four = let eleven = sym (ap (λ v. v.status) is) ∙ four in absurd (omega (arith, eleven))
-  read_cut (Cut bytes vs read end source ends is front later rose) four = let five = sym (ap (λ v. v.status) is) ∙ four in absurd (omega (arith, five))
+  read_cut (Cut bytes vs end read ends is front later rose) four = let five = sym (ap (λ v. v.status) is) ∙ four in absurd (omega (arith, five))
 
   write_cut : Way b n o x r → r.status ≡ 5 → IsWriteCut b n o x
   write_cut (Told bytes vs end read ends other is text kept) five = by end (sym (ap (λ v. v.status) is) ∙ five)
@@ -187,8 +184,7 @@ module _ (b n : SourceView) (o x : SinkView) (r : Ended) where
       by show.ReadFault five = absurd (omega (arith, five))
       by show.Memory five = absurd (omega (arith, five))
   write_cut (Starved bytes vs end read ends calm is text kept) five = let eleven = sym (ap (λ v. v.status) is) ∙ five in absurd (omega (arith, eleven))
-  write_cut (Cut bytes vs read end source ends is front later rose) five =
-      (later, rose, (bytes, vs, end, consumed_for bytes read source, ends, subst (λ (t : List ℕ). AppendsFront o.taken x.taken (value_lines vs ++ t)) (text_told end) front))
+  write_cut (Cut bytes vs end read ends is front later rose) five = (later, rose, (bytes, vs, end, read, ends, front))
 
   memory_cut : Way b n o x r → r.status ≡ 11 → IsMemoryCut b n o x
   memory_cut (Told bytes vs end read ends other is text kept) eleven = by end read ends (sym (ap (λ v. v.status) is) ∙ eleven) text
@@ -203,7 +199,7 @@ module _ (b n : SourceView) (o x : SinkView) (r : Ended) where
       by show.Memory read ends eleven text = (read.1, (bytes, vs, read.0.consumed, ends, text))
   memory_cut (Starved bytes vs end read ends calm is text kept) eleven =
       (calm_for bytes end read calm, (bytes, vs, consumed_for bytes end read, ends_begun bytes vs end ends, text))
-  memory_cut (Cut bytes vs read end source ends is front later rose) eleven = let five = sym (ap (λ v. v.status) is) ∙ eleven in absurd (omega (arith, five))
+  memory_cut (Cut bytes vs end read ends is front later rose) eleven = let five = sym (ap (λ v. v.status) is) ∙ eleven in absurd (omega (arith, five))
 
   among : Way b n o x r → Contains (0 ∷ 3 ∷ 4 ∷ 5 ∷ 11 ∷ []) r.status
   among (Told bytes vs end read ends other is text kept) = by end (ap (λ v. v.status) is)
@@ -217,7 +213,7 @@ module _ (b n : SourceView) (o x : SinkView) (r : Ended) where
       by show.ReadFault is = rw is (2, lit< tt, refl)
       by show.Memory is = rw is (4, lit< tt, refl)
   among (Starved bytes vs end read ends calm is text kept) = let eleven = ap (λ v. v.status) is in rw eleven (4, lit< tt, refl)
-  among (Cut bytes vs read end source ends is front later rose) = let five = ap (λ v. v.status) is in rw five (3, lit< tt, refl)
+  among (Cut bytes vs end read ends is front later rose) = let five = ap (λ v. v.status) is in rw five (3, lit< tt, refl)
 
   complete : Way b n o x r → (stream : List ℕ) (ws : List Value) → b.left ≡ Some stream → IsWholeStream stream ws → ¬ (Rose b.faults n.faults) → ¬ (Rose o.faults x.faults) → Contains (0 ∷ 11 ∷ []) r.status
   complete (Told bytes vs end read ends other is text kept) stream ws told good calm_source calm_sink = by end read ends other (ap (λ v. v.status) is)
@@ -237,7 +233,7 @@ module _ (b n : SourceView) (o x : SinkView) (r : Ended) where
       by show.ReadFault read ends other is = absurd (calm_source read.2)
       by show.Memory read ends other is = rw is (1, lit< tt, refl)
   complete (Starved bytes vs end read ends calm is text kept) stream ws told good calm_source calm_sink = let eleven = ap (λ v. v.status) is in rw eleven (1, lit< tt, refl)
-  complete (Cut bytes vs read end source ends is front later rose) stream ws told good calm_source calm_sink = absurd (calm_sink rose)
+  complete (Cut bytes vs end read ends is front later rose) stream ws told good calm_source calm_sink = absurd (calm_sink rose)
 
   pub showing_of : HasTold b n o x r → IsShowing b n o x r
   showing_of told = let way = way_of told in record {
@@ -265,7 +261,7 @@ module _ (b n : SourceView) (o x : SinkView) (r : Ended) where
   later_by : Way b n o x r → o.faults ≤ x.faults
   later_by (Told bytes vs end read ends other is text kept) = omega (arith, kept)
   later_by (Starved bytes vs end read ends calm is text kept) = omega (arith, kept)
-  later_by (Cut bytes vs read end source ends is front later rose) = later
+  later_by (Cut bytes vs end read ends is front later rose) = later
 
   pub told_later : HasTold b n o x r → o.faults ≤ x.faults
   told_later told = later_by (way_of told)
@@ -302,8 +298,8 @@ module _ (b n : SourceView) (o x : SinkView) (r : Ended) where
       by show.Memory is (inr c) = omega (arith, is, c)
   told_other (Starved bytes vs end read ends calm is text kept) (inl c) = omega (arith, ap (λ v. v.status) is, c)
   told_other (Starved bytes vs end read ends calm is text kept) (inr c) = omega (arith, ap (λ v. v.status) is, c)
-  told_other (Cut bytes vs read end source ends is front later rose) (inl c) = omega (arith, ap (λ v. v.status) is, c)
-  told_other (Cut bytes vs read end source ends is front later rose) (inr c) = omega (arith, ap (λ v. v.status) is, c)
+  told_other (Cut bytes vs end read ends is front later rose) (inl c) = omega (arith, ap (λ v. v.status) is, c)
+  told_other (Cut bytes vs end read ends is front later rose) (inr c) = omega (arith, ap (λ v. v.status) is, c)
 
   pub told_bad_word : HasTold b n o x r → r.status ≡ 2 → ⊥
   told_bad_word told two = told_other (way_of told) (inl two)

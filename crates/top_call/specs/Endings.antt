@@ -106,11 +106,6 @@ telling show.ReadFault = Some ReadFault
 telling show.Memory = Some Memory
 telling WriteFault = None
 
--- its text, none where nothing is told
-abbrev pub told_text : Option End → List ℕ
-told_text None = []
-told_text (Some end) = text_of end
-
 -- this was told, where anything is to be told
 abbrev pub IsToldIf : Option End → SinkView → SinkView → Ended → Type 0
 IsToldIf None old new result = (result ≡ record { status = 5; place = 0; left = 0 }) × (new ≡ old)

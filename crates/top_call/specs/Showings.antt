@@ -1,14 +1,15 @@
 -- What each status of a run of `show` says by itself.
 use Rattle.std.specs.Io.KnownBytes.{Appends, Consumes}
-use Rattle.std.specs.Prelude.{Contains, List, Some, [], ℕ, ◌++◌, ◌∷◌, ◌≡◌, ◌≤◌, ◌⊎◌}
+use Rattle.std.specs.Prelude.{Contains, List, None, Option, Some, [], ℕ, ◌++◌, ◌∷◌, ◌≡◌, ◌≤◌, ◌⊎◌}
 use Rattle.links.specs.Causes.{AppendsFront, Rose}
 use Rattle.links.specs.Ends.{HasReadUpTo, IsPast, IsWholeInput}
 use Rattle.links.specs.Views.{SinkView, SourceView}
-use Rattle.top_call.specs.Endings.{telling, text_of, told_text}
+use Rattle.top_call.specs.Endings.{IsToldFor, telling, text_of}
 use Rattle.top_call.specs.declared.ending.End.TheVariants.{BadByte, LongStream, Memory, ReadFault, Unfinished}
+use Rattle.top_call.specs.declared.ending.End.{End}
 use Rattle.top_call.specs.declared.ending.Ended.{Ended}
 use Rattle.wire_grammar.specs.declared.kind.WireKind.{WireKind}
-use Rattle.wire_show.specs.Shows.{EndsShown, IsBadStream, IsBegunStream, IsGoingOn, IsLongStream, IsReadSoFar, IsUnfinishedStream, IsWholeStream, input_limit, value_lines}
+use Rattle.wire_show.specs.Shows.{EndsShown, HasReadFor, IsBadStream, IsBegunStream, IsGoingOn, IsLongStream, IsReadSoFar, IsUnfinishedStream, IsWholeStream, input_limit, value_lines}
 use Rattle.wire_show.specs.declared.ending.ShowEnd.{ShowEnd}
 use Rattle.wire_values.specs.declared.value.Value.{Value}
 
@@ -41,10 +42,16 @@ abbrev pub IsReadCut : SourceView → SourceView → SinkView → SinkView → T
 IsReadCut before now old new = (before.faults ≤ now.faults) × Rose before.faults now.faults × ((bytes : List ℕ) × (vs : List Value)
     × HasReadUpTo input_limit before now bytes × IsGoingOn bytes vs × WritesLines old new vs (text_of ReadFault))
 
--- status 5: the sink's count rose, within the lines of values that begin what was read, or within the text after them
+-- the sink failed within these lines, or within the text that was told of this ending after them
+abbrev pub IsCutAfter : SinkView → SinkView → List Value → Option End → Type 0
+IsCutAfter old new vs None = AppendsFront old.taken new.taken (value_lines vs)
+IsCutAfter old new vs (Some end) = (told : End) × IsToldFor end told × AppendsFront old.taken new.taken (value_lines vs ++ text_of told)
+
+-- status 5: the sink's count rose, within the lines of the values that are shown of what was read, or within the text of
+-- how that ends
 abbrev pub IsWriteCut : SourceView → SourceView → SinkView → SinkView → Type 0
 IsWriteCut before now old new = (old.faults ≤ new.faults) × Rose old.faults new.faults × ((bytes : List ℕ) × (vs : List Value) × (end : ShowEnd)
-    × Consumes before.left now.left bytes × EndsShown bytes vs end × AppendsFront old.taken new.taken (value_lines vs ++ told_text (telling end)))
+    × HasReadFor end before now bytes × EndsShown bytes vs end × IsCutAfter old new vs (telling end))
 
 -- status 11: the source didn't fail; the lines of values that begin what was read were written, and then its text
 abbrev pub IsMemoryCut : SourceView → SourceView → SinkView → SinkView → Type 0

@@ -3,11 +3,11 @@ ghost use Rattle.std.specs.Prelude.{IfOk, ◌≡◌};
 ghost use Rattle.std.specs.Process.{exit_status};
 ghost use Rattle.top_call.specs.Endings.{ended_of, text_of};
 
-use line_text::BadLine;
+use line_text::{BadLine, INPUT_LIMIT};
 use std::alloc::{AllocError, Global};
 use std::process::ExitCode;
 use wire_grammar::WireKind;
-use wire_show::{SHOW_LIMIT, kind_name};
+use wire_show::kind_name;
 use wire_values::Bytes;
 
 /// What a top call answers.
@@ -67,7 +67,7 @@ impl End {
             End::BadLine(bad) => (3, bad.line),
             End::BadByte { place, .. } => (3, *place),
             End::Unfinished(place) => (3, *place),
-            End::LongStream => (3, SHOW_LIMIT as u64),
+            End::LongStream => (3, INPUT_LIMIT as u64),
             End::ReadFault => (4, 0),
             End::Full { .. } => (9, 0),
             End::Memory => (11, 0),

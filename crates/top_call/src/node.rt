@@ -21,15 +21,15 @@ use wire_show::{ShowEnd, show};
 ///
 /// The words are exactly `replay` or `show`. `replay` reads a schedule of at most 64 MiB and writes the report of the
 /// history that the schedule determines. Nothing is written before the whole result is known, and then one text alone.
-/// `show` reads RESP2 values of at most 64 MiB, and writes each on a line as soon as it is whole; the text of its status
-/// follows these lines.
+/// `show` reads a stream of RESP2 values, of at most 64 MiB, and writes each on a line as soon as it is whole; the text of
+/// its status follows these lines.
 ///
 /// | Status | Comes where | Text |
 /// |---|---|---|
 /// | 0 | the input was read to its end, and each line is good; `show`: and is whole values | the report; `show`: no more than the lines |
 /// | 2 | a word is bad; `place` is the first one, counted from 0 | `bad word <place>` |
 /// | 3 | a line is bad; `place` is the first one, counted from 1 | `bad line <place>: <reason>` |
-/// | 3 | `show`: the byte at `place` is wrong | `fault <kind> at <place>` |
+/// | 3 | `show`: the byte at `place` is wrong, or a value passes its limit there | `fault <kind> at <place>` |
 /// | 3 | `show`: the input ends within the value that begins at `place` | `unfinished at <place>` |
 /// | 3 | `show`: there is a byte past 64 MiB, which is `place`, and none before it is wrong | `long at 67108864` |
 /// | 4 | the source failed | `read fault` |

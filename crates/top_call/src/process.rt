@@ -1,7 +1,7 @@
 //! A process' run: its words, its streams and its status.
-ghost use Rattle.std.specs.Prelude.{List, ℕ, ◌⊎◌};
+ghost use Rattle.std.specs.Prelude.{List, ℕ, ◌≡◌, ◌⊎◌};
 ghost use Rattle.links.specs.Views.{sink_view, source_view};
-ghost use Rattle.top_call.specs.Endings.{HasEnded, Written};
+ghost use Rattle.top_call.specs.Endings.{HasEnded, Took, Written};
 ghost use Rattle.top_call.specs.declared.ending.End.TheVariants.{Memory};
 
 use crate::ending::Ended;
@@ -14,13 +14,15 @@ use std::io::Eprint;
 use std::process::{ExitCode, Termination};
 
 /// Runs the program that the words of the process name, over a source and a sink. Where there is no memory for the
-/// words, the text is `out of memory`, and the status 11.
+/// words, nothing is read, the text is `out of memory`, and the status 11.
 pub fn answer<R: Env, S: Source, K: Sink>(rt: &R, alloc: Global, src: &mut S, out: &mut K) -> Ended
     // No contract says which words the system hands over.
-    ensures { ((words : List (List ℕ)) × HasEnded words
+    ensures ended { ((words : List (List ℕ)) × HasEnded words
         (source_view S.left S.read_faults S.ends src.old) (source_view S.left S.read_faults S.ends src.new)
         (sink_view K.taken K.write_faults out.old) (sink_view K.taken K.write_faults out.new) result)
-        ⊎ Written (sink_view K.taken K.write_faults out.old) (sink_view K.taken K.write_faults out.new) Memory result }
+        ⊎ ((source_view S.left S.read_faults S.ends src.new ≡ source_view S.left S.read_faults S.ends src.old)
+        × Written (sink_view K.taken K.write_faults out.old) (sink_view K.taken K.write_faults out.new) Memory result) }
+    ensures took { Took (source_view S.left S.read_faults S.ends src.old) (source_view S.left S.read_faults S.ends src.new) }
 {
     let Ok(texts) = read_words(rt, alloc) else {
         return out_of_memory(out);

@@ -1,8 +1,10 @@
-//! Tests of the small pieces: values, links, lines and envelopes, each by rows of what is given and what comes of it.
+//! Tests of the small pieces: values, decoders, links, lines and envelopes, each by rows of what is given and what comes of it.
 #![tactic(auto)]
 
 #[cfg(test)]
 mod compared;
+#[cfg(test)]
+mod decoders;
 #[cfg(test)]
 mod envelopes;
 #[cfg(test)]

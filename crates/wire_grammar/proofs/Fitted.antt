@@ -13,7 +13,7 @@ use Rattle.wire_values.specs.declared.value.Value.{Value, out-Value, out-roll-Va
 use Rattle.wire_values.specs.declared.value.Value.TheVariants.{Status, Error, Integer, Bulk, NullBulk, Array, rolls-Array, rolls-Bulk}
 use Rattle.wire_values.specs.declared.value.Value.TheOpen.{Value-F}
 use Rattle.wire_grammar.specs.declared.kind.NumberKind.TheVariants.{Length, Count}
-use Rattle.wire_grammar.specs.Limits.{text_limit, value_limit, limit_of, is_end}
+use Rattle.wire_grammar.specs.Limits.{text_limit, depth_limit, value_limit, limit_of, is_end}
 use Rattle.wire_grammar.specs.Spells.{crlf, IsNumber, AreSpelled, IsPlain, as_status, as_error, as_integer, as_bulk, as_null_bulk, SpellsWithin}
 use Rattle.wire_grammar.specs.Texts.{spelling, number_text}
 use Rattle.wire_grammar.specs.Fits.{HasSpelling, IsShort, IsWithinLimits}
@@ -145,7 +145,7 @@ no_plain vs bytes (as_integer r) = cc (r.2)
 no_plain vs bytes (as_bulk r) = cc (r.2)
 no_plain vs bytes (as_null_bulk r) = cc (r.1)
 
-spelled_words : (words : List (List ℕ)) (bytes : List ℕ) → SpellsWithin 4 (Array (map Bulk words)) bytes → HasShortWords words
+spelled_words : (words : List (List ℕ)) (bytes : List ℕ) → SpellsWithin depth_limit (Array (map Bulk words)) bytes → HasShortWords words
 spelled_words words bytes (inl p) = absurd (no_plain (map Bulk words) bytes p)
 spelled_words words bytes (inr (inl r)) =
     let same = array_in (map Bulk words) r.0 r.3 in (

@@ -5,3 +5,4 @@ pub mod Limited
 pub mod Writings
 pub mod Fitted
 pub mod StreamLaws
+mod OneFault

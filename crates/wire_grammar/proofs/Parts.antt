@@ -15,7 +15,7 @@ use Rattle.wire_grammar.specs.Limits.{text_limit, limit_of, is_end}
 use Rattle.wire_grammar.specs.Spells.{crlf, IsWithin, IsNumber, IsText, AreSpelled}
 use Rattle.wire_grammar.specs.Reads.{Reading, Next, byte_at, feed_at, wire_text_at, is_digit, signed, grown, over_of, digits_at, zero_at, begins_below, minus_at, number_at, content_at, values_at, integer_for, bulk_for, array_for}
 use Rattle.wire_grammar.specs.Faults.{IsWrongArray, IsWrongItem, begins_digits, has, number_kind, text_kind}
-use Rattle.wire_grammar.proofs.Readers.{Never, Tells, Why, Within, IsReader, restated, restated_for, byte_tells, stuck_tells, nothing, AfterByte, after_byte, Both, in_turn, mapped, place_cons}
+use Rattle.wire_grammar.proofs.Readers.{Never, Tells, Unspelled, Why, Within, IsReader, restated, restated_for, byte_tells, stuck_tells, nothing, AfterByte, after_byte, Both, in_turn, mapped, place_cons, unspelled}
 
 -- why a byte is wrong, in each part
 abbrev pub InFeed : Why
@@ -460,8 +460,17 @@ module _ (P : Next Value → ℕ → List ℕ → Reading) (R : Value → List �
   AreMore zero acc vs b = (b ≡ []) × (vs ≡ acc)
   AreMore (suc n) acc vs b = (v : Value) × (x : List ℕ) × (y : List ℕ) × (b ≡ x ++ y) × R v x × AreMore n (acc ++ v ∷ []) vs y
 
-  first_item : (n : ℕ) (b : List ℕ) (x : ℕ) (k : WireKind) → V b x k → IsWrongItem R V (suc n) b x k
-  first_item n b x k w = record { items = []; before = []; front = b; cut = refl; spelled = refl; more = omega arith; here = w }
+  first_item : (n : ℕ) (b : List ℕ) (x : ℕ) (k : WireKind) → Unspelled R V b x k → IsWrongItem R V (suc n) b x k
+  first_item n b x k w = record {
+    items = [];
+    before = [];
+    front = b;
+    cut = refl;
+    spelled = refl;
+    more = omega arith;
+    none = λ v whole more e r. w.1 v whole more e r;
+    here = w.0;
+  }
 
   next_item : (n : ℕ) (v : Value) (front b : List ℕ) (x : ℕ) (k : WireKind) → R v front → IsWrongItem R V n b x k → IsWrongItem R V (suc n) (front ++ b) x k
   next_item n v front b x k r w = record {
@@ -471,12 +480,13 @@ module _ (P : Next Value → ℕ → List ℕ → Reading) (R : Value → List �
     cut = ap (λ l. front ++ l) w.cut ∙ sym (append_assoc front w.before w.front);
     spelled = (front, w.before, refl, r, w.spelled);
     more = omega (arith, w.more);
+    none = λ u whole more e s. w.none u whole more e s;
     here = w.here;
   }
 
   more_values : (n : ℕ) (acc : List Value) → IsReader (values_at P n acc) (AreMore n acc) (IsWrongItem R V n)
   more_values zero acc = nothing acc
-  more_values (suc n) acc = in_turn P R (λ v. values_at P n (acc ++ v ∷ [])) (λ v. AreMore n (acc ++ v ∷ [])) V (λ v. IsWrongItem R V n) (IsWrongItem R V (suc n)) g (λ v. more_values n (acc ++ v ∷ []))
+  more_values (suc n) acc = in_turn P R (λ v. values_at P n (acc ++ v ∷ [])) (λ v. AreMore n (acc ++ v ∷ [])) (Unspelled R V) (λ v. IsWrongItem R V n) (IsWrongItem R V (suc n)) (unspelled P R V g) (λ v. more_values n (acc ++ v ∷ []))
       (first_item n) (λ v front b x k r w. next_item n v front b x k r w)
 
   are_more : (n : ℕ) (acc vs : List Value) (b : List ℕ) → AreMore n acc vs b → (xs : List Value) × (length xs ≡ n) × (vs ≡ acc ++ xs) × AreSpelled R xs b
@@ -523,11 +533,11 @@ has_by : (p q r : Bool) → (p || q) ≡ true → (q ≡ true → r ≡ true) �
 has_by true q r e on = refl
 has_by false q r e on = on e
 
-has_append : (c : ℕ) (a b : List ℕ) → has c a ≡ true → has c (a ++ b) ≡ true
+pub has_append : (c : ℕ) (a b : List ℕ) → has c a ≡ true → has c (a ++ b) ≡ true
 has_append c [] b e = absurd (cc)
 has_append c (x ∷ xs) b e = has_by (x == c) (has c xs) (has c (xs ++ b)) e (has_append c xs b)
 
-or_true : (p q : Bool) → q ≡ true → (p || q) ≡ true
+pub or_true : (p q : Bool) → q ≡ true → (p || q) ≡ true
 or_true true q e = refl
 or_true false q e = e
 

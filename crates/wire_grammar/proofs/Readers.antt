@@ -141,6 +141,34 @@ module _ {A C : Type 0} (P : Next A → ℕ → List ℕ → Reading) (R : A →
 abbrev pub Never : Why
 Never b x k = ⊥
 
+-- the reason, where nothing is spelled at the front of what stands before the byte
+abbrev pub Unspelled : {A : Type 0} → (A → List ℕ → Type 0) → Why → Why
+Unspelled {A} R W b x k = W b x k × ((a : A) (u y : List ℕ) → b ≡ u ++ y → R a u → ⊥)
+
+front_wrong : (kind : WireKind) (p : ℕ) → Front ≡ Wrong kind p → ⊥
+front_wrong kind p e = cc
+
+-- a reader that is stuck has read nothing before
+module _ {A : Type 0} (P : Next A → ℕ → List ℕ → Reading) (R : A → List ℕ → Type 0) (W : Why) (g : IsReader P R W) where
+  abbrev at_once : Next A
+  at_once a p cs = Front
+
+  unspelled_tells : (b : List ℕ) → Tells P R W b → Tells P R (Unspelled R W) b
+  unspelled_tells b (AtFront a front rest e r) = AtFront a front rest e r
+  unspelled_tells b (Within f a more r) = Within f a more r
+  unspelled_tells b (AtByte front c rest kind e f a more r w) = AtByte front c rest kind e f a more r (
+    w,
+    λ v u y s t. front_wrong kind (0 + length front)
+        (sym (g.whole v u (y ++ c ∷ []) 0 at_once t) ∙ ap (P at_once 0) (sym (ap (λ l. l ++ c ∷ []) s ∙ append_assoc u y (c ∷ []))) ∙ f at_once 0 []),
+  )
+
+  pub unspelled : IsReader P R (Unspelled R W)
+  unspelled = record {
+    whole = λ a b rest p k r. g.whole a b rest p k r;
+    tells = λ b. unspelled_tells b (g.tells b);
+    some = g.some;
+  }
+
 -- what is done with what was read
 pub mapped : {A C : Type 0} {W : Why} (P : Next A → ℕ → List ℕ → Reading) (R : A → List ℕ → Type 0) (f : A → C) → IsReader P R W
     → IsReader (λ k. P (λ a. k (f a))) (λ c b. (a : A) × (c ≡ f a) × R a b) W

@@ -1,14 +1,14 @@
 -- What is read of a list, and what is spelled at its front, go together.
-use Rattle.std.proofs.Common.{◌≡◌, ℕ, ℤ, zero, suc, ◌+◌, List, [], ◌∷◌, ◌++◌, length, Bool, true, false, ◌==◌, refl, sym, ap, subst, arith, inl, inr, ◌-◌}
+use Rattle.std.proofs.Common.{◌≡◌, ℕ, ℤ, zero, suc, ◌+◌, List, [], ◌∷◌, ◌++◌, length, Bool, true, false, ◌==◌, refl, sym, ap, subst, arith, inl, inr}
 use Rattle.wire_grammar.specs.declared.kind.WireKind.{WireKind}
 use Rattle.std.specs.Prelude.{◌⊎◌}
 use Rattle.std.proofs.lemmas.Bool.Decides.{nat_tests}
 use Rattle.wire_values.specs.declared.value.Value.{Value}
-use Rattle.wire_values.specs.declared.value.Value.TheVariants.{Status, Error, Integer, NullBulk, NullArray, Bulk, Array}
+use Rattle.wire_values.specs.declared.value.Value.TheVariants.{Status, Error, Integer, NullBulk, NullArray}
 use Rattle.wire_grammar.specs.declared.kind.WireKind.TheVariants.{BadKind, TooDeep}
 use Rattle.wire_grammar.specs.declared.kind.NumberKind.TheVariants.{Whole, Length, Count}
 use Rattle.wire_grammar.specs.Limits.{depth_limit}
-use Rattle.wire_grammar.specs.Spells.{crlf, IsNumber, IsText, IsPlain, as_status, as_error, as_integer, as_bulk, as_null_bulk, SpellsWithin, IsBulk, Spells}
+use Rattle.wire_grammar.specs.Spells.{crlf, IsNumber, IsText, IsPlain, as_status, as_error, as_integer, as_bulk, as_null_bulk, SpellsWithin}
 use Rattle.wire_grammar.specs.Reads.{Reading, Got, Wrong, Next, number_at, integer_for, bulk_for, array_for, head_at, read_on, wire_text_at, wire_value_at}
 use Rattle.wire_grammar.proofs.Readers.{Tells, Within, IsReader, byte_tells, byte_whole, stuck_tells, Why}
 use Rattle.wire_grammar.proofs.Parts.{text_rest, integer_rest, bulk_rest, array_rest, IsBulkRest, IsNullRest, IsArrayRest, InBulk, InNumber, InText}

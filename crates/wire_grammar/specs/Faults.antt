@@ -1,5 +1,5 @@
 -- Where a fault stands, in the words of spellings.
-use Rattle.std.specs.Prelude.{ℕ, zero, suc, ℤ, pos, ◌+◌, ◌≤◌, ◌≡◌, ◌==◌, ◌&&◌, Bool, false, not, if◌then◌else◌, List, [], ◌∷◌, ◌++◌, length, take, Some, None, ◌⊎◌}
+use Rattle.std.specs.Prelude.{ℕ, zero, suc, pos, ◌+◌, ◌≤◌, ◌≡◌, ◌==◌, ◌&&◌, Bool, false, not, if◌then◌else◌, List, [], ◌∷◌, ◌++◌, length, take, Some, None, ◌⊎◌}
 use Rattle.std.specs.List.{list_any}
 use Rattle.wire_values.specs.declared.value.Value.{Value}
 use Rattle.wire_grammar.specs.declared.kind.WireKind.{WireKind}
@@ -43,7 +43,7 @@ pub data IsWrongPlain (b : List ℕ) (byte : ℕ) (kind : WireKind) : Type 0 whe
 abbrev pub IsWrongCount : List ℕ → ℕ → WireKind → Type 0
 IsWrongCount b byte kind = (has 10 b ≡ false) × (kind ≡ number_kind Count b byte)
 
--- after some items, and not all, there is something wrong in the next one
+-- after some whole items, and not all, the next one isn't whole and has something wrong in it
 pub record IsWrongItem (one : Value → List ℕ → Type 0) (wrong : List ℕ → ℕ → WireKind → Type 0) (n : ℕ) (b : List ℕ) (byte : ℕ) (kind : WireKind) : Type 0 where
   pub items : List Value
   pub before : List ℕ
@@ -51,6 +51,7 @@ pub record IsWrongItem (one : Value → List ℕ → Type 0) (wrong : List ℕ �
   pub cut : b ≡ before ++ front
   pub spelled : AreSpelled one items before
   pub more : suc (length items) ≤ n
+  pub none : (v : Value) (whole more : List ℕ) → front ≡ whole ++ more → one v whole → ⊥
   pub here : wrong front byte kind
 
 -- after the count of an array there is something wrong in one of its items

@@ -27,3 +27,8 @@ pub fn one_of_three()
 pub fn faults()
     ensures { (p : ℕ) (b more : List ℕ) (kind : TheKind) (q : ℕ) → wire_fault p b ≡ Some (kind, q) → IsWrongAt p b kind q × (wire_fault p (b ++ more) ≡ Some (kind, q)) }
 {}
+
+/// A fault has one place and one kind: what the words of spellings say is wrong is what is read as wrong.
+pub fn one_fault()
+    ensures { (p : ℕ) (b : List ℕ) (kind : TheKind) (q : ℕ) → IsWrongAt p b kind q → wire_fault p b ≡ Some (kind, q) }
+{}

@@ -10,4 +10,4 @@ mod laws;
 pub use kind::{
     COUNT_LIMIT, DEPTH_LIMIT, LENGTH_LIMIT, NumberKind, TEXT_LIMIT, TextKind, VALUE_LIMIT, WireKind,
 };
-pub use laws::{faults, one_of_three, one_spelling, written_is_read};
+pub use laws::{faults, one_fault, one_of_three, one_spelling, written_is_read};

@@ -2,7 +2,7 @@
 use Rattle.std.proofs.Common.{◌≡◌, ℕ, ◌+◌, ◌≤◌, List, [], ◌∷◌, ◌++◌, length, refl, sym, ap, subst, ◌∙◌, arith, append_assoc, append-nil, length-append, inl, inr}
 use Rattle.std.proofs.lemmas.Grind.{flat_map-append}
 use Rattle.resp_wire.specs.declared.decoder.Decoder.{Decoder}
-use Rattle.resp_wire.specs.Stands.{IsFault, Stands}
+use Rattle.resp_wire.specs.Stands.{HasMet, IsFault, Stands}
 use Rattle.wire_grammar.specs.declared.kind.WireKind.{WireKind}
 use Rattle.wire_grammar.specs.Spells.{IsFront, Spells}
 use Rattle.wire_grammar.specs.Reads.{Front, read, read_on}
@@ -46,7 +46,7 @@ module _ (d e : Decoder) (stream lines : List ℕ) (h : HasGivenLines d stream l
       record { given = record { values = h.values; from = h.from; rest = h.rest; leads = h.leads; stands = n.1; lines_are = h.lines_are }; front = n.0 }
 
   -- the rest has a fault
-  pub gave_fault : (kind : WireKind) (place : ℕ) → ((before : ℕ) (rest : List ℕ) → Stands d before rest → IsFault before rest kind place × Stands e before rest) → HasFaultAfter stream lines kind place
+  pub gave_fault : (kind : WireKind) (place : ℕ) → ((before : ℕ) (rest : List ℕ) → Stands d before rest → IsFault before rest kind place × Stands e before rest × HasMet e kind place) → HasFaultAfter stream lines kind place
   gave_fault kind place next = (h.values, h.from, h.rest, h.leads, (next h.from h.rest h.stands).0, h.lines_are)
 
   -- a piece was fed

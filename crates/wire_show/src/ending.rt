@@ -14,7 +14,7 @@ pub enum ShowEnd {
     Bad { kind: WireKind, place: u64 },
     /// The stream was read to its end, which lies in a value; so many bytes of the stream stand before that value.
     Unfinished { place: u64 },
-    /// The stream goes on past `SHOW_LIMIT`, and has no fault before.
+    /// The stream goes on past `line_text::INPUT_LIMIT`, and has no fault before.
     Long,
     /// The source failed.
     ReadFault,

@@ -10,4 +10,4 @@ mod reading;
 mod showing;
 
 pub use ending::{ShowEnd, kind_name};
-pub use reading::{SHOW_LIMIT, show};
+pub use reading::show;

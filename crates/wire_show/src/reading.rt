@@ -6,19 +6,17 @@ ghost use Rattle.wire_show.specs.Runs.{EndsRead, HasGivenAll, HasReadOn, HasRead
 
 use crate::ending::ShowEnd;
 use crate::showing::Showing;
+use line_text::INPUT_LIMIT;
 use links::{Sink, Source};
 use resp_wire::Decoder;
 use std::alloc::{AllocError, Global};
-
-/// The most bytes of a stream that are shown, 64 MiB.
-pub const SHOW_LIMIT: usize = 67_108_864;
 
 /// How many bytes one read asks for at most.
 const PIECE: usize = 65_536;
 
 /// Reads RESP2 values from a source to its end, and writes each on a line in value form as soon as it is whole.
 ///
-/// It ends at the first fault, at the end of the source, or one byte past `SHOW_LIMIT`. Of its own end it writes no line.
+/// It ends at the first fault, at the end of the source, or one byte past `INPUT_LIMIT`. Of its own end it writes no line.
 pub fn show<S: Source, K: Sink>(alloc: Global, src: &mut S, out: &mut K) -> ShowEnd
     ensures { HasShown
         (source_view S.left S.read_faults S.ends src.old) (source_view S.left S.read_faults S.ends src.new)
@@ -78,8 +76,8 @@ fn show_pieces<S: Source, K: Sink>(
     ensures room { length room.new ≡ length room.old }
 {
     let mut taken = 0;
-    'pieces: while taken < SHOW_LIMIT {
-        let want = (SHOW_LIMIT - taken).min(room.len());
+    'pieces: while taken < INPUT_LIMIT {
+        let want = (INPUT_LIMIT - taken).min(room.len());
         let Ok(count) = src.read(&mut room[..want]) else {
             return Some(ShowEnd::ReadFault);
         };
@@ -104,7 +102,7 @@ fn read_past<S: Source>(src: &mut S, decoder: &Decoder, room: &mut [u8]) -> Show
     match src.read(&mut room[..1]) {
         Ok(count) => {
             if count == 0 {
-                ended(decoder, SHOW_LIMIT as u64)
+                ended(decoder, INPUT_LIMIT as u64)
             } else {
                 ShowEnd::Long
             }

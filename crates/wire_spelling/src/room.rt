@@ -1,20 +1,20 @@
 //! Which values fit on the wire.
 ghost use Rattle.std.specs.Prelude.{◌≡◌, ◌≤◌, ◌↔◌, IsTrue, IfSome, Some, decimal, length, map};
 ghost use Rattle.std.specs.List.{list_any};
-ghost use Rattle.wire_grammar.specs.Limits.{is_end, value_limit};
+ghost use Rattle.wire_grammar.specs.Limits.{depth_limit, is_end, value_limit};
 ghost use Rattle.wire_grammar.specs.Fits.{HasSpelling, IsWithinLimits};
 ghost use Rattle.wire_spelling.specs.Lengths.{bulk_length, integer_length, joined, spelled_length, text_length};
 
-use wire_grammar::{COUNT_LIMIT, LENGTH_LIMIT, TEXT_LIMIT, VALUE_LIMIT};
+use wire_grammar::{COUNT_LIMIT, DEPTH_LIMIT, LENGTH_LIMIT, TEXT_LIMIT, VALUE_LIMIT};
 use wire_values::{Value, Words};
 
 /// Whether a value can be written: its texts have no end of a line in them and at most `TEXT_LIMIT` bytes, its bulk
-/// strings at most `LENGTH_LIMIT`, its arrays at most `COUNT_LIMIT` items; arrays stand inside at most three others;
+/// strings at most `LENGTH_LIMIT`, its arrays at most `COUNT_LIMIT` items; at most `DEPTH_LIMIT` arrays are open inside each other;
 /// and all of it takes at most `VALUE_LIMIT` bytes. It takes no memory.
 pub fn fits(value: &Value) -> bool
     ensures { IsTrue result ↔ HasSpelling value.now }
 {
-    spelled_length(value, 4).is_some()
+    spelled_length(value, DEPTH_LIMIT as u64).is_some()
 }
 
 /// Whether a command of these words can be written, as the array of its words as bulk strings: at most `COUNT_LIMIT`
@@ -27,7 +27,7 @@ pub fn command_fits(words: &Words) -> bool
 
 /// The length of a command's spelling, where it has one.
 fn command_length(words: &Words) -> Option<u64>
-    ensures is { result ≡ spelled_length (Value.Array (map Value.Bulk words.now)) 4 }
+    ensures is { result ≡ spelled_length (Value.Array (map Value.Bulk words.now)) depth_limit }
     ensures within { IfSome result (λ n. n ≤ value_limit) }
 {
     let count = words.as_slice().len() as u64;

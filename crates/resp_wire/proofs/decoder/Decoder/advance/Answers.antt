@@ -1,4 +1,4 @@
-use Rattle.std.proofs.Common.{◌≡◌, ℕ, List, ◌++◌, ◌+◌, ◌-◌, length, take, sym, ap, subst, ◌∙◌, arith, length-take, length-drop}
+use Rattle.std.proofs.Common.{◌≡◌, ℕ, List, ◌+◌, length, take, sym, ap, ◌∙◌, arith}
 use Rattle.resp_wire.specs.Steps.{WireState, state}
 use Rattle.resp_wire.specs.Meanings.{wire_goes_on}
 use Rattle.resp_wire.specs.Moves.{ahead_of, ran}

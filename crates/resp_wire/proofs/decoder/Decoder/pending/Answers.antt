@@ -1,4 +1,4 @@
-use Rattle.std.proofs.Common.{arith, ◌∙◌, sym}
+use Rattle.std.proofs.Common.{arith}
 use Rattle.resp_wire.proofs.Standing.{pending_is}
 use Rattle.resp_wire.proofs.decoder.Decoder.pending.Goals as goal
 

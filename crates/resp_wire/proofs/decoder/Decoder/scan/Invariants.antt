@@ -1,4 +1,4 @@
-use Rattle.std.proofs.Common.{◌≡◌, ℕ, List, length, ◌-◌, ◌≤◌, false}
+use Rattle.std.proofs.Common.{◌≡◌, ℕ, List, ◌≤◌, false}
 use Rattle.std.specs.Prelude.{None}
 use Rattle.resp_wire.specs.Moves.{unread_of}
 use Rattle.resp_wire.specs.Stands.{Stands}
