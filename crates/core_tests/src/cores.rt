@@ -4,7 +4,7 @@ use crate::talk::{is_silent, refuses, says_all};
 use envelope::{Tag, read};
 use mini_store::Store;
 use queue_keys::{QueueName, is_name};
-use routes::{PublishCore, Sent, publish_core};
+use routes::{PublishCore, PublishEnd, publish_core};
 use std::alloc::{AllocError, Global};
 use std::test::Fail;
 use unacked::{Acked, EndCore, PopCore, PopEnd, end_core, pop_core};
@@ -36,11 +36,11 @@ fn acknowledgement() -> EndCore {
     end_core(Tag::of(7, 1))
 }
 
-/// The publication of the urgent message.
-fn publication(alloc: Global) -> Result<PublishCore, Fail> {
-    let e = read(alloc, urgent_message().as_bytes())?;
-    if !e.exchange().is_empty() || !is_name(e.routing_key()) {
-        return Err(Fail::from("goes elsewhere"));
+/// The publication of a message whose routing key is the name of a queue.
+pub fn publication(alloc: Global, text: &str) -> Result<PublishCore, Fail> {
+    let e = read(alloc, text.as_bytes())?;
+    if !is_name(e.routing_key()) {
+        return Err(Fail::from("names no queue"));
     }
     Ok(publish_core(e))
 }
@@ -107,18 +107,21 @@ fn a_message_is_acknowledged_once(rt: HostRuntime) -> Result<(), Fail> {
     Ok(())
 }
 
-/// Whether a publication ended with the message in one queue.
-fn is_sent(end: Option<Sent>) -> bool {
-    matches!(end, Some(Sent { tag, queues }) if tag == Tag::of(7, 1) && queues == 1)
+/// Whether a publication ended with the message in so many queues.
+pub fn is_sent(end: Option<PublishEnd>, count: u64) -> bool {
+    match end {
+        Some(PublishEnd::Sent { tag, queues }) => tag == Tag::of(7, 1) && queues == count,
+        Some(PublishEnd::NoQueue(_)) | None => false,
+    }
 }
 
 #[test]
 fn a_message_is_published(rt: HostRuntime) -> Result<(), Fail> {
     let alloc = rt.alloc();
     let mut store = Store::new(alloc);
-    let mut core = publication(alloc)?;
+    let mut core = publication(alloc, urgent_message())?;
     assert!(rt; says_all(alloc, &mut store, &mut core, publish_rows())?);
-    assert!(rt; is_sent(core.end()) && is_silent(alloc, &mut core)?);
+    assert!(rt; is_sent(core.end(), 1) && is_silent(alloc, &mut core)?);
     Ok(())
 }
 
@@ -158,7 +161,7 @@ fn another_answer_puts_a_core_off(rt: HostRuntime) -> Result<(), Fail> {
             "an acknowledgement after {count} commands"
         );
     }
-    let mut core = publication(alloc)?;
+    let mut core = publication(alloc, urgent_message())?;
     assert!(rt; refuses(alloc, &mut core)?);
     Ok(())
 }

@@ -4,6 +4,12 @@
 #[cfg(test)]
 mod cores;
 #[cfg(test)]
+mod exchanges;
+#[cfg(test)]
+mod return_rows;
+#[cfg(test)]
+mod returned;
+#[cfg(test)]
 mod rows;
 #[cfg(test)]
 mod talk;
