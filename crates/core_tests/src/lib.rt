@@ -6,6 +6,10 @@ mod cores;
 #[cfg(test)]
 mod exchanges;
 #[cfg(test)]
+mod return_rows;
+#[cfg(test)]
+mod returned;
+#[cfg(test)]
 mod rows;
 #[cfg(test)]
 mod talk;
