@@ -34,7 +34,12 @@ pub fn answer<R: Env, S: Source, K: Sink>(rt: &R, alloc: Global, src: &mut S, ou
 }
 
 impl Termination for Ended {
-    fn report<R: Eprint>(self, _rt: &R) -> ExitCode {
+    ghost use Rattle.std.specs.Prelude.{◌≡◌};
+    ghost use Rattle.std.specs.Process.{exit_status};
+
+    fn report<R: Eprint>(self, _rt: &R) -> ExitCode
+        ensures { exit_status result ≡ self.status }
+    {
         self.exit_code()
     }
 }
