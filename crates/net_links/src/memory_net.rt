@@ -1,6 +1,6 @@
 //! A net in memory, which hands out the links that it was made with, and fails at the calls that it is told.
 ghost use Rattle.std.specs.Io.KnownBytes.{Keeps};
-ghost use Rattle.std.specs.Prelude.{All, ◌∷◌, ◌<◌, ◌≡◌, ◌≤◌, ◌+◌, ◌-◌, ◌↔◌, IfOk, IsErr, IsErrOf, IsTrue, OnErr, OnOk, Some, false, length, map, take, drop};
+ghost use Rattle.std.specs.Prelude.{All, ◌∷◌, ◌<◌, ◌≡◌, ◌≤◌, ◌+◌, ◌-◌, ◌↔◌, IfErr, IfOk, IsErr, IsErrOf, IsTrue, None, OnErr, OnOk, Some, false, length, map, slice_index_or, take, drop};
 ghost use Rattle.links.specs.Causes.{Rose};
 ghost use Rattle.links.specs.Counts.{raised};
 ghost use Rattle.net_links.specs.MemoryForms.{HandsOut, IsUnusedLink, MemoryNetView, after_closing, after_listening, after_net_failure, memory_net, net_fails, traffic_of};
@@ -73,6 +73,7 @@ impl MemoryNet {
     /// What the link sent that it closed after so many others.
     pub fn sent_by(&self, at: usize) -> &[u8]
         requires { at < length self.now.closed }
+        ensures { (slice_index_or self.now.closed at (traffic None None)).sent ≡ Some result.now }
     {
         self.links[at].sent()
     }
@@ -149,7 +150,7 @@ impl Net for MemoryNet {
         ensures closed_faults { self.new.closed_faults ≡ self.old.closed_faults }
         ensures closed { KeepsClosed (Some self.old.closed) (Some self.new.closed) }
         ensures fails { IsErr result ↔ IsTrue (net_fails self.old) }
-        ensures failed { IsErrOf result Failed → self.new ≡ after_net_failure self.old }
+        ensures failed { IfErr result (λ fault. (fault ≡ Failed) × (self.new ≡ after_net_failure self.old)) }
         ensures went { OnOk result (self.new ≡ after_listening self.old) }
     {
         if self.fails.contains(&self.calls) {
