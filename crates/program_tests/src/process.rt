@@ -78,7 +78,6 @@ fn the_words_of_a_process_name_its_program(rt: HostRuntime) -> Result<(), Fail> 
         end_of(2, 1),
         "bad word 1\n",
     )?;
-    expect_answer(&rt, alloc, &[b"repla\xff"], end_of(2, 0), "bad word 0\n")?;
     expect_answer(&rt, alloc, &[b"show"], end_of(3, 0), "fault BadKind at 0\n")?;
     expect_answer(
         &rt,
@@ -91,10 +90,40 @@ fn the_words_of_a_process_name_its_program(rt: HostRuntime) -> Result<(), Fail> 
 }
 
 #[test]
+fn a_word_that_is_no_text_is_bad_in_its_place(rt: HostRuntime) -> Result<(), Fail> {
+    let alloc = rt.alloc();
+    expect_answer(&rt, alloc, &[b"repla\xff"], end_of(2, 0), "bad word 0\n")?;
+    expect_answer(
+        &rt,
+        alloc,
+        &[b"replay", b"\xff"],
+        end_of(2, 1),
+        "bad word 1\n",
+    )?;
+    expect_answer(
+        &rt,
+        alloc,
+        &[b"show", b"\xff"],
+        end_of(2, 1),
+        "bad word 1\n",
+    )?;
+    Ok(())
+}
+
+#[test]
 fn a_word_is_read_whole_or_is_bad(rt: HostRuntime) -> Result<(), Fail> {
     let alloc = rt.alloc();
     let longest = vec![in alloc; b'r'; 65_536]?;
     let longer = vec![in alloc; b'r'; 65_537]?;
+    expect_answer(&rt, alloc, &[b"replayed"], end_of(2, 0), "bad word 0\n")?;
+    expect_answer(&rt, alloc, &[b"shown"], end_of(2, 0), "bad word 0\n")?;
+    expect_answer(
+        &rt,
+        alloc,
+        &[b"replay", longest.as_slice()],
+        end_of(2, 1),
+        "bad word 1\n",
+    )?;
     expect_answer(
         &rt,
         alloc,
