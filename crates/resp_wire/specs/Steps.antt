@@ -141,3 +141,7 @@ StepIs p new (Ok None) = p ≡ On new
 StepIs p new (Ok (Some v)) = (p ≡ Done v) × (new.phase ≡ At Begin) × (new.opens ≡ [])
 StepIs p new (Err (Bad k)) = p ≡ Wrong_byte k
 StepIs p new (Err Memory) = Unit {0}
+
+-- the code did so, and its answer is never a want of memory
+abbrev pub StepTells : Stepped → WireState → Result (Option Value) StepFault → Type 0
+StepTells p new r = StepIs p new r × (r ≡ Err Memory → ⊥)

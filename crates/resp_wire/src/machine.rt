@@ -4,7 +4,7 @@ ghost use Rattle.wire_grammar.specs.declared.kind.NumberKind.TheVariants.{Count,
 ghost use Rattle.wire_grammar.specs.Limits.{limit_of};
 ghost use Rattle.wire_grammar.specs.Reads.{begins_below, grown, over_of, signed};
 ghost use Rattle.resp_wire.specs.declared.state.WireSpot.TheVariants.{Text};
-ghost use Rattle.resp_wire.specs.Steps.{StepIs, headed, settle, state, step, step_begin, step_digit, step_digits, step_feed, step_first, step_line, step_minus, step_return, step_star, step_text, step_text_feed, step_zero, text_value, with_bytes};
+ghost use Rattle.resp_wire.specs.Steps.{StepIs, StepTells, headed, settle, state, step, step_begin, step_digit, step_digits, step_feed, step_first, step_line, step_minus, step_return, step_star, step_text, step_text_feed, step_zero, text_value, with_bytes};
 
 use crate::state::{Core, Open, Phase, StepFault, WireSpot};
 use sqlite_items::Items;
@@ -59,7 +59,7 @@ fn put(core: &mut Core, alloc: Global, value: Value) -> Result<Option<Value>, Al
 }
 
 fn begin(core: &mut Core, byte: u8) -> Result<Option<Value>, StepFault>
-    ensures { StepIs (step_begin (state core.old) byte) (state core.new) result }
+    ensures { StepTells (step_begin (state core.old) byte) (state core.new) result }
 {
     if byte == b'+' {
         begin_text(core, TextKind::Status);
@@ -88,7 +88,7 @@ fn begin_text(core: &mut Core, kind: TextKind)
 }
 
 fn begin_array(core: &mut Core) -> Result<Option<Value>, StepFault>
-    ensures { StepIs (step_star (state core.old)) (state core.new) result }
+    ensures { StepTells (step_star (state core.old)) (state core.new) result }
 {
     if core.opens.len() < DEPTH_LIMIT {
         core.phase = Phase::At(WireSpot::First(NumberKind::Count));
@@ -146,7 +146,7 @@ fn text_value(kind: TextKind, bytes: Bytes) -> Value
 }
 
 fn first(core: &mut Core, kind: NumberKind, byte: u8) -> Result<Option<Value>, StepFault>
-    ensures { StepIs (step_first kind (state core.old) byte) (state core.new) result }
+    ensures { StepTells (step_first kind (state core.old) byte) (state core.new) result }
 {
     if byte == b'0' {
         core.number = 0;
@@ -165,7 +165,7 @@ fn first(core: &mut Core, kind: NumberKind, byte: u8) -> Result<Option<Value>, S
 }
 
 fn minus(core: &mut Core, kind: NumberKind, byte: u8) -> Result<Option<Value>, StepFault>
-    ensures { StepIs (step_minus kind (state core.old) byte) (state core.new) result }
+    ensures { StepTells (step_minus kind (state core.old) byte) (state core.new) result }
 {
     if b'1' <= byte && byte <= b'9' && u64::from(byte - b'1') <= limit(kind, true) {
         core.number = u64::from(byte - b'1');
@@ -177,7 +177,7 @@ fn minus(core: &mut Core, kind: NumberKind, byte: u8) -> Result<Option<Value>, S
 }
 
 fn zero(core: &mut Core, kind: NumberKind, byte: u8) -> Result<Option<Value>, StepFault>
-    ensures { StepIs (step_zero kind (state core.old) byte) (state core.new) result }
+    ensures { StepTells (step_zero kind (state core.old) byte) (state core.new) result }
 {
     if byte == b'\r' {
         core.number = 0;
@@ -194,7 +194,7 @@ fn digits(
     negative: bool,
     byte: u8,
 ) -> Result<Option<Value>, StepFault>
-    ensures { StepIs (step_digits kind negative (state core.old) byte) (state core.new) result }
+    ensures { StepTells (step_digits kind negative (state core.old) byte) (state core.new) result }
 {
     if byte == b'\r' {
         core.phase = Phase::At(WireSpot::Feed(kind, negative));
@@ -213,7 +213,7 @@ fn digit(
     digit: u8,
 ) -> Result<Option<Value>, StepFault>
     requires { digit < 10 }
-    ensures { StepIs (step_digit kind negative (state core.old) digit) (state core.new) result }
+    ensures { StepTells (step_digit kind negative (state core.old) digit) (state core.new) result }
 {
     let sum = grown(core.number, negative, digit);
     let limit = limit(kind, negative);
@@ -351,7 +351,7 @@ fn count(core: &mut Core, alloc: Global) -> Result<Option<Value>, AllocError>
 }
 
 fn carriage_return(core: &mut Core, byte: u8) -> Result<Option<Value>, StepFault>
-    ensures { StepIs (step_return (state core.old) byte) (state core.new) result }
+    ensures { StepTells (step_return (state core.old) byte) (state core.new) result }
 {
     if byte == b'\r' {
         core.phase = Phase::At(WireSpot::Line);

@@ -76,6 +76,10 @@ ends_read b n stream lines ReadFault e w = absurd e
 ends_read b n stream lines WriteFault e w = absurd e
 ends_read b n stream lines Memory e w = absurd e
 
+-- such an ending is no want of memory
+pub ends_read_held : (stream lines : List ℕ) (end : ShowEnd) → EndsRead stream lines end → end ≡ Memory → ⊥
+ends_read_held stream lines end e is = subst (EndsRead stream lines) is e
+
 module _ (d : Decoder) (stream lines : List ℕ) (h : HasGivenAll d stream lines) where
   -- how many bytes are left, and where they begin
   rest_place : h.given.from + length h.given.rest ≡ length stream

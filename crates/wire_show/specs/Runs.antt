@@ -74,7 +74,8 @@ HasReadOn before now old new d None =
     (bytes : List ℕ) × (lines : List ℕ) × IsReadSoFar before now bytes × (length bytes ≡ input_limit) × HasGivenAll d bytes lines × IsWritten old new lines
 HasReadOn before now old new d (Some end) = HasShown before now old new end
 
--- how a showing ends that has reached the limit
+-- how a showing ends that has reached the limit; it never ends for want of memory there
 abbrev pub HasReadPast : SourceView → SourceView → SinkView → SinkView → List ℕ → ShowEnd → Type 0
 HasReadPast before now old new lines end =
     (bytes : List ℕ) × HasReadFor end before now bytes × IsShownEnd bytes lines end × (IsWritten old new lines → HasWrittenFor end old new lines)
+    × (end ≡ MemoryEnd → ⊥)
