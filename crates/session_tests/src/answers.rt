@@ -1,23 +1,13 @@
 //! Commands asked of a desk that has its store, with the bytes of their replies.
+use crate::commands::command;
 use crate::compared::same;
 use mini_store::Store;
 use net_links::StepClock;
 use plain_desk::PlainDesk;
 use sessions::answer;
-use sqlite_items::Items;
 use std::alloc::{AllocError, Global};
 use std::test::Fail;
 use wire_spelling::fits;
-use wire_values::{Bytes, Value};
-
-/// An array of bulk strings, of words parted by blanks.
-fn command(alloc: Global, line: &str) -> Result<Value, AllocError> {
-    let mut words = Items::new(alloc);
-    for word in line.split(' ') {
-        words.push(Value::Bulk(Bytes::from_slice(alloc, word.as_bytes())?))?;
-    }
-    Ok(Value::Array(words))
-}
 
 /// What a desk at an empty store answers to these commands, in bytes, up to the first that ends a session.
 fn answered(alloc: Global, lines: &[&str]) -> Result<Vec<u8>, AllocError> {

@@ -5,8 +5,14 @@
 #[cfg(test)]
 mod answers;
 #[cfg(test)]
+mod commands;
+#[cfg(test)]
 mod compared;
 #[cfg(test)]
 mod outside;
+#[cfg(test)]
+mod served;
+#[cfg(test)]
+mod shared_stores;
 #[cfg(test)]
 mod whole_sessions;

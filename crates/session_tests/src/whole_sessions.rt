@@ -1,9 +1,10 @@
 //! Whole sessions over links in memory.
+use crate::commands::why_text;
 use crate::compared::same;
 use mini_store::Store;
 use net_links::{MemoryLink, StepClock};
 use plain_desk::PlainDesk;
-use sessions::{Why, session};
+use sessions::session;
 use std::alloc::{AllocError, Global};
 use std::test::Fail;
 use wire_values::Bytes;
@@ -63,19 +64,6 @@ fn turns(piece: u64, turns: u64, sent: &'static [u8], commands: u64) -> Row {
     }
 }
 
-fn text(why: Why) -> &'static str {
-    match why {
-        Why::Ended => "ended",
-        Why::Turns => "turns",
-        Why::Wire { .. } => "wire",
-        Why::NotWords => "not words",
-        Why::Link => "link",
-        Why::Full { .. } => "full",
-        Why::Closed => "closed",
-        Why::Memory => "memory",
-    }
-}
-
 /// What a session at an empty store sends, why it ends, and how many commands it asks.
 fn spoken(alloc: Global, row: &Row) -> Result<(Vec<u8>, &'static str, u64), AllocError> {
     let incoming = Bytes::from_slice(alloc, row.incoming)?;
@@ -85,7 +73,7 @@ fn spoken(alloc: Global, row: &Row) -> Result<(Vec<u8>, &'static str, u64), Allo
     let end = session(alloc, &mut desk, &mut link, &clock, row.turns);
     Ok((
         Vec::from_slice(alloc, link.sent())?,
-        text(end.why),
+        why_text(end.why),
         end.commands,
     ))
 }

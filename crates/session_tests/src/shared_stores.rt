@@ -1,0 +1,334 @@
+//! Sessions of connections at one store, one after the other, while it keeps what others said before.
+use crate::commands::{incoming, words_of};
+use crate::compared::same;
+use mini_store::Store;
+use net_links::{MemoryLink, StepClock};
+use plain_desk::PlainDesk;
+use sessions::session;
+use std::alloc::{AllocError, Global};
+use std::mem;
+use std::process::Abort;
+use std::test::Fail;
+use wire_spelling::command_fits;
+
+/// A connection by its number, the commands of its session, and the bytes that answer them.
+type Talk = (u32, &'static [&'static str], &'static [u8]);
+
+/// What connections said to the store at second 5, and then their sessions, whose clock begins there and goes on by a
+/// step of so many microseconds after each command.
+#[derive(Drop)]
+struct Row {
+    name: &'static str,
+    before: &'static [(u32, &'static str)],
+    step: u64,
+    talks: &'static [Talk],
+}
+
+/// A store that took these commands.
+fn begun<R: Abort>(rt: &R, alloc: Global, before: &[(u32, &str)]) -> Result<Store, AllocError> {
+    let mut store = Store::new(alloc);
+    for (conn, line) in before {
+        let words = words_of(alloc, line)?;
+        assert!(rt; command_fits(&words));
+        let _reply = store.apply(alloc, 5, *conn, &words)?;
+    }
+    Ok(store)
+}
+
+/// What a connection's session sends; the store is then without what the connection had.
+fn talk(
+    alloc: Global,
+    store: &mut Store,
+    clock: &StepClock,
+    conn: u32,
+    lines: &[&str],
+) -> Result<Vec<u8>, AllocError> {
+    let mut link = MemoryLink::new(incoming(alloc, lines, b"")?, 65_536, Vec::new(alloc));
+    let own = mem::replace(store, Store::new(alloc));
+    let mut desk = PlainDesk::new(own, conn);
+    let _end = session(alloc, &mut desk, &mut link, clock, 100);
+    *store = desk.into_store();
+    Vec::from_slice(alloc, link.sent())
+}
+
+fn at_once(
+    name: &'static str,
+    before: &'static [(u32, &'static str)],
+    talks: &'static [Talk],
+) -> Row {
+    Row {
+        name,
+        before,
+        step: 0,
+        talks,
+    }
+}
+
+/// All at one moment: transactions by their marks, and messages that are pushed before an answer.
+fn rows_at_once() -> [Row; 5] {
+    [
+        at_once(
+            "a watched key was altered",
+            &[(1, "SET k v"), (1, "WATCH k")],
+            &[
+                (2, &["SET k w"], b"+OK\r\n"),
+                (
+                    1,
+                    &["MULTI", "SET k x", "EXEC", "GET k"],
+                    b"+OK\r\n+QUEUED\r\n*-1\r\n$1\r\nw\r\n",
+                ),
+            ],
+        ),
+        at_once(
+            "a watched key was altered and holds the same again",
+            &[(1, "SET k v"), (1, "WATCH k")],
+            &[
+                (2, &["SET k w", "SET k v"], b"+OK\r\n+OK\r\n"),
+                (
+                    1,
+                    &["MULTI", "DEL k", "EXEC", "GET k"],
+                    b"+OK\r\n+QUEUED\r\n*-1\r\n$1\r\nv\r\n",
+                ),
+            ],
+        ),
+        at_once(
+            "another key was altered",
+            &[(1, "SET k v"), (1, "WATCH k")],
+            &[
+                (2, &["SET other w"], b"+OK\r\n"),
+                (
+                    1,
+                    &["MULTI", "DEL k", "EXEC", "GET k"],
+                    b"+OK\r\n+QUEUED\r\n*1\r\n:1\r\n$-1\r\n",
+                ),
+            ],
+        ),
+        at_once(
+            "messages come before the answer",
+            &[(1, "SUBSCRIBE c")],
+            &[
+                (
+                    2,
+                    &["PUBLISH c hello", "PUBLISH d lost", "PUBLISH c again"],
+                    b":1\r\n:0\r\n:1\r\n",
+                ),
+                (
+                    1,
+                    &["PING", "PING"],
+                    b"*3\r\n$7\r\nmessage\r\n$1\r\nc\r\n$5\r\nhello\r\n\
+                      *3\r\n$7\r\nmessage\r\n$1\r\nc\r\n$5\r\nagain\r\n\
+                      *2\r\n$4\r\npong\r\n$0\r\n\r\n*2\r\n$4\r\npong\r\n$0\r\n\r\n",
+                ),
+                (2, &["PUBLISH c gone"], b":0\r\n"),
+            ],
+        ),
+        at_once(
+            "a message comes before an error",
+            &[(1, "SUBSCRIBE c")],
+            &[
+                (2, &["PUBLISH c x"], b":1\r\n"),
+                (
+                    1,
+                    &["GET k", "UNSUBSCRIBE c", "GET k"],
+                    b"*3\r\n$7\r\nmessage\r\n$1\r\nc\r\n$1\r\nx\r\n-ERR subscribed\r\n\
+                      *3\r\n$11\r\nunsubscribe\r\n$1\r\nc\r\n:0\r\n$-1\r\n",
+                ),
+            ],
+        ),
+    ]
+}
+
+/// Keys that expire, at their second and not before.
+fn rows_in_time() -> [Row; 4] {
+    [
+        Row {
+            name: "half a second a command",
+            before: &[],
+            step: 500_000,
+            talks: &[(
+                1,
+                &[
+                    "SET k v NX EX 1",
+                    "GET k",
+                    "GET k",
+                    "SET k w NX EX 1",
+                    "GET k",
+                ],
+                b"+OK\r\n$1\r\nv\r\n$-1\r\n+OK\r\n$-1\r\n",
+            )],
+        },
+        Row {
+            name: "the last microsecond before",
+            before: &[],
+            step: 999_999,
+            talks: &[(
+                1,
+                &["SET k v NX EX 1", "SET k w NX EX 1", "GET k"],
+                b"+OK\r\n$-1\r\n$-1\r\n",
+            )],
+        },
+        Row {
+            name: "a watched key expires",
+            before: &[(1, "SET k v EX 1"), (1, "WATCH k")],
+            step: 500_000,
+            talks: &[(
+                1,
+                &["MULTI", "PING", "EXEC", "GET k"],
+                b"+OK\r\n+QUEUED\r\n*-1\r\n$-1\r\n",
+            )],
+        },
+        Row {
+            name: "a watched key doesn't expire yet",
+            before: &[(1, "SET k v EX 2"), (1, "WATCH k")],
+            step: 500_000,
+            talks: &[(
+                1,
+                &["MULTI", "PING", "EXEC", "GET k", "GET k"],
+                b"+OK\r\n+QUEUED\r\n*1\r\n+PONG\r\n$1\r\nv\r\n$-1\r\n",
+            )],
+        },
+    ]
+}
+
+/// Errors, of which the earlier one is answered, and each command of the table.
+fn rows_of_commands() -> [Row; 6] {
+    [
+        at_once(
+            "faulty commands",
+            &[],
+            &[(
+                1,
+                &[
+                    "NOSUCH a b c",
+                    "GET",
+                    "GET a b",
+                    "SET k v NX EX 5 6",
+                    "SET k v ex 5",
+                    "SET k v EX NX 0",
+                    "SET k v EX 0",
+                    "EXPIRE k 05",
+                    "SELECT -0",
+                    "SELECT 1",
+                    "EXEC",
+                    "DISCARD",
+                ],
+                b"-ERR command\r\n-ERR arity\r\n-ERR arity\r\n-ERR arity\r\n-ERR syntax\r\n-ERR syntax\r\n\
+                  -ERR integer\r\n-ERR integer\r\n-ERR integer\r\n-ERR database\r\n-ERR outside\r\n-ERR outside\r\n",
+            )],
+        ),
+        at_once(
+            "another kind of value, after what is wrong with the words",
+            &[(2, "LPUSH q a")],
+            &[(
+                1,
+                &[
+                    "ZADD q 1",
+                    "ZADD q x a",
+                    "ZADD q 1 a",
+                    "GET q",
+                    "HGET q f",
+                    "SADD q a",
+                    "LLEN q",
+                ],
+                b"-ERR arity\r\n-ERR integer\r\n-WRONGTYPE\r\n-WRONGTYPE\r\n-WRONGTYPE\r\n-WRONGTYPE\r\n:1\r\n",
+            )],
+        ),
+        at_once(
+            "a broken transaction",
+            &[],
+            &[(
+                1,
+                &[
+                    "MULTI", "FOO", "EXEC", "MULTI", "SET k v", "GET k", "EXEC", "GET k",
+                ],
+                b"+OK\r\n-ERR command\r\n-EXECABORT\r\n+OK\r\n+QUEUED\r\n-ERR inside\r\n-EXECABORT\r\n$-1\r\n",
+            )],
+        ),
+        at_once(
+            "texts, keys and transactions",
+            &[],
+            &[(
+                1,
+                &[
+                    "PING",
+                    "SELECT 0",
+                    "SET k v",
+                    "GET k",
+                    "EXPIRE k 9",
+                    "DEL k other",
+                    "WATCH k",
+                    "UNWATCH",
+                    "MULTI",
+                    "DISCARD",
+                    "MULTI",
+                    "PUBLISH c x",
+                    "EXEC",
+                ],
+                b"+PONG\r\n+OK\r\n+OK\r\n$1\r\nv\r\n:1\r\n:1\r\n+OK\r\n+OK\r\n+OK\r\n+OK\r\n+OK\r\n+QUEUED\r\n*1\r\n:0\r\n",
+            )],
+        ),
+        at_once(
+            "lists and sets",
+            &[],
+            &[(
+                1,
+                &[
+                    "LPUSH q b a",
+                    "RPUSH q c",
+                    "LLEN q",
+                    "RPOP q",
+                    "BRPOP none q 1",
+                    "BRPOP none 1",
+                    "SADD s y x x",
+                    "SMEMBERS s",
+                    "SREM s x z",
+                    "SMEMBERS none",
+                ],
+                b":2\r\n:3\r\n:3\r\n$1\r\nc\r\n*2\r\n$1\r\nq\r\n$1\r\nb\r\n*-1\r\n\
+                  :2\r\n*2\r\n$1\r\nx\r\n$1\r\ny\r\n:1\r\n*0\r\n",
+            )],
+        ),
+        at_once(
+            "hashes and sorted sets",
+            &[],
+            &[(
+                1,
+                &[
+                    "HSET h f v",
+                    "HSET h f w",
+                    "HGET h f",
+                    "HGET h g",
+                    "HLEN h",
+                    "HDEL h f g",
+                    "ZADD z 2 b",
+                    "ZADD z 1 a",
+                    "ZCARD z",
+                    "ZREVRANGEBYSCORE z 2 1 LIMIT 0 10",
+                    "ZREM z a c",
+                    "ZREVRANGEBYSCORE z 1 0 LIMIT 0 10",
+                ],
+                b":1\r\n:0\r\n$1\r\nw\r\n$-1\r\n:1\r\n:1\r\n:1\r\n:1\r\n:2\r\n\
+                  *2\r\n$1\r\nb\r\n$1\r\na\r\n:1\r\n*0\r\n",
+            )],
+        ),
+    ]
+}
+
+#[test]
+fn connections_share_a_store(rt: HostRuntime) -> Result<(), Fail> {
+    for rows in [
+        rows_at_once().as_slice(),
+        rows_in_time().as_slice(),
+        rows_of_commands().as_slice(),
+    ] {
+        for row in rows {
+            let mut store = begun(&rt, rt.alloc(), row.before)?;
+            let clock = StepClock::new(5_000_000, row.step);
+            for (conn, lines, want) in row.talks {
+                let sent = talk(rt.alloc(), &mut store, &clock, *conn, lines)?;
+                same(&rt, row.name, sent.as_slice(), *want);
+            }
+        }
+    }
+    Ok(())
+}
