@@ -1,7 +1,7 @@
 //! Returns, each said to its end, and put off at each of its commands.
 use crate::return_rows::{
-    hset_line, leave_rows, lost_entry, named_entry, named_rows, other_entry, plain_entry, requeue_rows,
-    restore_rows, tag_text, unbound_rows,
+    hset_line, leave_rows, lost_entry, named_entry, named_rows, other_entry, plain_entry,
+    requeue_rows, restore_rows, tag_text, unbound_rows,
 };
 use crate::talk::{is_silent, refuses, says_all};
 use command_blocks::Side;
