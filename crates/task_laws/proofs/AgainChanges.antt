@@ -1,6 +1,7 @@
 -- Sending a task again changes what it must and nothing else.
-use Rattle.std.proofs.Common.{◌≡◌, inl, inr, ℕ, ℤ, suc, List, Bool, true, false, codes, Some, None, option_map, option_and_then, unwrap_or, Result, Ok, refl, sym, ap, subst, ◌∙◌}
+use Rattle.std.proofs.Common.{◌≡◌, ◌≤◌, ◌<◌, ◌^◌, inl, inr, ℕ, ℤ, suc, List, Bool, true, false, codes, Some, None, option_map, option_and_then, unwrap_or, Ok, refl, sym, ap, subst, ◌∙◌, arith}
 use Rattle.std.specs.Prelude.{length, nat_le}
+use Rattle.std.proofs.lemmas.Bool.Decides.{nat_tests}
 use Rattle.base64.specs.Engines.{standard}
 use Rattle.base64.specs.GeneralPurpose.{encode_of}
 use Rattle.serde_json.specs.Data.{Data, null, boolean, number, unsigned, string, array, object, Members, put}
@@ -8,7 +9,7 @@ use Rattle.serde_json.specs.Find.{get}
 use Rattle.serde_json.specs.Written.{compact_text}
 use Rattle.serde_json.proofs.Views.{get_member-put}
 use Rattle.delivery_tags.specs.Tags.{tag_text}
-use Rattle.envelope.specs.Envelopes.{Parts, json_at, max_bytes, max_text, parts_in, said_by}
+use Rattle.envelope.specs.Envelopes.{Parts, max_bytes, max_text, parts_in, said_by}
 use Rattle.envelope.proofs.MarkedSaid.{get_other, get_same}
 use Rattle.envelope.proofs.Said.{said_is}
 use Rattle.envelope.proofs.Told.{IsTold, told_by}
@@ -17,16 +18,17 @@ use Rattle.envelope_trees.specs.Members.{if_object, object_at}
 use Rattle.envelope_trees.specs.Sorted.{Sorted}
 use Rattle.envelope_laws.specs.Marks.{AgreeBut}
 use Rattle.moments.specs.MomentTexts.{moment_text}
-use Rattle.task_message.specs.Again.{again_of, again_tree, body_again, properties_again, retried, unmarked, without}
+use Rattle.task_message.specs.Again.{again_of, again_tree, body_again, if_short, properties_again, retried, unmarked, without}
 use Rattle.task_message.specs.Reading.{◌>>=◌, wanted}
 use Rattle.task_message.specs.Tasks.{TaskParts, headers_in, task_of}
-use Rattle.task_message.specs.declared.fault.TaskFault.{TaskFault}
 use Rattle.task_message.specs.declared.fault.TaskFault.TheVariants.{TooLong}
 use Rattle.task_again.proofs.KeptTrees.{get_put, get_put_other, get_without, off}
-use Rattle.task_laws.specs.Relations.{TellsTask, IsTask}
+use Rattle.task_laws.specs.Relations.{IsTask, TellsTask}
 use Rattle.task_laws.specs.SentAgain.{AgreeButTwo, IsAround, IsFirstAgain, IsSecondAgain, IsSentAgain, TellsRetry}
 use Rattle.task_laws.proofs.Gone.{IsObjectAt, get_gone, get_sorted, object_stands}
-use Rattle.task_laws.proofs.TasksRead.{task_from}
+use Rattle.task_laws.proofs.KeptOrder.{sorted-again}
+use Rattle.task_laws.proofs.RetriedTexts.{few_retries, retried_reads}
+use Rattle.task_laws.proofs.TasksRead.{IsReadContent, same_ok, task_from}
 
 -- ---- settings
 
@@ -128,7 +130,7 @@ module _ (n : ℕ) (d h q : Data) (f : Data → Data) (keeps : KeepsObject f) (h
 
 -- ---- the two versions
 
-module _ (n : ℕ) (d : Data) (p : Parts) (sorted : Sorted d) (told : IsTold d p) (t : TaskParts) (eta : ℤ) where
+module _ (n : ℕ) (d : Data) (p : Parts) (sorted : Sorted d) (told : IsTold d p) (t : TaskParts) (eta : ℤ) (few : suc t.settings.retries < 2 ^ 64) where
   abbrev r : ℕ
   r = t.settings.retries
 
@@ -187,6 +189,7 @@ module _ (n : ℕ) (d : Data) (p : Parts) (sorted : Sorted d) (told : IsTold d p
     tag = tag_is n told.properties told.inner.info i_at;
     in_properties = in_properties_is n told.properties told.inner.info i_at;
     elsewhere = λ k a b c. next_elsewhere n d told.headers told.properties (renewed r eta) (renewed_object r eta) h_at q_at k a b;
+    sorted = sorted-again r eta few d 2 n sorted;
   }
 
   -- ---- version 1
@@ -204,23 +207,27 @@ module _ (n : ℕ) (d : Data) (p : Parts) (sorted : Sorted d) (told : IsTold d p
   stands : get (codes "headers") first_next ≡ Some (unmarked told.headers)
   stands = (object_stands (codes "headers") first_next (unmarked told.headers) (next_headers_is n d told.headers told.properties unmarked unmarked_object h_at q_at)).is
 
-  first_changed : (c : Data) (name : Data) → json_at (parts_in d).content ≡ Some c → get (codes "task") c ≡ Some name
+  first_changed : (c : Data) (name : Data) → IsReadContent (parts_in d).content c → get (codes "task") c ≡ Some name
       → IsFirstAgain r eta d (on_object (put (codes "body") (string body)) first_next) told.headers (unmarked told.headers)
-  first_changed c name reads task =
+  first_changed c name is task =
       let o = of_object (codes "task") c name task in
+      let text = retried_reads r eta few (parts_in d).content c is.reads is.shallow is.whole in
       record {
         in_headers = λ k a. get_without k (codes "redelivered") told.headers a;
         content = c;
-        content_is = reads;
+        content_is = is.reads;
         next_content = retried r eta c;
+        reads = text.reads;
+        shallow = text.shallow;
+        whole = text.whole;
         body = get_put (codes "headers") (codes "body") (string body) (unmarked told.headers) first_next stands
-            ∙ ap (λ x. Some (string (encode_of standard (compact_text (retried r eta (unwrap_or x null)))))) reads;
+            ∙ ap (λ x. Some (string (encode_of standard (compact_text (retried r eta (unwrap_or x null)))))) is.reads;
         settings = retry_told r eta c o.0 o.1;
         in_content = retry_others r eta c;
       }
 
-  first_again : (c : Data) (name : Data) → t.version ≡ 1 → json_at (parts_in d).content ≡ Some c → get (codes "task") c ≡ Some name → IsSentAgain d t n eta (again_tree d 1 r n eta)
-  first_again c name v reads task = record {
+  first_again : (c : Data) (name : Data) → t.version ≡ 1 → IsReadContent (parts_in d).content c → get (codes "task") c ≡ Some name → IsSentAgain d t n eta (again_tree d 1 r n eta)
+  first_again c name v is task = record {
     headers = told.headers;
     properties = told.properties;
     info = told.inner.info;
@@ -233,13 +240,14 @@ module _ (n : ℕ) (d : Data) (p : Parts) (sorted : Sorted d) (told : IsTold d p
       properties_is = ap (option_and_then if_object) (beside (codes "properties") (off (codes "properties") (codes "body") refl)) ∙ next_properties_is n d told.headers told.properties unmarked unmarked_object h_at q_at;
       info_is = next_info_is n told.properties told.inner.info i_at;
     };
-    settings = inl (v, first_changed c name reads task);
+    settings = inl (v, first_changed c name is task);
     header_mark = get_gone (codes "redelivered") told.headers h_sorted;
     info_mark = get_gone (codes "redelivered") told.inner.info i_sorted;
     in_info = in_info_is;
     tag = tag_is n told.properties told.inner.info i_at;
     in_properties = in_properties_is n told.properties told.inner.info i_at;
     elsewhere = λ k a b z. beside k z ∙ next_elsewhere n d told.headers told.properties unmarked unmarked_object h_at q_at k a b;
+    sorted = sorted-again r eta few d 1 n sorted;
   }
 
   -- by what is known of the task
@@ -247,22 +255,36 @@ module _ (n : ℕ) (d : Data) (p : Parts) (sorted : Sorted d) (told : IsTold d p
   by_version is = go is.told
     where
       go : TellsTask (headers_in d) is.content t → IsSentAgain d t n eta (again_tree d t.version r n eta)
-      go (inl one) = subst (λ v. IsSentAgain d t n eta (again_tree d v r n eta)) (sym one.1.version) (first_again is.content (string t.name) one.1.version is.reads one.1.name.0)
+      go (inl one) = subst (λ v. IsSentAgain d t n eta (again_tree d v r n eta)) (sym one.1.version) (first_again is.content (string t.name) one.1.version (record { reads = is.reads; shallow = is.shallow; whole = is.whole }) one.1.name.0)
       go (inr two) = subst (λ v. IsSentAgain d t n eta (again_tree d v r n eta)) (sym two.version) (second_again two.version)
 
--- what was short enough is the tree
-short_is : (a b : Bool) (x e : Data) → (wanted TooLong a >>= λ u. wanted TooLong b >>= λ v. Ok x) ≡ Ok e → x ≡ e
-short_is true true x e h = same x e h
+-- the number of retries of a task has room for one more
+pub few_of : (d : Data) (t : TaskParts) → IsTask d t → suc t.settings.retries < 2 ^ 64
+few_of d t is = go is.told
   where
-    same : (x e : Data) → ◌≡◌ {A = Result Data TaskFault} (Ok x) (Ok e) → x ≡ e
-    same x e h = cc
-short_is true false x e h = cc
-short_is false b x e h = cc
+    go : TellsTask (headers_in d) is.content t → suc t.settings.retries < 2 ^ 64
+    go (inl one) = few_retries (get (codes "retries") is.content) t.settings.retries one.1.settings.retries
+    go (inr two) = few_retries (get (codes "retries") (headers_in d)) t.settings.retries two.settings.retries
+
+-- what was short enough is the tree
+pub record IsShort (x e : Data) : Type 0 where
+  pub same : x ≡ e
+  pub text : length (compact_text x) ≤ max_bytes
+  pub marks : length (compact_text (marked x)) ≤ max_text
+
+pub short_is : (x e : Data) → if_short x ≡ Ok e → IsShort x e
+short_is x e h = go (nat_le (length (compact_text x)) max_bytes) (nat_le (length (compact_text (marked x))) max_text) refl refl h
+  where
+    go : (a b : Bool) → nat_le (length (compact_text x)) max_bytes ≡ a → nat_le (length (compact_text (marked x))) max_text ≡ b
+        → (wanted TooLong a >>= λ u. wanted TooLong b >>= λ v. Ok x) ≡ Ok e → IsShort x e
+    go true true i j k = record { same = same_ok x e k; text = grind (arith, nat_tests); marks = grind (arith, nat_tests) }
+    go true false i j k = cc
+    go false b i j k = cc
 
 pub again_changes : (d e : Data) (p : Parts) (t : TaskParts) (n : ℕ) (eta : ℤ)
     → Sorted d → said_by d ≡ Ok p → task_of d ≡ Ok t → again_of d t n eta ≡ Ok e → IsSentAgain d t n eta e
 unfolding again_of
 again_changes d e p t n eta sorted said reads sent =
+    let is = task_from d t reads in
     let x = again_tree d t.version t.settings.retries n eta in
-    subst (IsSentAgain d t n eta) (short_is (nat_le (length (compact_text x)) max_bytes) (nat_le (length (compact_text (marked x))) max_text) x e sent)
-    (by_version n d p sorted (told_by d p (said_is d p said).parts) t eta (task_from d t reads))
+    subst (IsSentAgain d t n eta) (short_is x e sent).same (by_version n d p sorted (told_by d p (said_is d p said).parts) t eta (few_of d t is) is)

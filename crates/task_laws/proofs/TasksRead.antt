@@ -30,7 +30,7 @@ needed_is : {A : Type 0} (fault : TaskFault) (o : Option A) (x : A) → needed f
 needed_is fault None x e = cc
 needed_is fault (Some y) x e = let s : y ≡ x = cc in ap (λ z. Some z) s
 
-same_ok : {A : Type 0} (x y : A) → ◌≡◌ {A = Result A TaskFault} (Ok x) (Ok y) → x ≡ y
+pub same_ok : {A : Type 0} (x y : A) → ◌≡◌ {A = Result A TaskFault} (Ok x) (Ok y) → x ≡ y
 same_ok x y e = cc
 
 -- ---- words

@@ -1,13 +1,14 @@
 -- What sending a task again changes in its envelope, member by member (Celery's message protocol, versions 1 and 2).
-use Rattle.std.specs.Prelude.{◌≡◌, ◌⊎◌, ℕ, ℤ, suc, List, codes, Some, None}
+use Rattle.std.specs.Prelude.{◌≡◌, ◌≤◌, ◌⊎◌, ℕ, ℤ, suc, List, codes, false, Some, None}
 use Rattle.base64.specs.Engines.{standard}
 use Rattle.base64.specs.GeneralPurpose.{encode_of}
-use Rattle.serde_json.specs.Data.{Data, number, unsigned, string}
+use Rattle.serde_json.specs.Data.{Data, number, unsigned, string, depth}
 use Rattle.serde_json.specs.Find.{get}
-use Rattle.serde_json.specs.Written.{compact_text}
+use Rattle.serde_json.specs.Written.{compact_text, has_float}
 use Rattle.delivery_tags.specs.Tags.{tag_text}
-use Rattle.envelope.specs.Envelopes.{json_at, parts_in}
+use Rattle.envelope.specs.Envelopes.{json_at, max_levels, parts_in}
 use Rattle.envelope_trees.specs.Members.{object_at}
+use Rattle.envelope_trees.specs.Sorted.{Sorted}
 use Rattle.envelope_laws.specs.Marks.{AgreeBut}
 use Rattle.moments.specs.MomentTexts.{moment_text}
 use Rattle.task_message.specs.Tasks.{TaskParts}
@@ -33,17 +34,20 @@ pub record IsSecondAgain (r : ℕ) (eta : ℤ) (d e headers next : Data) : Type 
   pub others : (q : List ℕ) → (q ≡ codes "redelivered" → ⊥) → (q ≡ codes "retries" → ⊥) → (q ≡ codes "eta" → ⊥) → get q next ≡ get q headers
   pub body : get (codes "body") e ≡ get (codes "body") d
 
--- version 1: the headers stay but for the mark, and the body is the base64 of a content, as compact text, that tells the retry and agrees with the content before at each other name
+-- version 1: the headers stay but for the mark, and the body is the base64 of a content, as compact text, that is read back from it, nests at most 100 deep, has no float, tells the retry and agrees with the content before at each other name
 pub record IsFirstAgain (r : ℕ) (eta : ℤ) (d e headers next : Data) : Type 0 where
   pub in_headers : AgreeBut (codes "redelivered") next headers
   pub content : Data
   pub content_is : json_at (parts_in d).content ≡ Some content
   pub next_content : Data
+  pub reads : json_at (compact_text next_content) ≡ Some next_content
+  pub shallow : depth next_content ≤ max_levels
+  pub whole : has_float next_content ≡ false
   pub body : get (codes "body") e ≡ Some (string (encode_of standard (compact_text next_content)))
   pub settings : TellsRetry r eta next_content
   pub in_content : AgreeButTwo (codes "retries") (codes "eta") next_content content
 
--- the tree e is the envelope d of the task t, sent again under the tag n with this moment: by the version of the task its settings are other ones; no mark stands in the headers or the delivery_info; the tag is another one; and each other name of the tree, its properties and its delivery_info has what it had
+-- the tree e is the envelope d of the task t, sent again under the tag n with this moment: by the version of the task its settings are other ones; no mark stands in the headers or the delivery_info; the tag is another one; each other name of the tree, its properties and its delivery_info has what it had; and the tree has each key once and in order
 pub record IsSentAgain (d : Data) (t : TaskParts) (n : ℕ) (eta : ℤ) (e : Data) : Type 0 where
   pub headers : Data
   pub properties : Data
@@ -60,3 +64,8 @@ pub record IsSentAgain (d : Data) (t : TaskParts) (n : ℕ) (eta : ℤ) (e : Dat
   pub tag : get (codes "delivery_tag") next_properties ≡ Some (string (tag_text n))
   pub in_properties : AgreeButTwo (codes "delivery_tag") (codes "delivery_info") next_properties properties
   pub elsewhere : (q : List ℕ) → (q ≡ codes "headers" → ⊥) → (q ≡ codes "properties" → ⊥) → (q ≡ codes "body" → ⊥) → get q e ≡ get q d
+  pub sorted : Sorted e
+
+-- the task with one retry more, and this moment before which it waits
+abbrev pub next_try : TaskParts → ℤ → TaskParts
+next_try t eta = record t { settings = record { retries = suc t.settings.retries; eta = Some eta; expires = t.settings.expires } }

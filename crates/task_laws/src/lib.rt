@@ -1,7 +1,7 @@
 //! Laws of tasks. Each body is empty: the clause is the law.
 #![tactic(auto)]
 
-ghost use Rattle.task_laws.specs.Laws.{AgainChanges, DraftsComeBack, ReadsTasks};
+ghost use Rattle.task_laws.specs.Laws.{AgainChanges, AgainIsRead, DraftsComeBack, FaultsApart, ReadsTasks};
 
 /// Reading gives a task exactly where the envelope carries it, member by member, in both versions.
 pub fn tasks_read()
@@ -17,4 +17,14 @@ pub fn drafts_come_back()
 /// headers or its content, by the version, of the tree, the properties and the delivery_info is as before.
 pub fn again_changes()
     ensures { AgainChanges }
+{}
+
+/// What was sent again is read as the task with one retry more and its new moment, under its new tag, in both versions.
+pub fn again_is_read()
+    ensures { AgainIsRead }
+{}
+
+/// Reading a task is never refused as too long, and sending it again is refused for nothing else.
+pub fn faults_apart()
+    ensures { FaultsApart }
 {}
