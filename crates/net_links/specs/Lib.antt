@@ -1,3 +1,4 @@
+pub mod LinkViews
 pub mod MemoryForms
 pub mod NetCauses
 pub mod Traffics

@@ -1,7 +1,7 @@
 -- A link and a net in memory, and what one call does to them.
-use Rattle.std.specs.Prelude.{Bool, Err, List, Ok, Result, Some, [], drop, false, if◌then◌else◌, length, min, nat_eq, nat_lt, take, true, ℕ, ◌&&◌, ◌++◌, ◌+◌, ◌-◌, ◌∷◌, ◌≡◌, ◌||◌}
+use Rattle.std.specs.Prelude.{Bool, Err, List, None, Ok, Result, Some, [], drop, false, if◌then◌else◌, length, min, nat_eq, nat_lt, take, true, ℕ, ◌&&◌, ◌++◌, ◌+◌, ◌-◌, ◌∷◌, ◌≡◌, ◌||◌}
 use Rattle.links.specs.Counts.{is_failing, raised}
-use Rattle.net_links.specs.Traffics.{Traffic, traffic}
+use Rattle.net_links.specs.LinkViews.{LinkView}
 use Rattle.net_links.specs.declared.link.NetFault.TheVariants.{Failed}
 use Rattle.net_links.specs.declared.link.NetFault.{NetFault}
 
@@ -59,22 +59,27 @@ after_receive l room = if link_fails l then after_failure l else record l {
   gains = gains_by (received_count l room) l.gains;
 }
 
--- a link that carried nothing, never failed and never ended
+-- a link that carried nothing, never failed, never ended and gained nothing
 pub record IsUnusedLink (l : MemoryLinkView) : Type 0 where
   pub nothing_sent : l.sent ≡ []
   pub nothing_received : l.received ≡ []
   pub no_fault : l.faults ≡ 0
   pub no_end : l.ends ≡ 0
+  pub no_gain : l.gains ≡ 0
 
--- what a link carried
-abbrev pub traffic_of : MemoryLinkView → Traffic
-traffic_of l = traffic (Some l.sent) (Some l.received)
+-- what a link tells
+abbrev pub told_of : MemoryLinkView → LinkView
+told_of l = record { sent = Some l.sent; received = Some l.received; faults = l.faults; ends = l.ends; gains = l.gains }
 
--- a net in memory: the links that it will hand out, how many are out, what the closed ones carried, which calls fail, and its counts
+-- stands where no link is
+abbrev pub no_link : LinkView
+no_link = record { sent = None; received = None; faults = 0; ends = 0; gains = 0 }
+
+-- a net in memory: the links that it will hand out, how many are out, what the closed ones told, which calls fail, and its counts
 pub record MemoryNetView : Type 0 where
   pub links : List MemoryLinkView
   pub out : ℕ
-  pub closed : List Traffic
+  pub closed : List LinkView
   pub fails : List ℕ
   pub calls : ℕ
   pub faults : ℕ
@@ -109,6 +114,6 @@ HandsOut old new (Err fault) = (fault ≡ Failed) × (net_lacks old ≡ true) ×
 abbrev pub after_closing : MemoryNetView → MemoryLinkView → MemoryNetView
 after_closing n link = record n {
   out = n.out - 1;
-  closed = n.closed ++ traffic_of link ∷ [];
+  closed = n.closed ++ told_of link ∷ [];
   closed_faults = if nat_eq link.faults 0 && nat_eq link.ends 0 then n.closed_faults else raised n.closed_faults;
 }

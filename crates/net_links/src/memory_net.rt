@@ -1,11 +1,11 @@
 //! A net in memory, which hands out the links that it was made with, and fails at the calls that it is told.
 ghost use Rattle.std.specs.Io.KnownBytes.{Keeps};
-ghost use Rattle.std.specs.Prelude.{All, ◌∷◌, ◌<◌, ◌≡◌, ◌≤◌, ◌+◌, ◌-◌, ◌↔◌, IfErr, IfOk, IsErr, IsErrOf, IsTrue, None, OnErr, OnOk, Some, false, length, map, slice_index_or, take, drop};
+ghost use Rattle.std.specs.Prelude.{All, ◌∷◌, ◌<◌, ◌≡◌, ◌≤◌, ◌+◌, ◌-◌, ◌↔◌, IfErr, IfOk, IsErr, IsErrOf, IsTrue, OnErr, OnOk, Some, false, length, map, slice_index_or, take, drop};
 ghost use Rattle.links.specs.Causes.{Rose};
 ghost use Rattle.links.specs.Counts.{raised};
-ghost use Rattle.net_links.specs.MemoryForms.{HandsOut, IsUnusedLink, MemoryNetView, after_closing, after_listening, after_net_failure, memory_net, net_fails, traffic_of};
+ghost use Rattle.net_links.specs.MemoryForms.{HandsOut, IsUnusedLink, MemoryNetView, after_closing, after_listening, after_net_failure, memory_net, net_fails, no_link, told_of};
 ghost use Rattle.net_links.specs.NetCauses.{HasClosedFaults, HasNetCause};
-ghost use Rattle.net_links.specs.Traffics.{ClosesOne, IsFresh, KeepsClosed, traffic};
+ghost use Rattle.net_links.specs.Traffics.{ClosesOne, IsFresh, KeepsClosed};
 ghost use Rattle.net_links.specs.declared.link.NetFault.TheVariants.{Failed};
 
 use crate::counts::raise;
@@ -36,7 +36,7 @@ impl Model for MemoryNet {
     ghost view = { λ s. record {
       links = drop s.given s.links.items;
       out = s.given - s.back;
-      closed = map traffic_of (take s.back s.links.items);
+      closed = map told_of (take s.back s.links.items);
       fails = s.fails.items;
       calls = s.calls;
       faults = s.faults;
@@ -73,7 +73,7 @@ impl MemoryNet {
     /// What the link sent that it closed after so many others.
     pub fn sent_by(&self, at: usize) -> &[u8]
         requires { at < length self.now.closed }
-        ensures { (slice_index_or self.now.closed at (traffic None None)).sent ≡ Some result.now }
+        ensures { (slice_index_or self.now.closed at no_link).sent ≡ Some result.now }
     {
         self.links[at].sent()
     }
@@ -133,7 +133,7 @@ impl Net for MemoryNet {
     ghost out = { λ s. s.out };
 
     fn connect(&mut self, alloc: Global, _address: &str) -> Result<MemoryLink, NetFault>
-        ensures fresh { IfOk result (λ s. IsFresh (Some s.sent) (Some s.received) s.faults s.ends) }
+        ensures fresh { IfOk result (λ s. IsFresh (Some self.old.closed) (told_of s)) }
         ensures out { OnOk result (raised self.old.out ≤ self.new.out) }
         ensures none { OnErr result (self.new.out ≡ self.old.out) }
         ensures cause { HasNetCause self.old.faults self.new.faults result }
@@ -162,7 +162,7 @@ impl Net for MemoryNet {
     }
 
     fn accept(&mut self, alloc: Global) -> Result<MemoryLink, NetFault>
-        ensures fresh { IfOk result (λ s. IsFresh (Some s.sent) (Some s.received) s.faults s.ends) }
+        ensures fresh { IfOk result (λ s. IsFresh (Some self.old.closed) (told_of s)) }
         ensures out { OnOk result (raised self.old.out ≤ self.new.out) }
         ensures none { OnErr result (self.new.out ≡ self.old.out) }
         ensures cause { HasNetCause self.old.faults self.new.faults result }
@@ -176,7 +176,7 @@ impl Net for MemoryNet {
     fn close(&mut self, stream: MemoryLink)
         requires out { 0 < self.old.out }
         ensures out { self.old.out ≤ self.new.out + 1 }
-        ensures closed { ClosesOne (Some self.old.closed) (Some self.new.closed) (traffic (Some stream.sent) (Some stream.received)) }
+        ensures closed { ClosesOne (Some self.old.closed) (Some self.new.closed) (told_of stream) }
         ensures faults { self.new.faults ≡ self.old.faults }
         ensures closed_faults { HasClosedFaults self.old.closed_faults self.new.closed_faults stream.faults stream.ends }
         ensures after { self.new ≡ after_closing self.old stream }

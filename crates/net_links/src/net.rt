@@ -2,8 +2,9 @@
 ghost use Rattle.std.specs.Prelude.{◌<◌, ◌≡◌, ◌≤◌, ◌+◌, IfOk, List, OnErr, OnOk, Option, ℕ};
 ghost use Rattle.std.specs.Io.KnownBytes.{Keeps};
 ghost use Rattle.links.specs.Counts.{raised};
+ghost use Rattle.net_links.specs.LinkViews.{LinkView, link_view};
 ghost use Rattle.net_links.specs.NetCauses.{HasClosedFaults, HasNetCause};
-ghost use Rattle.net_links.specs.Traffics.{ClosesOne, KeepsClosed, IsFresh, Traffic, traffic};
+ghost use Rattle.net_links.specs.Traffics.{ClosesOne, KeepsClosed, IsFresh};
 
 use crate::{Link, NetFault};
 use std::alloc::Global;
@@ -19,8 +20,8 @@ pub trait Net {
     /// How often a link was closed that had failed or ended.
     ghost closed_faults: { Self → ℕ };
 
-    /// What the links carried that were closed, in their order, where the net tells it.
-    ghost closed: { Self → Option (List Traffic) };
+    /// What the links told that were closed, in their order, where the net tells it.
+    ghost closed: { Self → Option (List LinkView) };
 
     /// How many links are out; a net that tells nothing may count all of them always.
     ghost out: { Self → ℕ };
@@ -28,7 +29,7 @@ pub trait Net {
     /// A link to an address, such as `127.0.0.1:6379`. `Failed` comes where the net failed, `Memory` where it wants
     /// memory.
     fn connect(&mut self, alloc: Global, address: &str) -> Result<Self::Stream, NetFault>
-        ensures fresh { IfOk result (λ s. IsFresh (Self.Stream.sent s) (Self.Stream.received s) (Self.Stream.faults s) (Self.Stream.ends s)) }
+        ensures fresh { IfOk result (λ s. IsFresh (closed self.old) (link_view Self.Stream.sent Self.Stream.received Self.Stream.faults Self.Stream.ends Self.Stream.gains s)) }
         ensures out { OnOk result (raised (out self.old) ≤ out self.new) }
         ensures none { OnErr result (out self.new ≡ out self.old) }
         ensures cause { HasNetCause (faults self.old) (faults self.new) result }
@@ -45,7 +46,7 @@ pub trait Net {
 
     /// The link of the next one that connected. `Failed` comes where the net failed, `Memory` where it wants memory.
     fn accept(&mut self, alloc: Global) -> Result<Self::Stream, NetFault>
-        ensures fresh { IfOk result (λ s. IsFresh (Self.Stream.sent s) (Self.Stream.received s) (Self.Stream.faults s) (Self.Stream.ends s)) }
+        ensures fresh { IfOk result (λ s. IsFresh (closed self.old) (link_view Self.Stream.sent Self.Stream.received Self.Stream.faults Self.Stream.ends Self.Stream.gains s)) }
         ensures out { OnOk result (raised (out self.old) ≤ out self.new) }
         ensures none { OnErr result (out self.new ≡ out self.old) }
         ensures cause { HasNetCause (faults self.old) (faults self.new) result }
@@ -56,7 +57,7 @@ pub trait Net {
     fn close(&mut self, stream: Self::Stream)
         requires out { 0 < out self.old }
         ensures out { out self.old ≤ out self.new + 1 }
-        ensures closed { ClosesOne (closed self.old) (closed self.new) (traffic (Self.Stream.sent stream) (Self.Stream.received stream)) }
+        ensures closed { ClosesOne (closed self.old) (closed self.new) (link_view Self.Stream.sent Self.Stream.received Self.Stream.faults Self.Stream.ends Self.Stream.gains stream) }
         ensures faults { faults self.new ≡ faults self.old }
         ensures closed_faults { HasClosedFaults (closed_faults self.old) (closed_faults self.new) (Self.Stream.faults stream) (Self.Stream.ends stream) };
 }

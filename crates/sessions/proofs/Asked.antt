@@ -1,6 +1,6 @@
 -- A talk goes on by one value.
 use Rattle.std.proofs.Common.{List, [], append-nil, append_assoc, ap, arith, inl, inr, length, length-append, subst, sym, ℕ, ◌+◌, ◌++◌, ◌∙◌, ◌∷◌, ◌≡◌}
-use Rattle.std.specs.Prelude.{Err, None, Ok, Option, Some}
+use Rattle.std.specs.Prelude.{Bool, Err, None, Ok, Option, Some}
 use Rattle.std.proofs.lemmas.Grind.{flat_map-append}
 use Rattle.wire_grammar.proofs.StreamLaws.{leads_one}
 use Rattle.wire_grammar.specs.Spells.{Spells}
@@ -60,10 +60,10 @@ module _ {D : Type 0} (goes : D → List Deed → D → Type 0) (joins : (s t u 
     counted = counted_one h.deeds d count count2 h.counted one;
   }
 
-module _ {D : Type 0} (goes : D → List Deed → D → Type 0) (stays : (s : D) → goes s [] s) (joins : (s t u : D) (l m : List Deed) → goes s l t → goes t m u → goes s (l ++ m) u) (gives : ℕ → Type 0) (fault : Option DeskFault) (first now next : D) (stream sent : List ℕ) (t t2 : Talking) (s : Talks goes gives first now stream sent t) where
+module _ {D : Type 0} (goes : D → List Deed → D → Type 0) (stays : (s : D) → goes s [] s) (joins : (s t u : D) (l m : List Deed) → goes s l t → goes t m u → goes s (l ++ m) u) (gives : ℕ → Type 0) (shared : Bool) (fault : Option DeskFault) (first now next : D) (stream sent : List ℕ) (t t2 : Talking) (s : Talks goes gives first now stream sent t) where
   -- a value was asked
   pub asked_one : (v : Value) → ((before : ℕ) (rest : List ℕ) → Stands t.decoder before rest → HasNext before rest t2.decoder (Ok (Some v)))
-      → HasAnswered goes gives fault now next v t.out.items t2.out.items t.commands t2.commands (Ok tt) → Talks goes gives first next stream sent t2
+      → HasAnswered goes gives shared fault now next v t.out.items t2.out.items t.commands t2.commands (Ok tt) → Talks goes gives first next stream sent t2
   asked_one v there (words, spells, (reply, done, wrote)) =
       let n = there s.heard.from s.heard.rest s.stands in
       let d : Deed = DidAsk done.at words reply in
@@ -75,12 +75,12 @@ module _ {D : Type 0} (goes : D → List Deed → D → Type 0) (stays : (s : D)
 
   -- no more is asked after this value
   ended_one : (v : Value) (front more : List ℕ) → s.heard.rest ≡ front ++ more → Spells v front → (why : Why)
-      → HasAnswered goes gives fault now next v t.out.items t2.out.items t.commands t2.commands (Err why) → EndsTalk goes gives fault first next stream (sent ++ t2.out.items) t2.commands why
+      → HasAnswered goes gives shared fault now next v t.out.items t2.out.items t.commands t2.commands (Err why) → EndsTalk goes gives shared fault first next stream (sent ++ t2.out.items) t2.commands why
   ended_one v front more e sp NotWords (none, i) = (heard_same goes joins gives first now next stream t.commands t2.commands s.heard i.stays i.uncounted, ap (λ l. sent ++ l) i.unwritten ∙ s.answered, (v, (front, more, e, sp), none))
   ended_one v front more e sp (Full entries bytes) (words, spells, (i, is)) = (heard_same goes joins gives first now next stream t.commands t2.commands s.heard i.stays i.uncounted, ap (λ l. sent ++ l) i.unwritten ∙ s.answered, (v, words, (front, more, e, sp), spells), is)
   ended_one v front more e sp Closed (words, spells, (i, is)) = (heard_same goes joins gives first now next stream t.commands t2.commands s.heard i.stays i.uncounted, ap (λ l. sent ++ l) i.unwritten ∙ s.answered, (v, words, (front, more, e, sp), spells), is)
   ended_one v front more e sp Memory (inl i) = (heard_same goes joins gives first now next stream t.commands t2.commands s.heard i.stays i.uncounted, ([], sym (append-nil (sent ++ t2.out.items) ∙ (ap (λ l. sent ++ l) i.unwritten ∙ s.answered))))
-  ended_one v front more e sp Memory (inr (words, spells, inl i)) = (heard_same goes joins gives first now next stream t.commands t2.commands s.heard i.stays i.uncounted, ([], sym (append-nil (sent ++ t2.out.items) ∙ (ap (λ l. sent ++ l) i.unwritten ∙ s.answered))))
+  ended_one v front more e sp Memory (inr (words, spells, inl (i, is))) = (heard_same goes joins gives first now next stream t.commands t2.commands s.heard i.stays i.uncounted, ([], sym (append-nil (sent ++ t2.out.items) ∙ (ap (λ l. sent ++ l) i.unwritten ∙ s.answered))))
   ended_one v front more e sp Memory (inr (words, spells, inr (reply, done, none))) =
       let d : Deed = DidAsk done.at words reply in (
         heard_one goes joins gives first now next stream t.commands t2.commands s.heard v d front more e sp (spells, done.clocked) done.did done.counted,
@@ -97,12 +97,12 @@ module _ {D : Type 0} (goes : D → List Deed → D → Type 0) (stays : (s : D)
 
   -- no more is asked
   pub asked_last : (v : Value) (why : Why) → ((before : ℕ) (rest : List ℕ) → Stands t.decoder before rest → HasNext before rest t2.decoder (Ok (Some v)))
-      → HasAnswered goes gives fault now next v t.out.items t2.out.items t.commands t2.commands (Err why) → EndsTalk goes gives fault first next stream (sent ++ t2.out.items) t2.commands why
+      → HasAnswered goes gives shared fault now next v t.out.items t2.out.items t.commands t2.commands (Err why) → EndsTalk goes gives shared fault first next stream (sent ++ t2.out.items) t2.commands why
   asked_last v why there done =
       let n = there s.heard.from s.heard.rest s.stands in
       ended_one v n.0 n.1 n.2 n.3 why done
 
-module _ {D : Type 0} (goes : D → List Deed → D → Type 0) (gives : ℕ → Type 0) (fault : Option DeskFault) (first now : D) (stream sent : List ℕ) (t : Talking) (d2 : Decoder) (s : Talks goes gives first now stream sent t) where
+module _ {D : Type 0} (goes : D → List Deed → D → Type 0) (gives : ℕ → Type 0) (shared : Bool) (fault : Option DeskFault) (first now : D) (stream sent : List ℕ) (t : Talking) (d2 : Decoder) (s : Talks goes gives first now stream sent t) where
   -- no value is whole
   pub asked_none : ((before : ℕ) (rest : List ℕ) → Stands t.decoder before rest → HasNext before rest d2 (Ok None)) → TalksAll goes gives first now stream sent (record t { decoder = d2 })
   asked_none there =
@@ -110,9 +110,9 @@ module _ {D : Type 0} (goes : D → List Deed → D → Type 0) (gives : ℕ →
       record { talks = record { heard = s.heard; stands = n.1; answered = s.answered }; front = n.0 }
 
   -- what follows is wrong
-  pub asked_wrong : (kind : WireKind) (place : ℕ) → ((before : ℕ) (rest : List ℕ) → Stands t.decoder before rest → HasNext before rest d2 (Err (Bad kind place))) → EndsTalk goes gives fault first now stream (sent ++ t.out.items) t.commands (Wire kind place)
+  pub asked_wrong : (kind : WireKind) (place : ℕ) → ((before : ℕ) (rest : List ℕ) → Stands t.decoder before rest → HasNext before rest d2 (Err (Bad kind place))) → EndsTalk goes gives shared fault first now stream (sent ++ t.out.items) t.commands (Wire kind place)
   asked_wrong kind place there = (s.heard, s.answered, (there s.heard.from s.heard.rest s.stands).0)
 
   -- there was no memory for it
-  pub asked_spent : EndsTalk goes gives fault first now stream (sent ++ t.out.items) t.commands Memory
+  pub asked_spent : EndsTalk goes gives shared fault first now stream (sent ++ t.out.items) t.commands Memory
   asked_spent = (s.heard, ([], sym (append-nil (sent ++ t.out.items) ∙ s.answered)))

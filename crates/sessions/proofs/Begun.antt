@@ -1,6 +1,6 @@
 -- How a session begins.
 use Rattle.std.proofs.Common.{List, [], ap, append-nil, arith, refl, sym, ℕ, ◌++◌, ◌∙◌, ◌≡◌}
-use Rattle.std.specs.Prelude.{Option}
+use Rattle.std.specs.Prelude.{Bool, Option}
 use Rattle.std.proofs.KnownBytes.{Appends-nil}
 use Rattle.wire_grammar.proofs.Limited.{front_says, limited_front}
 use Rattle.wire_grammar.specs.Spells.{IsFront}
@@ -8,7 +8,7 @@ use Rattle.resp_wire.specs.Stands.{Stands}
 use Rattle.desks.specs.Deeds.{Deed}
 use Rattle.desks.specs.declared.desk.DeskFault.{DeskFault}
 use Rattle.sessions.specs.Hearings.{HasHeard}
-use Rattle.sessions.specs.LinkViews.{LinkView}
+use Rattle.net_links.specs.LinkViews.{LinkView}
 use Rattle.sessions.specs.SessionEnds.{HasSession}
 use Rattle.sessions.specs.Talkings.{InSession}
 use Rattle.sessions.specs.declared.ends.Why.TheVariants.{Memory, Turns}
@@ -46,8 +46,8 @@ module _ {D : Type 0} (goes : D → List Deed → D → Type 0) (stays : (s : D)
   }
 
   -- there was no memory for it
-  pub not_begun : (fault : Option DeskFault) (l : LinkView) (turns : ℕ) → HasSession goes gives fault first first l l turns 0 Memory
-  not_begun fault l turns = record {
+  pub not_begun : (shared : Bool) (fault : Option DeskFault) (l : LinkView) (turns : ℕ) → HasSession goes gives shared fault first first l l turns 0 Memory
+  not_begun shared fault l turns = record {
     stream = [];
     sent = [];
     receives = 0;
@@ -61,9 +61,9 @@ module _ {D : Type 0} (goes : D → List Deed → D → Type 0) (stays : (s : D)
   }
 
 -- the turns are over
-pub turns_over : {D : Type 0} (goes : D → List Deed → D → Type 0) (gives : ℕ → Type 0) (fault : Option DeskFault) (first now : D) (old new : LinkView) (t : Talking) (n turns : ℕ) → InSession goes gives first now old new t n → n ≡ turns
-    → HasSession goes gives fault first now old new turns t.commands Turns
-turns_over goes gives fault first now old new t n turns s full = record {
+pub turns_over : {D : Type 0} (goes : D → List Deed → D → Type 0) (gives : ℕ → Type 0) (shared : Bool) (fault : Option DeskFault) (first now : D) (old new : LinkView) (t : Talking) (n turns : ℕ) → InSession goes gives first now old new t n → n ≡ turns
+    → HasSession goes gives shared fault first now old new turns t.commands Turns
+turns_over goes gives shared fault first now old new t n turns s full = record {
   stream = s.stream;
   sent = s.sent;
   receives = n;
@@ -73,5 +73,5 @@ turns_over goes gives fault first now old new t n turns s full = record {
   few = omega (arith, full);
   later_faults = omega (arith, s.same_faults);
   later_ends = omega (arith, s.same_ends);
-  ends = (s.talks.talks.heard, sym (append-nil s.sent) ∙ ap (λ l. s.sent ++ l) (sym s.empty) ∙ s.talks.talks.answered, s.talks.front, full);
+  ends = (s.talks.talks.heard, sym (append-nil s.sent) ∙ ap (λ l. s.sent ++ l) (sym s.empty) ∙ s.talks.talks.answered, s.talks.front, full, record { no_fault = s.same_faults; no_end = s.same_ends });
 }

@@ -3,4 +3,5 @@ pub mod Begun
 pub mod CommandsFit
 pub mod Contents
 pub mod Mapped
+pub mod Refused
 pub mod Taken

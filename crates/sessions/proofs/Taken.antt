@@ -1,6 +1,6 @@
 -- A session goes on by one receive.
 use Rattle.std.proofs.Common.{List, [], append-nil, append_assoc, ap, arith, inl, inr, subst, suc, sym, take, zero, ℕ, ◌++◌, ◌<◌, ◌∙◌, ◌≡◌, ◌≤◌}
-use Rattle.std.specs.Prelude.{Err, None, Ok, Option, Result, Some, ⊤}
+use Rattle.std.specs.Prelude.{Bool, Err, None, Ok, Option, Result, Some, ⊤}
 use Rattle.std.specs.Io.KnownBytes.{Appends, Keeps}
 use Rattle.std.proofs.KnownBytes.{Appends-kept, Appends-nil, Appends-trans}
 use Rattle.links.specs.Causes.{Rose}
@@ -13,9 +13,9 @@ use Rattle.resp_wire.specs.declared.decoder.Decoder.{Decoder}
 use Rattle.desks.specs.Deeds.{Deed}
 use Rattle.desks.specs.declared.desk.DeskFault.{DeskFault}
 use Rattle.sessions.specs.Hearings.{EndsTalk, HasHeard, WritesAll, WritesFront}
-use Rattle.sessions.specs.LinkViews.{LinkView, raised_by}
+use Rattle.net_links.specs.LinkViews.{LinkView, raised_by}
 use Rattle.sessions.specs.Sendings.{SendsFront}
-use Rattle.sessions.specs.SessionEnds.{EndsSession, HasSession}
+use Rattle.sessions.specs.SessionEnds.{EndsSession, HasSession, IsCalm}
 use Rattle.sessions.specs.Talkings.{AnswersAll, HasFlushed, HasTaken, HasTurned, InSession, IsCut, IsEndWhy, Talks}
 use Rattle.sessions.specs.declared.ends.Why.{Why}
 use Rattle.sessions.specs.declared.ends.Why.TheVariants.{Closed, Ended, Full, Link, Memory, NotWords, Turns, Wire}
@@ -58,12 +58,12 @@ module _ {D : Type 0} (goes : D → List Deed → D → Type 0) (gives : ℕ →
   fed d2 on = record { heard = heard_fed; stands = on s.heard.from s.heard.rest s.stands; answered = s.answered }
 
   -- and there was no memory for them
-  pub unfed : (fault : Option DeskFault) (was : Option (List ℕ)) → (more : List ℕ) × Appends was was more × EndsTalk goes gives fault first now (stream ++ piece) (sent ++ more) t.commands Memory
-  unfed fault was = ([], Appends-nil was, (heard_fed, (t.out.items, sym s.answered ∙ ap (λ l. l ++ t.out.items) (sym (append-nil sent)))))
+  pub unfed : (shared : Bool) (fault : Option DeskFault) (was : Option (List ℕ)) → (more : List ℕ) × Appends was was more × EndsTalk goes gives shared fault first now (stream ++ piece) (sent ++ more) t.commands Memory
+  unfed shared fault was = ([], Appends-nil was, (heard_fed, (t.out.items, sym s.answered ∙ ap (λ l. l ++ t.out.items) (sym (append-nil sent)))))
 
-module _ {D : Type 0} (goes : D → List Deed → D → Type 0) (gives : ℕ → Type 0) (fault : Option DeskFault) (first now : D) (stream sent : List ℕ) (t : Talking) where
+module _ {D : Type 0} (goes : D → List Deed → D → Type 0) (gives : ℕ → Type 0) (shared : Bool) (fault : Option DeskFault) (first now : D) (stream sent : List ℕ) (t : Talking) where
   -- what was asked, whatever the answer is
-  front_all : (answered : Result ⊤ Why) → AnswersAll goes gives fault first now stream sent t answered → (h : HasHeard goes gives first now stream t.commands) × WritesFront h.deeds (sent ++ t.out.items)
+  front_all : (answered : Result ⊤ Why) → AnswersAll goes gives shared fault first now stream sent t answered → (h : HasHeard goes gives first now stream t.commands) × WritesFront h.deeds (sent ++ t.out.items)
   front_all (Ok done) a = (a.talks.heard, ([], sym (append-nil (sent ++ t.out.items) ∙ a.talks.answered)))
   front_all (Err (Wire kind place)) (h, all, wrong) = (h, ([], sym (append-nil (sent ++ t.out.items) ∙ all)))
   front_all (Err NotWords) (h, all, none) = (h, ([], sym (append-nil (sent ++ t.out.items) ∙ all)))
@@ -76,11 +76,11 @@ module _ {D : Type 0} (goes : D → List Deed → D → Type 0) (gives : ℕ →
 
   module _ (t2 : Talking) (was is : Option (List ℕ)) (faults faults2 : ℕ) where
     -- a front was sent
-    cut_at : (result : Result ⊤ Why) → (h : HasHeard goes gives first now stream t.commands) × WritesFront h.deeds (sent ++ t.out.items) → SendsFront was is t.out.items → IsCut faults faults2 result → HasTaken goes gives fault first now stream sent was is faults faults2 (record t { out = t2.out }) result
+    cut_at : (result : Result ⊤ Why) → (h : HasHeard goes gives first now stream t.commands) × WritesFront h.deeds (sent ++ t.out.items) → SendsFront was is t.out.items → IsCut faults faults2 result → HasTaken goes gives shared fault first now stream sent was is faults faults2 (record t { out = t2.out }) result
     cut_at (Ok done) a b never = absurd never
-    cut_at (Err Link) (h, (more, e)) (front, rest, split, sends) rose =
+    cut_at (Err Link) (h, (more, e)) (front, rest, split, some, sends) rose =
         (front, sends, (h, (rest ++ more, e ∙ ap (λ l. (sent ++ l) ++ more) split ∙ ap (λ l. l ++ more) (sym (append_assoc sent front rest)) ∙ append_assoc (sent ++ front) rest more), rose))
-    cut_at (Err Memory) (h, (more, e)) (front, rest, split, sends) free =
+    cut_at (Err Memory) (h, (more, e)) (front, rest, split, some, sends) free =
         (front, sends, (h, (rest ++ more, e ∙ ap (λ l. (sent ++ l) ++ more) split ∙ ap (λ l. l ++ more) (sym (append_assoc sent front rest)) ∙ append_assoc (sent ++ front) rest more)))
     cut_at (Err Ended) a b never = absurd never
     cut_at (Err Turns) a b never = absurd never
@@ -90,7 +90,7 @@ module _ {D : Type 0} (goes : D → List Deed → D → Type 0) (gives : ℕ →
     cut_at (Err Closed) a b never = absurd never
 
     -- all was sent
-    sent_all : (answered : Result ⊤ Why) → AnswersAll goes gives fault first now stream sent t answered → Appends was is t.out.items → t2.out.items ≡ [] → faults2 ≡ faults → HasTaken goes gives fault first now stream sent was is faults faults2 (record t { out = t2.out }) answered
+    sent_all : (answered : Result ⊤ Why) → AnswersAll goes gives shared fault first now stream sent t answered → Appends was is t.out.items → t2.out.items ≡ [] → faults2 ≡ faults → HasTaken goes gives shared fault first now stream sent was is faults faults2 (record t { out = t2.out }) answered
     sent_all (Ok done) a sends none same = (
       t.out.items,
       sends,
@@ -101,26 +101,26 @@ module _ {D : Type 0} (goes : D → List Deed → D → Type 0) (gives : ℕ →
       none,
       same,
     )
-    sent_all (Err (Wire kind place)) a sends none same = (t.out.items, sends, a)
-    sent_all (Err NotWords) a sends none same = (t.out.items, sends, a)
-    sent_all (Err (Full entries bytes)) a sends none same = (t.out.items, sends, a)
-    sent_all (Err Closed) a sends none same = (t.out.items, sends, a)
+    sent_all (Err (Wire kind place)) a sends none same = (t.out.items, sends, (a, same))
+    sent_all (Err NotWords) a sends none same = (t.out.items, sends, (a, same))
+    sent_all (Err (Full entries bytes)) a sends none same = (t.out.items, sends, (a, same))
+    sent_all (Err Closed) a sends none same = (t.out.items, sends, (a, same))
     sent_all (Err Memory) a sends none same = (t.out.items, sends, a)
     sent_all (Err Ended) a sends none same = absurd a
     sent_all (Err Turns) a sends none same = absurd a
     sent_all (Err Link) a sends none same = absurd a
 
-    pub flushed : (answered result : Result ⊤ Why) → AnswersAll goes gives fault first now stream sent t answered → HasFlushed was is faults faults2 t.out.items t2.out.items answered result → HasTaken goes gives fault first now stream sent was is faults faults2 (record t { out = t2.out }) result
-    flushed answered result a (inl (same, sends, none, kept)) = subst (λ r. HasTaken goes gives fault first now stream sent was is faults faults2 (record t { out = t2.out }) r) (sym same) (sent_all answered a sends none kept)
+    pub flushed : (answered result : Result ⊤ Why) → AnswersAll goes gives shared fault first now stream sent t answered → HasFlushed was is faults faults2 t.out.items t2.out.items answered result → HasTaken goes gives shared fault first now stream sent was is faults faults2 (record t { out = t2.out }) result
+    flushed answered result a (inl (same, sends, none, kept)) = subst (λ r. HasTaken goes gives shared fault first now stream sent was is faults faults2 (record t { out = t2.out }) r) (sym same) (sent_all answered a sends none kept)
     flushed answered result a (inr (cut, sends)) = cut_at result (front_all answered a) sends cut
 
-module _ {D : Type 0} (goes : D → List Deed → D → Type 0) (gives : ℕ → Type 0) (fault : Option DeskFault) (first now : D) (old mid new : LinkView) (t : Talking) (n : ℕ) (s : InSession goes gives first now old mid t n) where
+module _ {D : Type 0} (goes : D → List Deed → D → Type 0) (gives : ℕ → Type 0) (shared : Bool) (fault : Option DeskFault) (first now : D) (old mid new : LinkView) (t : Talking) (n : ℕ) (s : InSession goes gives first now old mid t n) where
   whole : WritesAll s.talks.talks.heard.deeds s.sent
   whole = sym (append-nil s.sent) ∙ ap (λ l. s.sent ++ l) (sym s.empty) ∙ s.talks.talks.answered
 
   -- the link failed to give more
   pub not_received : Keeps mid.received new.received → Keeps mid.sent new.sent → mid.faults ≤ new.faults → Rose mid.faults new.faults → new.ends ≡ mid.ends → new.gains ≡ mid.gains
-      → (turns : ℕ) → suc n ≤ turns → HasSession goes gives fault first now old new turns t.commands Link
+      → (turns : ℕ) → suc n ≤ turns → HasSession goes gives shared fault first now old new turns t.commands Link
   not_received received sent later rose ends gains turns few = record {
     stream = s.stream;
     sent = s.sent;
@@ -131,12 +131,12 @@ module _ {D : Type 0} (goes : D → List Deed → D → Type 0) (gives : ℕ →
     few = omega (arith, few);
     later_faults = omega (arith, s.same_faults, later);
     later_ends = omega (arith, s.same_ends, ends);
-    ends = (s.talks.talks.heard, ([], sym (append-nil s.sent ∙ whole)), inl (subst (λ (i : ℕ). Rose i new.faults) s.same_faults rose));
+    ends = (s.talks.talks.heard, ([], sym (append-nil s.sent ∙ whole)), inl (subst (λ (i : ℕ). Rose i new.faults) s.same_faults rose, ends ∙ s.same_ends));
   }
 
   -- the other side ended
   module _ (received : Keeps mid.received new.received) (sent : Keeps mid.sent new.sent) (faults : new.faults ≡ mid.faults) (later : mid.ends ≤ new.ends) (rose : Rose mid.ends new.ends) (gains : new.gains ≡ mid.gains) where
-    ended_so : (why : Why) → (turns : ℕ) → suc n ≤ turns → EndsSession goes gives fault first now old new turns n s.stream s.sent t.commands why → HasSession goes gives fault first now old new turns t.commands why
+    ended_so : (why : Why) → (turns : ℕ) → suc n ≤ turns → EndsSession goes gives shared fault first now old new turns n s.stream s.sent t.commands why → HasSession goes gives shared fault first now old new turns t.commands why
     ended_so why turns few ends = record {
       stream = s.stream;
       sent = s.sent;
@@ -153,9 +153,9 @@ module _ {D : Type 0} (goes : D → List Deed → D → Type 0) (gives : ℕ →
     risen : Rose old.ends new.ends
     risen = subst (λ (i : ℕ). Rose i new.ends) s.same_ends rose
 
-    pub none_received : (why : Why) → IsEndWhy s.talks.talks.heard.rest why → (turns : ℕ) → suc n ≤ turns → HasSession goes gives fault first now old new turns t.commands why
-    none_received Ended none turns few = ended_so Ended turns few (s.talks.talks.heard, whole, none, risen)
-    none_received Link some turns few = ended_so Link turns few (s.talks.talks.heard, ([], sym (append-nil s.sent ∙ whole)), inr (risen, s.talks.front, some))
+    pub none_received : (why : Why) → IsEndWhy s.talks.talks.heard.rest why → (turns : ℕ) → suc n ≤ turns → HasSession goes gives shared fault first now old new turns t.commands why
+    none_received Ended none turns few = ended_so Ended turns few (s.talks.talks.heard, whole, none, risen, faults ∙ s.same_faults, few)
+    none_received Link some turns few = ended_so Link turns few (s.talks.talks.heard, ([], sym (append-nil s.sent ∙ whole)), inr (risen, faults ∙ s.same_faults, s.talks.front, some))
     none_received Turns never turns few = absurd never
     none_received (Wire kind place) never turns few = absurd never
     none_received NotWords never turns few = absurd never
@@ -164,7 +164,7 @@ module _ {D : Type 0} (goes : D → List Deed → D → Type 0) (gives : ℕ →
     none_received Memory never turns few = absurd never
 
 -- a piece came and was taken
-module _ {D : Type 0} (goes : D → List Deed → D → Type 0) (gives : ℕ → Type 0) (fault : Option DeskFault) (first now next : D) (old mid got new : LinkView) (t t2 : Talking) (n : ℕ) (s : InSession goes gives first now old mid t n) (piece : List ℕ)
+module _ {D : Type 0} (goes : D → List Deed → D → Type 0) (gives : ℕ → Type 0) (shared : Bool) (fault : Option DeskFault) (first now next : D) (old mid got new : LinkView) (t t2 : Talking) (n : ℕ) (s : InSession goes gives first now old mid t n) (piece : List ℕ)
     (received : Appends mid.received got.received piece) (unsent : Keeps mid.sent got.sent) (unfailed : got.faults ≡ mid.faults) (unended : got.ends ≡ mid.ends) (gained : got.gains ≡ raised mid.gains)
     (kept : Keeps got.received new.received) (later : got.faults ≤ new.faults) (same_ends : new.ends ≡ got.ends) (same_gains : new.gains ≡ got.gains) where
   came : Appends old.received new.received (s.stream ++ piece)
@@ -176,7 +176,7 @@ module _ {D : Type 0} (goes : D → List Deed → D → Type 0) (gives : ℕ →
   counts : new.gains ≡ raised_by (suc n) old.gains
   counts = same_gains ∙ gained ∙ ap raised s.gained
 
-  ended_taken : (why : Why) (turns : ℕ) → suc n ≤ turns → (more : List ℕ) → Appends got.sent new.sent more → EndsSession goes gives fault first next old new turns (suc n) (s.stream ++ piece) (s.sent ++ more) t2.commands why → HasSession goes gives fault first next old new turns t2.commands why
+  ended_taken : (why : Why) (turns : ℕ) → suc n ≤ turns → (more : List ℕ) → Appends got.sent new.sent more → EndsSession goes gives shared fault first next old new turns (suc n) (s.stream ++ piece) (s.sent ++ more) t2.commands why → HasSession goes gives shared fault first next old new turns t2.commands why
   ended_taken why turns few more sends ends = record {
     stream = s.stream ++ piece;
     sent = s.sent ++ more;
@@ -190,7 +190,10 @@ module _ {D : Type 0} (goes : D → List Deed → D → Type 0) (gives : ℕ →
     ends = ends;
   }
 
-  pub taken : (result : Result ⊤ Why) → HasTaken goes gives fault first next (s.stream ++ piece) s.sent got.sent new.sent got.faults new.faults t2 result → HasTurned goes gives fault first next old new t2 n result
+  calm : new.faults ≡ got.faults → IsCalm old new
+  calm same = record { no_fault = same ∙ unfailed ∙ s.same_faults; no_end = same_ends ∙ unended ∙ s.same_ends }
+
+  pub taken : (result : Result ⊤ Why) → HasTaken goes gives shared fault first next (s.stream ++ piece) s.sent got.sent new.sent got.faults new.faults t2 result → HasTurned goes gives shared fault first next old new t2 n result
   taken (Ok done) (more, sends, talks, none, same) = record {
     stream = s.stream ++ piece;
     sent = s.sent ++ more;
@@ -202,11 +205,11 @@ module _ {D : Type 0} (goes : D → List Deed → D → Type 0) (gives : ℕ →
     same_faults = same ∙ unfailed ∙ s.same_faults;
     same_ends = same_ends ∙ unended ∙ s.same_ends;
   }
-  taken (Err Link) (more, sends, (h, front, rose)) = λ turns few. ended_taken Link turns few more sends (h, front, inl (subst (λ (i : ℕ). Rose i new.faults) (unfailed ∙ s.same_faults) rose))
-  taken (Err (Wire kind place)) (more, sends, ends) = λ turns few. ended_taken (Wire kind place) turns few more sends ends
-  taken (Err NotWords) (more, sends, ends) = λ turns few. ended_taken NotWords turns few more sends ends
-  taken (Err (Full entries bytes)) (more, sends, ends) = λ turns few. ended_taken (Full entries bytes) turns few more sends ends
-  taken (Err Closed) (more, sends, ends) = λ turns few. ended_taken Closed turns few more sends ends
+  taken (Err Link) (more, sends, (h, front, rose)) = λ turns few. ended_taken Link turns few more sends (h, front, inl (subst (λ (i : ℕ). Rose i new.faults) (unfailed ∙ s.same_faults) rose, same_ends ∙ unended ∙ s.same_ends))
+  taken (Err (Wire kind place)) (more, sends, (ends, same)) = λ turns few. ended_taken (Wire kind place) turns few more sends (ends, calm same)
+  taken (Err NotWords) (more, sends, (ends, same)) = λ turns few. ended_taken NotWords turns few more sends (ends, calm same)
+  taken (Err (Full entries bytes)) (more, sends, (ends, same)) = λ turns few. ended_taken (Full entries bytes) turns few more sends (ends, calm same)
+  taken (Err Closed) (more, sends, (ends, same)) = λ turns few. ended_taken Closed turns few more sends (ends, calm same)
   taken (Err Memory) (more, sends, ends) = λ turns few. ended_taken Memory turns few more sends ends
   taken (Err Ended) (more, sends, never) = absurd never
   taken (Err Turns) (more, sends, never) = absurd never

@@ -1,5 +1,5 @@
 -- What one value that was received leads to.
-use Rattle.std.specs.Prelude.{Err, List, None, Ok, Option, Result, Some, [], ⊤, ℕ, ◌++◌, ◌∷◌, ◌≡◌, ◌⊎◌}
+use Rattle.std.specs.Prelude.{Bool, Err, List, None, Ok, Option, Result, Some, [], true, ⊤, ℕ, ◌++◌, ◌∷◌, ◌≡◌, ◌⊎◌}
 use Rattle.wire_values.specs.declared.value.Value.{Value}
 use Rattle.links.specs.Counts.{raised}
 use Rattle.store_model.specs.Words.{Words}
@@ -12,16 +12,26 @@ use Rattle.sessions.specs.Talks.{IsClocked, reply_bytes}
 use Rattle.sessions.specs.declared.ends.Why.{Why}
 use Rattle.sessions.specs.declared.ends.Why.TheVariants.{Closed, Ended, Full, Link, Memory, NotWords, Turns, Wire}
 
--- a desk that shows this first fault ends a session so: a full and a closed history say so; all else is want of memory
-abbrev pub IsDeskWhy : Option DeskFault → Why → Type 0
-IsDeskWhy fault (Full entries bytes) = fault ≡ Some (desk.Full entries bytes)
-IsDeskWhy fault Closed = fault ≡ Some desk.Closed
-IsDeskWhy fault Memory = Unit {0}
-IsDeskWhy fault Ended = ⊥
-IsDeskWhy fault Turns = ⊥
-IsDeskWhy fault (Wire kind place) = ⊥
-IsDeskWhy fault NotWords = ⊥
-IsDeskWhy fault Link = ⊥
+-- a desk that shows this first fault ends a session so: a full and a closed history, where it is shared, say so; want of memory does
+abbrev pub IsDeskWhy : Bool → Option DeskFault → Why → Type 0
+IsDeskWhy shared fault (Full entries bytes) = (shared ≡ true) × (fault ≡ Some (desk.Full entries bytes))
+IsDeskWhy shared fault Closed = (shared ≡ true) × (fault ≡ Some desk.Closed)
+IsDeskWhy shared fault Memory = fault ≡ Some desk.Memory
+IsDeskWhy shared fault Ended = ⊥
+IsDeskWhy shared fault Turns = ⊥
+IsDeskWhy shared fault (Wire kind place) = ⊥
+IsDeskWhy shared fault NotWords = ⊥
+IsDeskWhy shared fault Link = ⊥
+
+-- an open desk that isn't remote answers this fault: want of memory, or a full or closed history where it is shared
+abbrev pub IsNearFault : Bool → DeskFault → Type 0
+IsNearFault shared desk.Link = ⊥
+IsNearFault shared (desk.Wire kind place) = ⊥
+IsNearFault shared desk.Flood = ⊥
+IsNearFault shared (desk.Full entries bytes) = shared ≡ true
+IsNearFault shared desk.Closed = shared ≡ true
+IsNearFault shared desk.Ended = ⊥
+IsNearFault shared desk.Memory = Unit {0}
 
 -- nothing was asked, and nothing appended
 pub record IsSame {D : Type 0} (goes : D → List Deed → D → Type 0) (old new : D) (out out2 : List ℕ) (count count2 : ℕ) : Type 0 where
@@ -37,19 +47,19 @@ pub record HasDone {D : Type 0} (goes : D → List Deed → D → Type 0) (gives
   pub counted : count2 ≡ raised count
 
 -- a command was asked, and its reply's bytes appended; or the desk refused it; or memory was wanting, before it was asked or after, when no bytes are left
-abbrev pub HasAnsweredWords : {D : Type 0} → (D → List Deed → D → Type 0) → (ℕ → Type 0) → Option DeskFault → D → D → Words → List ℕ → List ℕ → ℕ → ℕ → Result ⊤ Why → Type 0
-HasAnsweredWords goes gives fault old new words out out2 count count2 (Ok done) = (reply : Reply) × HasDone goes gives old new words count count2 reply × (out2 ≡ out ++ reply_bytes reply)
-HasAnsweredWords goes gives fault old new words out out2 count count2 (Err (Full entries bytes)) = IsSame goes old new out out2 count count2 × IsDeskWhy fault (Full entries bytes)
-HasAnsweredWords goes gives fault old new words out out2 count count2 (Err Closed) = IsSame goes old new out out2 count count2 × IsDeskWhy fault Closed
-HasAnsweredWords goes gives fault old new words out out2 count count2 (Err Memory) = IsSame goes old new out out2 count count2 ⊎ ((reply : Reply) × HasDone goes gives old new words count count2 reply × (out2 ≡ []))
-HasAnsweredWords goes gives fault old new words out out2 count count2 (Err Ended) = ⊥
-HasAnsweredWords goes gives fault old new words out out2 count count2 (Err Turns) = ⊥
-HasAnsweredWords goes gives fault old new words out out2 count count2 (Err (Wire kind place)) = ⊥
-HasAnsweredWords goes gives fault old new words out out2 count count2 (Err NotWords) = ⊥
-HasAnsweredWords goes gives fault old new words out out2 count count2 (Err Link) = ⊥
+abbrev pub HasAnsweredWords : {D : Type 0} → (D → List Deed → D → Type 0) → (ℕ → Type 0) → Bool → Option DeskFault → D → D → Words → List ℕ → List ℕ → ℕ → ℕ → Result ⊤ Why → Type 0
+HasAnsweredWords goes gives shared fault old new words out out2 count count2 (Ok done) = (reply : Reply) × HasDone goes gives old new words count count2 reply × (out2 ≡ out ++ reply_bytes reply)
+HasAnsweredWords goes gives shared fault old new words out out2 count count2 (Err (Full entries bytes)) = IsSame goes old new out out2 count count2 × IsDeskWhy shared fault (Full entries bytes)
+HasAnsweredWords goes gives shared fault old new words out out2 count count2 (Err Closed) = IsSame goes old new out out2 count count2 × IsDeskWhy shared fault Closed
+HasAnsweredWords goes gives shared fault old new words out out2 count count2 (Err Memory) = (IsSame goes old new out out2 count count2 × IsDeskWhy shared fault Memory) ⊎ ((reply : Reply) × HasDone goes gives old new words count count2 reply × (out2 ≡ []))
+HasAnsweredWords goes gives shared fault old new words out out2 count count2 (Err Ended) = ⊥
+HasAnsweredWords goes gives shared fault old new words out out2 count count2 (Err Turns) = ⊥
+HasAnsweredWords goes gives shared fault old new words out out2 count count2 (Err (Wire kind place)) = ⊥
+HasAnsweredWords goes gives shared fault old new words out out2 count count2 (Err NotWords) = ⊥
+HasAnsweredWords goes gives shared fault old new words out out2 count count2 (Err Link) = ⊥
 
 -- a value's words were asked so; NotWords comes exactly where it spells none
-abbrev pub HasAnswered : {D : Type 0} → (D → List Deed → D → Type 0) → (ℕ → Type 0) → Option DeskFault → D → D → Value → List ℕ → List ℕ → ℕ → ℕ → Result ⊤ Why → Type 0
-HasAnswered goes gives fault old new v out out2 count count2 (Err NotWords) = (command_in v ≡ None) × IsSame goes old new out out2 count count2
-HasAnswered goes gives fault old new v out out2 count count2 (Err Memory) = IsSame goes old new out out2 count count2 ⊎ ((words : Words) × (command_in v ≡ Some words) × HasAnsweredWords goes gives fault old new words out out2 count count2 (Err Memory))
-HasAnswered goes gives fault old new v out out2 count count2 result = (words : Words) × (command_in v ≡ Some words) × HasAnsweredWords goes gives fault old new words out out2 count count2 result
+abbrev pub HasAnswered : {D : Type 0} → (D → List Deed → D → Type 0) → (ℕ → Type 0) → Bool → Option DeskFault → D → D → Value → List ℕ → List ℕ → ℕ → ℕ → Result ⊤ Why → Type 0
+HasAnswered goes gives shared fault old new v out out2 count count2 (Err NotWords) = (command_in v ≡ None) × IsSame goes old new out out2 count count2
+HasAnswered goes gives shared fault old new v out out2 count count2 (Err Memory) = IsSame goes old new out out2 count count2 ⊎ ((words : Words) × (command_in v ≡ Some words) × HasAnsweredWords goes gives shared fault old new words out out2 count count2 (Err Memory))
+HasAnswered goes gives shared fault old new v out out2 count count2 result = (words : Words) × (command_in v ≡ Some words) × HasAnsweredWords goes gives shared fault old new words out out2 count count2 result

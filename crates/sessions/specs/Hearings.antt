@@ -1,5 +1,5 @@
 -- What was asked of the bytes that came, what is written of it, and why nothing more is.
-use Rattle.std.specs.Prelude.{List, None, Option, Some, length, ℕ, ◌++◌, ◌≡◌}
+use Rattle.std.specs.Prelude.{Bool, List, None, Option, Some, length, ℕ, ◌++◌, ◌≡◌}
 use Rattle.wire_values.specs.declared.value.Value.{Value}
 use Rattle.wire_grammar.specs.Spells.{Spells}
 use Rattle.wire_grammar.specs.Streams.{Leads}
@@ -45,12 +45,12 @@ abbrev pub BeginsCommand : List ℕ → Type 0
 BeginsCommand bytes = (v : Value) × (words : Words) × BeginsWith v bytes × (command_in v ≡ Some words)
 
 -- why no further value is asked: what follows those that were is a fault, or no command, or a command that the desk refused; or memory was wanting
-abbrev pub EndsTalk : {D : Type 0} → (D → List Deed → D → Type 0) → (ℕ → Type 0) → Option DeskFault → D → D → List ℕ → List ℕ → ℕ → Why → Type 0
-EndsTalk goes gives fault first now stream written count (Wire kind place) = (h : HasHeard goes gives first now stream count) × WritesAll h.deeds written × IsFault h.from h.rest kind place
-EndsTalk goes gives fault first now stream written count NotWords = (h : HasHeard goes gives first now stream count) × WritesAll h.deeds written × BeginsNoCommand h.rest
-EndsTalk goes gives fault first now stream written count (Full entries bytes) = (h : HasHeard goes gives first now stream count) × WritesAll h.deeds written × BeginsCommand h.rest × IsDeskWhy fault (Full entries bytes)
-EndsTalk goes gives fault first now stream written count Closed = (h : HasHeard goes gives first now stream count) × WritesAll h.deeds written × BeginsCommand h.rest × IsDeskWhy fault Closed
-EndsTalk goes gives fault first now stream written count Memory = (h : HasHeard goes gives first now stream count) × WritesFront h.deeds written
-EndsTalk goes gives fault first now stream written count Ended = ⊥
-EndsTalk goes gives fault first now stream written count Turns = ⊥
-EndsTalk goes gives fault first now stream written count Link = ⊥
+abbrev pub EndsTalk : {D : Type 0} → (D → List Deed → D → Type 0) → (ℕ → Type 0) → Bool → Option DeskFault → D → D → List ℕ → List ℕ → ℕ → Why → Type 0
+EndsTalk goes gives shared fault first now stream written count (Wire kind place) = (h : HasHeard goes gives first now stream count) × WritesAll h.deeds written × IsFault h.from h.rest kind place
+EndsTalk goes gives shared fault first now stream written count NotWords = (h : HasHeard goes gives first now stream count) × WritesAll h.deeds written × BeginsNoCommand h.rest
+EndsTalk goes gives shared fault first now stream written count (Full entries bytes) = (h : HasHeard goes gives first now stream count) × WritesAll h.deeds written × BeginsCommand h.rest × IsDeskWhy shared fault (Full entries bytes)
+EndsTalk goes gives shared fault first now stream written count Closed = (h : HasHeard goes gives first now stream count) × WritesAll h.deeds written × BeginsCommand h.rest × IsDeskWhy shared fault Closed
+EndsTalk goes gives shared fault first now stream written count Memory = (h : HasHeard goes gives first now stream count) × WritesFront h.deeds written
+EndsTalk goes gives shared fault first now stream written count Ended = ⊥
+EndsTalk goes gives shared fault first now stream written count Turns = ⊥
+EndsTalk goes gives shared fault first now stream written count Link = ⊥

@@ -2,7 +2,6 @@ pub mod Askings
 pub mod Calls
 pub mod CommandValues
 pub mod Hearings
-pub mod LinkViews
 pub mod Sendings
 pub mod SessionEnds
 pub mod Talkings

@@ -1,32 +1,38 @@
 -- How a session ends.
 use Rattle.std.specs.Io.KnownBytes.{Appends}
-use Rattle.std.specs.Prelude.{List, Option, [], length, ℕ, ◌<◌, ◌≡◌, ◌≤◌, ◌⊎◌}
+use Rattle.std.specs.Prelude.{Bool, List, Option, [], length, ℕ, ◌<◌, ◌≡◌, ◌≤◌, ◌⊎◌}
 use Rattle.links.specs.Causes.{Rose}
 use Rattle.wire_grammar.specs.Spells.{IsFront}
 use Rattle.desks.specs.Deeds.{Deed}
 use Rattle.desks.specs.declared.desk.DeskFault.{DeskFault}
 use Rattle.sessions.specs.Hearings.{EndsTalk, HasHeard, WritesAll, WritesFront}
-use Rattle.sessions.specs.LinkViews.{LinkView, raised_by}
+use Rattle.net_links.specs.LinkViews.{LinkView, raised_by}
 use Rattle.sessions.specs.declared.ends.Why.{Why}
 use Rattle.sessions.specs.declared.ends.Why.TheVariants.{Closed, Ended, Full, Link, Memory, NotWords, Turns, Wire}
 
--- of what came the link failed to take an answer or to give more, or it ended within a value
-abbrev pub IsLinkCause : LinkView → LinkView → List ℕ → Type 0
-IsLinkCause old new rest = Rose old.faults new.faults ⊎ (Rose old.ends new.ends × IsFront rest × (0 < length rest))
+-- a link didn't fail and didn't end
+pub record IsCalm (old new : LinkView) : Type 0 where
+  pub no_fault : new.faults ≡ old.faults
+  pub no_end : new.ends ≡ old.ends
 
--- why a session ends, and what was written then: between two values the other side ended; or the turns are over; or the link failed or ended within a value; or no more is asked of what came
-abbrev pub EndsSession : {D : Type 0} → (D → List Deed → D → Type 0) → (ℕ → Type 0) → Option DeskFault → D → D → LinkView → LinkView → ℕ → ℕ → List ℕ → List ℕ → ℕ → Why → Type 0
-EndsSession goes gives fault first now old new turns receives stream sent count Ended = (h : HasHeard goes gives first now stream count) × WritesAll h.deeds sent × (h.rest ≡ []) × Rose old.ends new.ends
-EndsSession goes gives fault first now old new turns receives stream sent count Turns = (h : HasHeard goes gives first now stream count) × WritesAll h.deeds sent × IsFront h.rest × (receives ≡ turns)
-EndsSession goes gives fault first now old new turns receives stream sent count Link = (h : HasHeard goes gives first now stream count) × WritesFront h.deeds sent × IsLinkCause old new h.rest
-EndsSession goes gives fault first now old new turns receives stream sent count (Wire kind place) = EndsTalk goes gives fault first now stream sent count (Wire kind place)
-EndsSession goes gives fault first now old new turns receives stream sent count NotWords = EndsTalk goes gives fault first now stream sent count NotWords
-EndsSession goes gives fault first now old new turns receives stream sent count (Full entries bytes) = EndsTalk goes gives fault first now stream sent count (Full entries bytes)
-EndsSession goes gives fault first now old new turns receives stream sent count Closed = EndsTalk goes gives fault first now stream sent count Closed
-EndsSession goes gives fault first now old new turns receives stream sent count Memory = EndsTalk goes gives fault first now stream sent count Memory
+-- the link failed to take an answer or to give more, and didn't end; or it ended within a value, and didn't fail
+abbrev pub IsLinkCause : LinkView → LinkView → List ℕ → Type 0
+IsLinkCause old new rest = (Rose old.faults new.faults × (new.ends ≡ old.ends)) ⊎ (Rose old.ends new.ends × (new.faults ≡ old.faults) × IsFront rest × (0 < length rest))
+
+-- why a session ends, and what was written then: between two values the other side ended, before the turns were over; or the turns are over; or the link failed or ended within a value; or no more is asked of what came
+abbrev pub EndsSession : {D : Type 0} → (D → List Deed → D → Type 0) → (ℕ → Type 0) → Bool → Option DeskFault → D → D → LinkView → LinkView → ℕ → ℕ → List ℕ → List ℕ → ℕ → Why → Type 0
+EndsSession goes gives shared fault first now old new turns receives stream sent count Ended =
+    (h : HasHeard goes gives first now stream count) × WritesAll h.deeds sent × (h.rest ≡ []) × Rose old.ends new.ends × (new.faults ≡ old.faults) × (receives < turns)
+EndsSession goes gives shared fault first now old new turns receives stream sent count Turns = (h : HasHeard goes gives first now stream count) × WritesAll h.deeds sent × IsFront h.rest × (receives ≡ turns) × IsCalm old new
+EndsSession goes gives shared fault first now old new turns receives stream sent count Link = (h : HasHeard goes gives first now stream count) × WritesFront h.deeds sent × IsLinkCause old new h.rest
+EndsSession goes gives shared fault first now old new turns receives stream sent count (Wire kind place) = EndsTalk goes gives shared fault first now stream sent count (Wire kind place) × IsCalm old new
+EndsSession goes gives shared fault first now old new turns receives stream sent count NotWords = EndsTalk goes gives shared fault first now stream sent count NotWords × IsCalm old new
+EndsSession goes gives shared fault first now old new turns receives stream sent count (Full entries bytes) = EndsTalk goes gives shared fault first now stream sent count (Full entries bytes) × IsCalm old new
+EndsSession goes gives shared fault first now old new turns receives stream sent count Closed = EndsTalk goes gives shared fault first now stream sent count Closed × IsCalm old new
+EndsSession goes gives shared fault first now old new turns receives stream sent count Memory = EndsTalk goes gives shared fault first now stream sent count Memory
 
 -- a session: the bytes that came over the link, those that went out, how often bytes came, and why it ended
-pub record HasSession {D : Type 0} (goes : D → List Deed → D → Type 0) (gives : ℕ → Type 0) (fault : Option DeskFault) (first now : D) (old new : LinkView) (turns : ℕ) (count : ℕ) (why : Why) : Type 0 where
+pub record HasSession {D : Type 0} (goes : D → List Deed → D → Type 0) (gives : ℕ → Type 0) (shared : Bool) (fault : Option DeskFault) (first now : D) (old new : LinkView) (turns : ℕ) (count : ℕ) (why : Why) : Type 0 where
   pub stream : List ℕ
   pub sent : List ℕ
   pub receives : ℕ
@@ -36,4 +42,4 @@ pub record HasSession {D : Type 0} (goes : D → List Deed → D → Type 0) (gi
   pub few : receives ≤ turns
   pub later_faults : old.faults ≤ new.faults
   pub later_ends : old.ends ≤ new.ends
-  pub ends : EndsSession goes gives fault first now old new turns receives stream sent count why
+  pub ends : EndsSession goes gives shared fault first now old new turns receives stream sent count why

@@ -8,7 +8,7 @@ use Rattle.resp_wire.specs.Stands.{Stands}
 use Rattle.desks.specs.Deeds.{Deed}
 use Rattle.desks.specs.declared.desk.DeskFault.{DeskFault}
 use Rattle.sessions.specs.Hearings.{EndsTalk, HasHeard, WritesAll, WritesFront}
-use Rattle.sessions.specs.LinkViews.{LinkView, raised_by}
+use Rattle.net_links.specs.LinkViews.{LinkView, raised_by}
 use Rattle.sessions.specs.Sendings.{SendsFront}
 use Rattle.sessions.specs.SessionEnds.{HasSession}
 use Rattle.sessions.specs.declared.ends.Why.{Why}
@@ -31,15 +31,15 @@ pub record TalksAll {D : Type 0} (goes : D → List Deed → D → Type 0) (give
   pub front : IsFront talks.heard.rest
 
 -- one value more was asked; or none is whole; or no more is asked
-abbrev pub AnswersNext : {D : Type 0} → (D → List Deed → D → Type 0) → (ℕ → Type 0) → Option DeskFault → D → D → List ℕ → List ℕ → Talking → Result Bool Why → Type 0
-AnswersNext goes gives fault first now stream sent t (Ok true) = Talks goes gives first now stream sent t
-AnswersNext goes gives fault first now stream sent t (Ok false) = TalksAll goes gives first now stream sent t
-AnswersNext goes gives fault first now stream sent t (Err why) = EndsTalk goes gives fault first now stream (sent ++ t.out.items) t.commands why
+abbrev pub AnswersNext : {D : Type 0} → (D → List Deed → D → Type 0) → (ℕ → Type 0) → Bool → Option DeskFault → D → D → List ℕ → List ℕ → Talking → Result Bool Why → Type 0
+AnswersNext goes gives shared fault first now stream sent t (Ok true) = Talks goes gives first now stream sent t
+AnswersNext goes gives shared fault first now stream sent t (Ok false) = TalksAll goes gives first now stream sent t
+AnswersNext goes gives shared fault first now stream sent t (Err why) = EndsTalk goes gives shared fault first now stream (sent ++ t.out.items) t.commands why
 
 -- all whole values were asked; or no more is asked
-abbrev pub AnswersAll : {D : Type 0} → (D → List Deed → D → Type 0) → (ℕ → Type 0) → Option DeskFault → D → D → List ℕ → List ℕ → Talking → Result ⊤ Why → Type 0
-AnswersAll goes gives fault first now stream sent t (Ok done) = TalksAll goes gives first now stream sent t
-AnswersAll goes gives fault first now stream sent t (Err why) = EndsTalk goes gives fault first now stream (sent ++ t.out.items) t.commands why
+abbrev pub AnswersAll : {D : Type 0} → (D → List Deed → D → Type 0) → (ℕ → Type 0) → Bool → Option DeskFault → D → D → List ℕ → List ℕ → Talking → Result ⊤ Why → Type 0
+AnswersAll goes gives shared fault first now stream sent t (Ok done) = TalksAll goes gives first now stream sent t
+AnswersAll goes gives shared fault first now stream sent t (Err why) = EndsTalk goes gives shared fault first now stream (sent ++ t.out.items) t.commands why
 
 -- the link failed, or there was no memory to send
 abbrev pub IsCut : ℕ → ℕ → Result ⊤ Why → Type 0
@@ -59,22 +59,22 @@ HasFlushed was is faults faults2 out out2 answered result =
     ((result ≡ answered) × Appends was is out × (out2 ≡ []) × (faults2 ≡ faults)) ⊎ (IsCut faults faults2 result × SendsFront was is out)
 
 -- why no more is asked of a piece that came, or no more is sent
-abbrev pub EndsTaken : {D : Type 0} → (D → List Deed → D → Type 0) → (ℕ → Type 0) → Option DeskFault → D → D → List ℕ → List ℕ → ℕ → ℕ → ℕ → Why → Type 0
-EndsTaken goes gives fault first now stream written count faults faults2 Link = (h : HasHeard goes gives first now stream count) × WritesFront h.deeds written × Rose faults faults2
-EndsTaken goes gives fault first now stream written count faults faults2 Ended = ⊥
-EndsTaken goes gives fault first now stream written count faults faults2 Turns = ⊥
-EndsTaken goes gives fault first now stream written count faults faults2 (Wire kind place) = EndsTalk goes gives fault first now stream written count (Wire kind place)
-EndsTaken goes gives fault first now stream written count faults faults2 NotWords = EndsTalk goes gives fault first now stream written count NotWords
-EndsTaken goes gives fault first now stream written count faults faults2 (Full entries bytes) = EndsTalk goes gives fault first now stream written count (Full entries bytes)
-EndsTaken goes gives fault first now stream written count faults faults2 Closed = EndsTalk goes gives fault first now stream written count Closed
-EndsTaken goes gives fault first now stream written count faults faults2 Memory = EndsTalk goes gives fault first now stream written count Memory
+abbrev pub EndsTaken : {D : Type 0} → (D → List Deed → D → Type 0) → (ℕ → Type 0) → Bool → Option DeskFault → D → D → List ℕ → List ℕ → ℕ → ℕ → ℕ → Why → Type 0
+EndsTaken goes gives shared fault first now stream written count faults faults2 Link = (h : HasHeard goes gives first now stream count) × WritesFront h.deeds written × Rose faults faults2
+EndsTaken goes gives shared fault first now stream written count faults faults2 Ended = ⊥
+EndsTaken goes gives shared fault first now stream written count faults faults2 Turns = ⊥
+EndsTaken goes gives shared fault first now stream written count faults faults2 (Wire kind place) = EndsTalk goes gives shared fault first now stream written count (Wire kind place) × (faults2 ≡ faults)
+EndsTaken goes gives shared fault first now stream written count faults faults2 NotWords = EndsTalk goes gives shared fault first now stream written count NotWords × (faults2 ≡ faults)
+EndsTaken goes gives shared fault first now stream written count faults faults2 (Full entries bytes) = EndsTalk goes gives shared fault first now stream written count (Full entries bytes) × (faults2 ≡ faults)
+EndsTaken goes gives shared fault first now stream written count faults faults2 Closed = EndsTalk goes gives shared fault first now stream written count Closed × (faults2 ≡ faults)
+EndsTaken goes gives shared fault first now stream written count faults faults2 Memory = EndsTalk goes gives shared fault first now stream written count Memory
 
 -- the values of a piece were asked and their answers sent; or no more is asked or sent
-abbrev pub HasTaken : {D : Type 0} → (D → List Deed → D → Type 0) → (ℕ → Type 0) → Option DeskFault → D → D → List ℕ → List ℕ → Option (List ℕ) → Option (List ℕ) → ℕ → ℕ → Talking → Result ⊤ Why → Type 0
-HasTaken goes gives fault first now stream sent was is faults faults2 t (Ok done) =
+abbrev pub HasTaken : {D : Type 0} → (D → List Deed → D → Type 0) → (ℕ → Type 0) → Bool → Option DeskFault → D → D → List ℕ → List ℕ → Option (List ℕ) → Option (List ℕ) → ℕ → ℕ → Talking → Result ⊤ Why → Type 0
+HasTaken goes gives shared fault first now stream sent was is faults faults2 t (Ok done) =
     (more : List ℕ) × Appends was is more × TalksAll goes gives first now stream (sent ++ more) t × (t.out.items ≡ []) × (faults2 ≡ faults)
-HasTaken goes gives fault first now stream sent was is faults faults2 t (Err why) =
-    (more : List ℕ) × Appends was is more × EndsTaken goes gives fault first now stream (sent ++ more) t.commands faults faults2 why
+HasTaken goes gives shared fault first now stream sent was is faults faults2 t (Err why) =
+    (more : List ℕ) × Appends was is more × EndsTaken goes gives shared fault first now stream (sent ++ more) t.commands faults faults2 why
 
 -- amid a session all whole values that came were asked, their answers sent, and bytes came so often
 pub record InSession {D : Type 0} (goes : D → List Deed → D → Type 0) (gives : ℕ → Type 0) (first now : D) (old new : LinkView) (t : Talking) (n : ℕ) : Type 0 where
@@ -89,9 +89,9 @@ pub record InSession {D : Type 0} (goes : D → List Deed → D → Type 0) (giv
   pub same_ends : new.ends ≡ old.ends
 
 -- one turn more was made; or the session ends in it
-abbrev pub HasTurned : {D : Type 0} → (D → List Deed → D → Type 0) → (ℕ → Type 0) → Option DeskFault → D → D → LinkView → LinkView → Talking → ℕ → Result ⊤ Why → Type 0
-HasTurned goes gives fault first now old new t n (Ok done) = InSession goes gives first now old new t (suc n)
-HasTurned goes gives fault first now old new t n (Err why) = (turns : ℕ) → suc n ≤ turns → HasSession goes gives fault first now old new turns t.commands why
+abbrev pub HasTurned : {D : Type 0} → (D → List Deed → D → Type 0) → (ℕ → Type 0) → Bool → Option DeskFault → D → D → LinkView → LinkView → Talking → ℕ → Result ⊤ Why → Type 0
+HasTurned goes gives shared fault first now old new t n (Ok done) = InSession goes gives first now old new t (suc n)
+HasTurned goes gives shared fault first now old new t n (Err why) = (turns : ℕ) → suc n ≤ turns → HasSession goes gives shared fault first now old new turns t.commands why
 
 -- why a session ends whose other side ended, with these bytes left
 abbrev pub IsEndWhy : List ℕ → Why → Type 0

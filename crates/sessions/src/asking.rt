@@ -1,10 +1,10 @@
 //! Asking a desk what was received, and writing down what it answers.
-ghost use Rattle.std.specs.Prelude.{IfErr, IfOk, OnErr, OnOk, Some, [], ◌++◌, ◌<◌, ◌^◌, ◌∷◌, ◌≡◌};
+ghost use Rattle.std.specs.Prelude.{Bool, IfErr, IfOk, OnErr, OnOk, Some, [], false, ◌++◌, ◌<◌, ◌^◌, ◌∷◌, ◌≡◌};
 ghost use Rattle.links.specs.Counts.{raised};
 ghost use Rattle.desks.specs.Deeds.{DidAsk};
 ghost use Rattle.desks.specs.Faults.{IsOpen};
 ghost use Rattle.wire_grammar.specs.Fits.{HasSpelling, IsWithinLimits};
-ghost use Rattle.sessions.specs.Askings.{HasAnswered, HasAnsweredWords, IsDeskWhy};
+ghost use Rattle.sessions.specs.Askings.{HasAnswered, HasAnsweredWords, IsDeskWhy, IsNearFault};
 ghost use Rattle.sessions.specs.Talks.{reply_bytes, store_moment};
 
 use crate::Why;
@@ -28,7 +28,8 @@ pub fn store_moment(now: u64) -> u64
 /// were pushed before it, and the answer. `commands` counts what was asked, 2^64 - 1 for all numbers above.
 ///
 /// `NotWords` comes exactly where the value spells no command; nothing is asked then. `Full` and `Closed` come where the
-/// desk answers so, `Memory` where there is no memory or the desk answers another fault.
+/// desk answers so, `Memory` where there is no memory or the desk answers that. The desk isn't remote: faults of a link
+/// would have no name here.
 #[tactic(auto, using(crate::proofs::CommandsFit::fits))]
 pub fn answer<D: Desk, C: Clock>(
     alloc: Global,
@@ -38,9 +39,10 @@ pub fn answer<D: Desk, C: Clock>(
     out: &mut Vec<u8>,
     commands: &mut u64,
 ) -> Result<(), Why>
+    requires near { D.remote ≡ false }
     requires open { IsOpen (D.fault desk.old) (D.stopped desk.old) }
     requires spelled { HasSpelling value.now }
-    ensures answered { HasAnswered D.goes (C.gives clock.now) (D.fault desk.new) desk.old desk.new value.now out.old.items out.new.items commands.old commands.new result }
+    ensures answered { HasAnswered D.goes (C.gives clock.now) D.shared (D.fault desk.new) desk.old desk.new value.now out.old.items out.new.items commands.old commands.new result }
     ensures open { OnOk result (IsOpen (D.fault desk.new) (D.stopped desk.new)) }
 {
     match command_in(alloc, value) {
@@ -59,9 +61,10 @@ fn answer_words<D: Desk, C: Clock>(
     out: &mut Vec<u8>,
     commands: &mut u64,
 ) -> Result<(), Why>
+    requires near { D.remote ≡ false }
     requires open { IsOpen (D.fault desk.old) (D.stopped desk.old) }
     requires words { IsWithinLimits words.now }
-    ensures answered { HasAnsweredWords D.goes (C.gives clock.now) (D.fault desk.new) desk.old desk.new words.now out.old.items out.new.items commands.old commands.new result }
+    ensures answered { HasAnsweredWords D.goes (C.gives clock.now) D.shared (D.fault desk.new) desk.old desk.new words.now out.old.items out.new.items commands.old commands.new result }
     ensures open { OnOk result (IsOpen (D.fault desk.new) (D.stopped desk.new)) }
 {
     let at = store_moment(clock.now());
@@ -97,13 +100,14 @@ fn counted(
 
 /// Asks a command.
 fn asked<D: Desk>(alloc: Global, desk: &mut D, at: u64, words: &Words) -> Result<Reply, Why>
+    requires near { D.remote ≡ false }
     requires open { IsOpen (D.fault desk.old) (D.stopped desk.old) }
     requires moment { at < 2 ^ 40 }
     requires words { IsWithinLimits words.now }
     ensures ok { IfOk result (λ reply. D.goes desk.old (DidAsk at words.now reply ∷ []) desk.new) }
     ensures err { OnErr result (D.goes desk.old [] desk.new) }
     ensures open { OnOk result (IsOpen (D.fault desk.new) (D.stopped desk.new)) }
-    ensures why { IfErr result (IsDeskWhy (D.fault desk.new)) }
+    ensures why { IfErr result (IsDeskWhy D.shared (D.fault desk.new)) }
 {
     match desk.ask(alloc, at, words) {
         Ok(reply) => Ok(reply),
@@ -111,9 +115,9 @@ fn asked<D: Desk>(alloc: Global, desk: &mut D, at: u64, words: &Words) -> Result
     }
 }
 
-/// Why a session ends where its desk answered this.
+/// Why a session ends where its desk, which was open and isn't remote, answered this.
 fn why_of(fault: DeskFault) -> Why
-    ensures { IsDeskWhy (Some fault) result }
+    ensures { (shared : Bool) → IsNearFault shared fault → IsDeskWhy shared (Some fault) result }
 {
     match fault {
         DeskFault::Full { entries, bytes } => Why::Full { entries, bytes },

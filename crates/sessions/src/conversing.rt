@@ -1,8 +1,8 @@
 //! A session: what comes over one link is asked of a desk, and the answers go back over the link.
-ghost use Rattle.std.specs.Prelude.{IfOk, [], length, vec_len, ◌≡◌, ◌≤◌};
+ghost use Rattle.std.specs.Prelude.{IfOk, [], false, length, vec_len, ◌≡◌, ◌≤◌};
 ghost use Rattle.desks.specs.Faults.{IsOpen};
 ghost use Rattle.resp_wire.specs.Stands.{Stands};
-ghost use Rattle.sessions.specs.LinkViews.{link_view};
+ghost use Rattle.net_links.specs.LinkViews.{link_view};
 ghost use Rattle.sessions.specs.SessionEnds.{HasSession};
 
 use crate::Why;
@@ -26,7 +26,7 @@ const PIECE: usize = 65_536;
 /// pushed values of each before its answer. One turn is one receive; what one receive brings is answered together.
 ///
 /// It ends as `Why` says: after so many turns, at the end of the link, or at the first value that can't be asked; nothing
-/// after that value is asked.
+/// after that value is asked. The desk isn't remote: no end says that another link failed.
 pub fn session<D: Desk, L: Link, C: Clock>(
     alloc: Global,
     desk: &mut D,
@@ -34,8 +34,9 @@ pub fn session<D: Desk, L: Link, C: Clock>(
     clock: &C,
     turns: u64,
 ) -> SessionEnd
+    requires near { D.remote ≡ false }
     requires open { IsOpen (D.fault desk.old) (D.stopped desk.old) }
-    ensures session { HasSession D.goes (C.gives clock.now) (D.fault desk.new) desk.old desk.new
+    ensures session { HasSession D.goes (C.gives clock.now) D.shared (D.fault desk.new) desk.old desk.new
         (link_view L.sent L.received L.faults L.ends L.gains link.old) (link_view L.sent L.received L.faults L.ends L.gains link.new)
         turns result.commands result.why }
 {
@@ -73,12 +74,13 @@ fn converse<D: Desk, L: Link, C: Clock>(
     room: &mut [u8],
     turns: u64,
 ) -> Why
+    requires near { D.remote ≡ false }
     requires open { IsOpen (D.fault desk.old) (D.stopped desk.old) }
     requires stands { Stands talking.old.decoder 0 [] }
     requires out { talking.old.out.items ≡ [] }
     requires commands { talking.old.commands ≡ 0 }
     requires room { 1 ≤ length room.old }
-    ensures session { HasSession D.goes (C.gives clock.now) (D.fault desk.new) desk.old desk.new
+    ensures session { HasSession D.goes (C.gives clock.now) D.shared (D.fault desk.new) desk.old desk.new
         (link_view L.sent L.received L.faults L.ends L.gains link.old) (link_view L.sent L.received L.faults L.ends L.gains link.new)
         turns talking.new.commands result }
 {

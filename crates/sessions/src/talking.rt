@@ -48,9 +48,10 @@ fn answer_value<D: Desk, C: Clock>(
     out: &mut Vec<u8>,
     commands: &mut u64,
 ) -> Result<(), Why>
+    requires near { D.remote ≡ false }
     requires open { IsOpen (D.fault desk.old) (D.stopped desk.old) }
     requires spelled { HasSpelling value }
-    ensures answered { HasAnswered D.goes (C.gives clock.now) (D.fault desk.new) desk.old desk.new value out.old.items out.new.items commands.old commands.new result }
+    ensures answered { HasAnswered D.goes (C.gives clock.now) D.shared (D.fault desk.new) desk.old desk.new value out.old.items out.new.items commands.old commands.new result }
     ensures open { OnOk result (IsOpen (D.fault desk.new) (D.stopped desk.new)) }
 {
     answer(alloc, desk, clock, &value, out, commands)
@@ -63,13 +64,14 @@ fn answer_next<D: Desk, C: Clock>(
     clock: &C,
     talking: &mut Talking,
 ) -> Result<bool, Why>
+    requires near { D.remote ≡ false }
     requires open { IsOpen (D.fault desk.old) (D.stopped desk.old) }
     requires placed { IsPlaced talking.old.decoder }
     ensures less { result ≡ Ok true → unread_of talking.new.decoder < unread_of talking.old.decoder }
     ensures open { OnOk result (IsOpen (D.fault desk.new) (D.stopped desk.new)) }
     ensures placed { OnOk result (IsPlaced talking.new.decoder) }
     ensures answers { (first : D) (stream sent : List ℕ) → Talks D.goes (C.gives clock.now) first desk.old stream sent talking.old
-        → AnswersNext D.goes (C.gives clock.now) (D.fault desk.new) first desk.new stream sent talking.new result }
+        → AnswersNext D.goes (C.gives clock.now) D.shared (D.fault desk.new) first desk.new stream sent talking.new result }
 {
     match talking.decoder.next(alloc) {
         Ok(Some(value)) => {
@@ -93,12 +95,13 @@ pub(crate) fn answer_all<D: Desk, C: Clock>(
     clock: &C,
     talking: &mut Talking,
 ) -> Result<(), Why>
+    requires near { D.remote ≡ false }
     requires open { IsOpen (D.fault desk.old) (D.stopped desk.old) }
     requires placed { IsPlaced talking.old.decoder }
     ensures open { OnOk result (IsOpen (D.fault desk.new) (D.stopped desk.new)) }
     ensures placed { OnOk result (IsPlaced talking.new.decoder) }
     ensures answers { (first : D) (stream sent : List ℕ) → Talks D.goes (C.gives clock.now) first desk.old stream sent talking.old
-        → AnswersAll D.goes (C.gives clock.now) (D.fault desk.new) first desk.new stream sent talking.new result }
+        → AnswersAll D.goes (C.gives clock.now) D.shared (D.fault desk.new) first desk.new stream sent talking.new result }
 {
     'values: loop {
         match answer_next(alloc, desk, clock, talking) {

@@ -1,9 +1,9 @@
 //! One turn of a session: what one receive gives is asked, and the answers are sent.
 ghost use Rattle.std.specs.Io.KnownBytes.{Keeps};
-ghost use Rattle.std.specs.Prelude.{IsOk, List, OnOk, [], length, ℕ, ◌++◌, ◌≡◌, ◌≤◌};
+ghost use Rattle.std.specs.Prelude.{IsOk, List, OnOk, [], false, length, ℕ, ◌++◌, ◌≡◌, ◌≤◌};
 ghost use Rattle.desks.specs.Faults.{IsOpen};
 ghost use Rattle.resp_wire.specs.Stands.{Stands};
-ghost use Rattle.sessions.specs.LinkViews.{LinkView, link_view};
+ghost use Rattle.net_links.specs.LinkViews.{LinkView, link_view};
 ghost use Rattle.sessions.specs.Talkings.{HasFlushed, HasTaken, HasTurned, InSession, IsEndWhy, IsPlaced, TalksAll};
 
 use crate::Why;
@@ -23,6 +23,7 @@ pub(crate) fn turn<D: Desk, L: Link, C: Clock>(
     talking: &mut Talking,
     room: &mut [u8],
 ) -> Result<(), Why>
+    requires near { D.remote ≡ false }
     requires open { IsOpen (D.fault desk.old) (D.stopped desk.old) }
     requires placed { IsPlaced talking.old.decoder }
     requires room { 1 ≤ length room.old }
@@ -31,7 +32,7 @@ pub(crate) fn turn<D: Desk, L: Link, C: Clock>(
     ensures room { length room.new ≡ length room.old }
     ensures turned { (first : D) (start : LinkView) (n : ℕ)
         → InSession D.goes (C.gives clock.now) first desk.old start (link_view L.sent L.received L.faults L.ends L.gains link.old) talking.old n
-        → HasTurned D.goes (C.gives clock.now) (D.fault desk.new) first desk.new start (link_view L.sent L.received L.faults L.ends L.gains link.new) talking.new n result }
+        → HasTurned D.goes (C.gives clock.now) D.shared (D.fault desk.new) first desk.new start (link_view L.sent L.received L.faults L.ends L.gains link.new) talking.new n result }
 {
     let Ok(count) = link.receive(room) else {
         return Err(Why::Link);
@@ -62,6 +63,7 @@ fn take<D: Desk, L: Link, C: Clock>(
     talking: &mut Talking,
     piece: &[u8],
 ) -> Result<(), Why>
+    requires near { D.remote ≡ false }
     requires open { IsOpen (D.fault desk.old) (D.stopped desk.old) }
     requires placed { IsPlaced talking.old.decoder }
     ensures open { OnOk result (IsOpen (D.fault desk.new) (D.stopped desk.new)) }
@@ -71,7 +73,7 @@ fn take<D: Desk, L: Link, C: Clock>(
     ensures ends { L.ends link.new ≡ L.ends link.old }
     ensures gains { L.gains link.new ≡ L.gains link.old }
     ensures taken { (first : D) (stream sent : List ℕ) → TalksAll D.goes (C.gives clock.now) first desk.old stream sent talking.old
-        → HasTaken D.goes (C.gives clock.now) (D.fault desk.new) first desk.new (stream ++ piece.now) sent (L.sent link.old) (L.sent link.new) (L.faults link.old) (L.faults link.new) talking.new result }
+        → HasTaken D.goes (C.gives clock.now) D.shared (D.fault desk.new) first desk.new (stream ++ piece.now) sent (L.sent link.old) (L.sent link.new) (L.faults link.old) (L.faults link.new) talking.new result }
 {
     match talking.decoder.feed(alloc, piece) {
         Ok(()) => {

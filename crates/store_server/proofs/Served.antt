@@ -1,9 +1,9 @@
 -- Serving goes on by one connection.
-use Rattle.std.proofs.Common.{List, [], append-nil, ap, arith, length, length-append, refl, subst, suc, sym, ℕ, ◌+◌, ◌++◌, ◌∙◌, ◌∷◌, ◌≡◌, ◌≤◌}
+use Rattle.std.proofs.Common.{List, [], append-nil, ap, arith, length, length-append, refl, subst, suc, sym, ℕ, false, ◌+◌, ◌++◌, ◌<◌, ◌∙◌, ◌∷◌, ◌≡◌, ◌≤◌, ◌⊎◌}
 use Rattle.std.specs.Prelude.{Err, None, Ok, Option, Some}
 use Rattle.links.specs.Causes.{Rose}
 use Rattle.net_links.specs.NetCauses.{HasNetCause}
-use Rattle.net_links.specs.Traffics.{ClosesOne, IsFresh, KeepsClosed, Traffic, traffic}
+use Rattle.net_links.specs.Traffics.{ClosesOne, IsFresh, IsNothing, KeepsClosed, TellsNothingYet}
 use Rattle.net_links.specs.declared.link.NetFault.{NetFault}
 use Rattle.net_links.specs.declared.link.NetFault.TheVariants.{Failed}
 use Rattle.net_links.specs.declared.link.NetFault.TheVariants as net
@@ -11,7 +11,7 @@ use Rattle.store_model.specs.Store.{StoreView, gone_of}
 use Rattle.desks.specs.Deeds.{Deed}
 use Rattle.desks.specs.declared.desk.DeskFault.{DeskFault}
 use Rattle.plain_desk.specs.StoreRuns.{LeadsLive, LeadsOn, live_state}
-use Rattle.sessions.specs.LinkViews.{LinkView}
+use Rattle.net_links.specs.LinkViews.{LinkView}
 use Rattle.sessions.specs.SessionEnds.{HasSession}
 use Rattle.sessions.specs.declared.conversing.SessionEnd.{SessionEnd}
 use Rattle.sessions.proofs.Mapped.{heard_in, session_as}
@@ -32,38 +32,51 @@ module _ {D : Type 0} (conn_of : D → ℕ) (store_of : D → StoreView) (gives 
   )
 
   -- a session was had at a desk that has its store
-  pub visited : (store2 : StoreView) → HasSession goes gives fault first now old new turns end.commands end.why → store2 ≡ record { state = gone_of (store_of now).state (conn_of now); spent = (store_of now).spent }
+  pub visited : (store2 : StoreView) → HasSession goes gives false fault first now old new turns end.commands end.why → store2 ≡ record { state = gone_of (store_of now).state (conn_of now); spent = (store_of now).spent }
       → HasVisited gives turns c store store2 old new end
   visited store2 s gone =
-      let same : conn_of now ≡ c = (heard_in goes gives fault first now old new turns s.receives s.stream s.sent end.commands end.why s.ends).went.0 ∙ is_conn in
+      let same : conn_of now ≡ c = (heard_in goes gives false fault first now old new turns s.receives s.stream s.sent end.commands end.why s.ends).went.0 ∙ is_conn in
       record {
         left = store_of now;
         fault = fault;
-        session = session_as goes (store_goes c) gives fault first now store (store_of now) over old new turns end.commands end.why s;
+        session = session_as goes (store_goes c) gives false fault first now store (store_of now) over old new turns end.commands end.why s;
         gone = gone ∙ ap (λ k. without k (store_of now)) same;
       }
 
-closed_same : (a : Option (List Traffic)) → KeepsClosed a a
+closed_same : (a : Option (List LinkView)) → KeepsClosed a a
 closed_same None = tt
 closed_same (Some l) = refl
 
-closed_on : (a b d : Option (List Traffic)) → KeepsClosed a b → KeepsClosed b d → KeepsClosed a d
+closed_on : (a b d : Option (List LinkView)) → KeepsClosed a b → KeepsClosed b d → KeepsClosed a d
 closed_on None b d p q = tt
 closed_on (Some x) None d p q = absurd p
 closed_on (Some x) (Some y) None p q = absurd q
 closed_on (Some x) (Some y) (Some z) p q = q ∙ p
 
-closed_one : (a b d : Option (List Traffic)) (t : Traffic) → KeepsClosed a b → ClosesOne b d t → ClosesOne a d t
+closed_one : (a b d : Option (List LinkView)) (t : LinkView) → KeepsClosed a b → ClosesOne b d t → ClosesOne a d t
 closed_one None b d t p q = tt
 closed_one (Some x) None d t p q = absurd p
 closed_one (Some x) (Some y) None t p q = absurd q
 closed_one (Some x) (Some y) (Some z) t p q = q ∙ ap (λ l. l ++ t ∷ []) p
 
-one_after : (gives : ℕ → Type 0) (turns c : ℕ) (s t : StoreView) (a b d : Option (List Traffic)) (end : SessionEnd) → KeepsClosed a b → HasServedOne gives turns c s t b d end → HasServedOne gives turns c s t a d end
-one_after gives turns c s t a b d end p o = record { link = o.link; link2 = o.link2; fresh = o.fresh; visited = o.visited; carried = closed_one a b d _ p o.carried }
+-- a link that a net handed out which tells of its closed links as another did before
+nothing_in : (bytes : Option (List ℕ)) → bytes ≡ Some [] → IsNothing bytes
+nothing_in bytes none = subst (λ o. IsNothing o) (sym none) refl
+
+untold_as : (a b : Option (List LinkView)) (l : LinkView) → KeepsClosed a b → TellsNothingYet b l → TellsNothingYet a l
+untold_as None None l p u = u
+untold_as None (Some y) l p (sent, received, gains) = (nothing_in l.sent sent, nothing_in l.received received)
+untold_as (Some x) None l p u = absurd p
+untold_as (Some x) (Some y) l p u = u
+
+fresh_as : (a b : Option (List LinkView)) (l : LinkView) → KeepsClosed a b → IsFresh b l → IsFresh a l
+fresh_as a b l p f = record { unused = untold_as a b l p f.unused; no_fault = f.no_fault; no_end = f.no_end }
+
+one_after : (gives : ℕ → Type 0) (turns c : ℕ) (s t : StoreView) (a b d : Option (List LinkView)) (end : SessionEnd) → KeepsClosed a b → HasServedOne gives turns c s t b d end → HasServedOne gives turns c s t a d end
+one_after gives turns c s t a b d end p o = record { link = o.link; link2 = o.link2; fresh = fresh_as a b o.link p o.fresh; visited = o.visited; carried = closed_one a b d _ p o.carried }
 
 -- one connection more was served
-pub serves_one : (gives : ℕ → Type 0) (turns c k : ℕ) (s m t : StoreView) (a b d : Option (List Traffic)) (ends : List SessionEnd) (end : SessionEnd) → k ≡ c + length ends
+pub serves_one : (gives : ℕ → Type 0) (turns c k : ℕ) (s m t : StoreView) (a b d : Option (List LinkView)) (ends : List SessionEnd) (end : SessionEnd) → k ≡ c + length ends
     → HasServedAll gives turns c s m a b ends → HasServedOne gives turns k m t b d end → HasServedAll gives turns c s t a d (ends ++ end ∷ [])
 serves_one gives turns c k s m t a b d [] end is all o =
     let here : k ≡ c = omega (arith, is) in
@@ -72,17 +85,17 @@ serves_one gives turns c k s m t a b d (e ∷ ends) end is (mid, between, first,
     (mid, between, first, serves_one gives turns (c + 1) k mid m t between b d ends end (omega (arith, is)) rest o)
 
 -- the net closed nothing before
-pub serves_after : (gives : ℕ → Type 0) (turns c : ℕ) (s t : StoreView) (a b d : Option (List Traffic)) (ends : List SessionEnd) → KeepsClosed a b → HasServedAll gives turns c s t b d ends → HasServedAll gives turns c s t a d ends
+pub serves_after : (gives : ℕ → Type 0) (turns c : ℕ) (s t : StoreView) (a b d : Option (List LinkView)) (ends : List SessionEnd) → KeepsClosed a b → HasServedAll gives turns c s t b d ends → HasServedAll gives turns c s t a d ends
 serves_after gives turns c s t a b d [] p all = (all.0, closed_on a b d p all.1)
 serves_after gives turns c s t a b d (e ∷ ends) p (mid, between, first, rest) = (mid, between, one_after gives turns c s mid a b between e p first, rest)
 
 -- and nothing after
-pub serves_before : (gives : ℕ → Type 0) (turns c : ℕ) (s m t : StoreView) (a b d : Option (List Traffic)) (ends : List SessionEnd) → HasServedAll gives turns c s m a b ends → t ≡ m → KeepsClosed b d → HasServedAll gives turns c s t a d ends
+pub serves_before : (gives : ℕ → Type 0) (turns c : ℕ) (s m t : StoreView) (a b d : Option (List LinkView)) (ends : List SessionEnd) → HasServedAll gives turns c s m a b ends → t ≡ m → KeepsClosed b d → HasServedAll gives turns c s t a d ends
 serves_before gives turns c s m t a b d [] all e q = (e ∙ all.0, closed_on a b d all.1 q)
 serves_before gives turns c s m t a b d (x ∷ ends) (mid, between, first, rest) e q = (mid, between, first, serves_before gives turns (c + 1) mid m t between b d ends rest e q)
 
-module _ (gives : ℕ → Type 0) (turns wanted : ℕ) (s m : StoreView) (a b : Option (List Traffic)) (f g : ℕ) (ends : List SessionEnd) (same : g ≡ f) (few : length ends ≤ wanted) (all : HasServedAll gives turns 1 s m a b ends) where
-  served_so : (t : StoreView) (d : Option (List Traffic)) (h : ℕ) (why : ServeWhy) → HasServedAll gives turns 1 s t a d ends → f ≤ h → IsServeWhy wanted (length ends) f h why → IsUnkept why [] → HasServed gives turns wanted s t a d f h ends why
+module _ (gives : ℕ → Type 0) (turns wanted : ℕ) (s m : StoreView) (a b : Option (List LinkView)) (f g : ℕ) (ends : List SessionEnd) (same : g ≡ f) (few : length ends ≤ wanted) (all : HasServedAll gives turns 1 s m a b ends) where
+  served_so : (t : StoreView) (d : Option (List LinkView)) (h : ℕ) (why : ServeWhy) → HasServedAll gives turns 1 s t a d ends → f ≤ h → IsServeWhy wanted (length ends) f h why → IsUnkept why [] → HasServed gives turns wanted s t a d f h ends why
   served_so t d h why served later cause whole = record {
     unkept = [];
     served = subst (λ l. HasServedAll gives turns 1 s t a d l) (sym (append-nil ends)) served;
@@ -94,15 +107,15 @@ module _ (gives : ℕ → Type 0) (turns wanted : ℕ) (s m : StoreView) (a b : 
 
   -- all were served
   pub all_served : length ends ≡ wanted → HasServed gives turns wanted s m a b f g ends Ended
-  all_served full = served_so m b g Ended all (omega (arith, same)) full refl
+  all_served full = served_so m b g Ended all (omega (arith, same)) (full, same) refl
 
   -- the net gave no further link
-  pub none_came : (t : StoreView) (d : Option (List Traffic)) (h : ℕ) (fault : NetFault) → t ≡ m → KeepsClosed b d → HasNetCause {T = SessionEnd} g h (Err fault) → HasServed gives turns wanted s t a d f h ends (why_at fault)
-  none_came t d h Failed e q cause = served_so t d h Net (serves_before gives turns 1 s m t a b d ends all e q) (omega (arith, same, cause.0)) (subst (λ (i : ℕ). Rose i h) same cause.1) refl
-  none_came t d h net.Memory e q cause = served_so t d h Memory (serves_before gives turns 1 s m t a b d ends all e q) (omega (arith, same, cause)) tt (omega arith)
+  pub none_came : (t : StoreView) (d : Option (List LinkView)) (h : ℕ) (fault : NetFault) → (length ends < wanted) ⊎ (length ends ≡ 0) → t ≡ m → KeepsClosed b d → HasNetCause {T = SessionEnd} g h (Err fault) → HasServed gives turns wanted s t a d f h ends (why_at fault)
+  none_came t d h Failed more e q cause = served_so t d h Net (serves_before gives turns 1 s m t a b d ends all e q) (omega (arith, same, cause.0)) (subst (λ (i : ℕ). Rose i h) same cause.1, more) refl
+  none_came t d h net.Memory more e q cause = served_so t d h Memory (serves_before gives turns 1 s m t a b d ends all e q) (omega (arith, same, cause)) tt (omega arith)
 
   -- the end of one more couldn't be kept
-  pub one_unkept : (t : StoreView) (d : Option (List Traffic)) (h k : ℕ) (end : SessionEnd) → k ≡ 1 + length ends → k ≤ wanted → h ≡ g → HasServedOne gives turns k m t b d end → HasServed gives turns wanted s t a d f h ends Memory
+  pub one_unkept : (t : StoreView) (d : Option (List LinkView)) (h k : ℕ) (end : SessionEnd) → k ≡ 1 + length ends → k ≤ wanted → h ≡ g → HasServedOne gives turns k m t b d end → HasServed gives turns wanted s t a d f h ends Memory
   one_unkept t d h k end is within kept o = record {
     unkept = end ∷ [];
     served = serves_one gives turns 1 k s m t a b d ends end is all o;
@@ -113,11 +126,11 @@ module _ (gives : ℕ → Type 0) (turns wanted : ℕ) (s m : StoreView) (a b : 
   }
 
 -- nothing was served yet
-pub none_served : (gives : ℕ → Type 0) (turns : ℕ) (s : StoreView) (a : Option (List Traffic)) → HasServedAll gives turns 1 s s a a []
+pub none_served : (gives : ℕ → Type 0) (turns : ℕ) (s : StoreView) (a : Option (List LinkView)) → HasServedAll gives turns 1 s s a a []
 none_served gives turns s a = (refl, closed_same a)
 
 -- the net listened before
-pub served_after : (gives : ℕ → Type 0) (turns wanted : ℕ) (s t : StoreView) (a b d : Option (List Traffic)) (f g h : ℕ) (ends : List SessionEnd) (why : ServeWhy) → KeepsClosed a b → g ≡ f → HasServed gives turns wanted s t b d g h ends why
+pub served_after : (gives : ℕ → Type 0) (turns wanted : ℕ) (s t : StoreView) (a b d : Option (List LinkView)) (f g h : ℕ) (ends : List SessionEnd) (why : ServeWhy) → KeepsClosed a b → g ≡ f → HasServed gives turns wanted s t b d g h ends why
     → HasServed gives turns wanted s t a d f h ends why
 served_after gives turns wanted s t a b d f g h ends why p same v = record {
   unkept = v.unkept;

@@ -1,7 +1,7 @@
 //! Serving one connection after the other.
 ghost use Rattle.std.specs.Prelude.{OnErr, OnOk, [], ◌++◌, ◌∷◌, ◌≡◌};
 ghost use Rattle.net_links.specs.NetCauses.{HasNetCause};
-ghost use Rattle.sessions.specs.LinkViews.{link_view};
+ghost use Rattle.net_links.specs.LinkViews.{link_view};
 ghost use Rattle.store_model.specs.Store.{StoreView};
 ghost use Rattle.store_server.specs.Servings.{HasServed, HasTried, HasVisited, why_at};
 

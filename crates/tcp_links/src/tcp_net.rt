@@ -1,5 +1,6 @@
 //! TCP.
-ghost use Rattle.std.specs.Prelude.{◌≡◌, IfOk, None};
+ghost use Rattle.std.specs.Prelude.{◌≡◌, ◌-◌, ◌^◌, IfOk, None};
+ghost use Rattle.net_links.specs.LinkViews.{link_view};
 ghost use Rattle.net_links.specs.NetCauses.{HasNetCause};
 ghost use Rattle.net_links.specs.Traffics.{IsFresh};
 
@@ -81,7 +82,7 @@ fn tuned<S: OpenStream + Drop>(stream: io::Result<S>) -> Option<S> {
 
 /// The link over a stream, if there is one.
 fn link<S>(stream: Option<S>, faults: &mut u64) -> Result<TcpLink<S>, NetFault>
-    ensures fresh { IfOk result (λ s. IsFresh None None s.faults s.ends) }
+    ensures fresh { IfOk result (λ s. IsFresh None (link_view (λ t. None) (λ t. None) (λ t. s.faults) (λ t. s.ends) (λ t. 2 ^ 64 - 1) s)) }
     ensures cause { HasNetCause faults.old faults.new result }
 {
     match stream {

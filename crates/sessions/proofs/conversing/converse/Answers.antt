@@ -1,5 +1,5 @@
 use Rattle.std.proofs.Common.{[], arith, refl}
-use Rattle.sessions.specs.LinkViews.{link_view}
+use Rattle.net_links.specs.LinkViews.{link_view}
 use Rattle.sessions.proofs.Begun.{begun, turns_over}
 use Rattle.sessions.proofs.conversing.converse.Goals as goal
 
@@ -19,6 +19,6 @@ returns-in-Err g c = record {
 
 pub returns : goal.returns
 returns g c = record {
-  session = turns_over g.D.Desk.goes (g.C.Clock.gives c.args.clock.now) (g.D.Desk.fault c.turns.desk) c.args.desk.now c.turns.desk (link_view g.L.Link.sent g.L.Link.received g.L.Link.faults g.L.Link.ends g.L.Link.gains c.args.link.now)
+  session = turns_over g.D.Desk.goes (g.C.Clock.gives c.args.clock.now) g.D.Desk.shared (g.D.Desk.fault c.turns.desk) c.args.desk.now c.turns.desk (link_view g.L.Link.sent g.L.Link.received g.L.Link.faults g.L.Link.ends g.L.Link.gains c.args.link.now)
       (link_view g.L.Link.sent g.L.Link.received g.L.Link.faults g.L.Link.ends g.L.Link.gains c.turns.link) c.turns.talking c.turns.taken c.args.turns c.turns.invariant.session (omega (arith, c.turns-test.false, c.turns.invariant.few));
 }

@@ -1,6 +1,6 @@
 use Rattle.std.proofs.Common.{length, ◌-◌, ◌≡◌, ◌≤◌}
 use Rattle.desks.specs.Faults.{IsOpen}
-use Rattle.sessions.specs.LinkViews.{link_view}
+use Rattle.net_links.specs.LinkViews.{link_view}
 use Rattle.sessions.specs.Talkings.{InSession, IsPlaced}
 use Rattle.sessions.proofs.conversing.converse.Given as goal
 

@@ -1,7 +1,7 @@
-use Rattle.std.proofs.Common.{[], ap, arith, length, length-append, subst, sym, ◌+◌, ◌∙◌, ◌∷◌, ◌≡◌, ◌≤◌}
+use Rattle.std.proofs.Common.{[], ap, arith, inl, length, length-append, subst, sym, ◌+◌, ◌∙◌, ◌∷◌, ◌≡◌, ◌≤◌}
 use Rattle.store_server.specs.Servings.{HasServed, HasServedAll}
 use Rattle.store_server.specs.declared.serving.ServeWhy.TheVariants.{Memory}
-use Rattle.store_server.proofs.Served.{none_came, one_unkept, serves_one}
+use Rattle.store_server.proofs.Served.{all_served, none_came, one_unkept, serves_one}
 use Rattle.store_server.proofs.serving.serve_each.Goals as goal
 
 pub returns-in-Err-keep : goal.returns-in-Err-keep
@@ -25,5 +25,11 @@ pub returns-in-Err : goal.returns-in-Err
 returns-in-Err g c = record {
   served = subst (λ w. HasServed (g.C.Clock.gives c.args.clock.now) c.args.turns c.args.connections c.args.store.now c.serve_one.new.store (g.N.Net.closed c.args.net.now) (g.N.Net.closed c.serve_one.new.net) (g.N.Net.faults c.args.net.now) (g.N.Net.faults c.serve_one.new.net) c.connections.sessions.items w) (sym c.why_of.ensures)
       (none_came (g.C.Clock.gives c.args.clock.now) c.args.turns c.args.connections c.args.store.now c.connections.store (g.N.Net.closed c.args.net.now) (g.N.Net.closed c.connections.net) (g.N.Net.faults c.args.net.now) (g.N.Net.faults c.connections.net) c.connections.sessions.items c.connections.invariant.kept (omega (arith, c.connections.invariant.count, c.connections.invariant.few)) c.connections.invariant.served
-      c.serve_one.new.store (g.N.Net.closed c.serve_one.new.net) (g.N.Net.faults c.serve_one.new.net) c.in-Err.fault c.in-Err.ensures.tried.0 c.in-Err.ensures.tried.1 c.in-Err.ensures.cause);
+      c.serve_one.new.store (g.N.Net.closed c.serve_one.new.net) (g.N.Net.faults c.serve_one.new.net) c.in-Err.fault (inl (omega (arith, c.connections.invariant.count, c.connections-test.true))) c.in-Err.ensures.tried.0 c.in-Err.ensures.tried.1 c.in-Err.ensures.cause);
+}
+
+pub returns : goal.returns
+returns g c = record {
+  served = all_served (g.C.Clock.gives c.args.clock.now) c.args.turns c.args.connections c.args.store.now c.connections.store (g.N.Net.closed c.args.net.now) (g.N.Net.closed c.connections.net) (g.N.Net.faults c.args.net.now) (g.N.Net.faults c.connections.net) c.connections.sessions.items c.connections.invariant.kept (omega (arith, c.connections.invariant.count, c.connections.invariant.few)) c.connections.invariant.served
+      (omega (arith, c.connections.invariant.count, c.connections.invariant.few, c.connections-test.false));
 }
