@@ -1,9 +1,9 @@
 -- Serving goes on by one connection.
-use Rattle.std.proofs.Common.{List, [], append-nil, ap, arith, length, length-append, refl, subst, suc, sym, ℕ, ◌+◌, ◌++◌, ◌∙◌, ◌∷◌, ◌≡◌, ◌≤◌}
-use Rattle.std.specs.Prelude.{Err, None, Ok, Option, Some}
+use Rattle.std.proofs.Common.{List, [], append-nil, ap, arith, length, length-append, refl, subst, sym, ℕ, ◌+◌, ◌++◌, ◌∙◌, ◌∷◌, ◌≡◌, ◌≤◌}
+use Rattle.std.specs.Prelude.{Err, None, Option, Some}
 use Rattle.links.specs.Causes.{Rose}
 use Rattle.net_links.specs.NetCauses.{HasNetCause}
-use Rattle.net_links.specs.Traffics.{ClosesOne, IsFresh, KeepsClosed, Traffic, traffic}
+use Rattle.net_links.specs.Traffics.{ClosesOne, KeepsClosed, Traffic}
 use Rattle.net_links.specs.declared.link.NetFault.{NetFault}
 use Rattle.net_links.specs.declared.link.NetFault.TheVariants.{Failed}
 use Rattle.net_links.specs.declared.link.NetFault.TheVariants as net
@@ -15,7 +15,7 @@ use Rattle.sessions.specs.LinkViews.{LinkView}
 use Rattle.sessions.specs.SessionEnds.{HasSession}
 use Rattle.sessions.specs.declared.conversing.SessionEnd.{SessionEnd}
 use Rattle.sessions.proofs.Mapped.{heard_in, session_as}
-use Rattle.store_server.specs.Servings.{HasServed, HasServedAll, HasServedOne, HasTried, HasVisited, IsServeWhy, IsUnkept, store_goes, why_at, without}
+use Rattle.store_server.specs.Servings.{HasServed, HasServedAll, HasServedOne, HasVisited, IsServeWhy, IsUnkept, store_goes, why_at, without}
 use Rattle.store_server.specs.declared.serving.ServeWhy.{ServeWhy}
 use Rattle.store_server.specs.declared.serving.ServeWhy.TheVariants.{Ended, Memory, Net}
 
