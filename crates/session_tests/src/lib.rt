@@ -1,5 +1,5 @@
-//! Tests of links, nets and clocks, of a desk that has its store, and of the parts of a session, by rows of what is given
-//! and what comes of it.
+//! Tests of links, nets and clocks, of a desk that has its store, of sessions, and of connections that are served one
+//! after the other, by rows of what is given and what comes of it.
 #![tactic(auto)]
 
 #[cfg(test)]

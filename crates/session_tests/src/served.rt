@@ -1,11 +1,14 @@
 //! Connections over a net in memory, served one after the other.
+ghost use Rattle.std.specs.Prelude.{IfOk};
+ghost use Rattle.net_links.specs.MemoryForms.{IsUnusedLink};
+
 use crate::commands::{incoming, why_text};
 use crate::compared::same;
 use mini_store::Store;
 use net_links::{MemoryLink, MemoryNet, StepClock};
 use std::alloc::{AllocError, Global};
 use std::test::Fail;
-use store_server::{ServeWhy, SessionEnd, serve_one, serve_plain};
+use store_server::{ServeEnd, ServeWhy, SessionEnd, serve_one, serve_plain};
 
 /// What a link gives: commands, then bytes; it comes by pieces of at most ten bytes. The call of this number fails.
 type Incoming = (&'static [&'static str], &'static [u8], u64);
@@ -27,7 +30,9 @@ const NEVER: u64 = 1_000_000;
 /// A client that says PING and ends.
 const PING: Incoming = (&["PING"], b"", NEVER);
 
-fn link(alloc: Global, incoming_row: &Incoming) -> Result<MemoryLink, AllocError> {
+fn link(alloc: Global, incoming_row: &Incoming) -> Result<MemoryLink, AllocError>
+    ensures { IfOk result IsUnusedLink }
+{
     let (lines, tail, failing) = incoming_row;
     let fails = vec![in alloc; *failing]?;
     Ok(MemoryLink::new(incoming(alloc, lines, tail)?, 10, fails))
@@ -61,15 +66,9 @@ fn tell(alloc: Global, out: &mut Vec<u8>, end: SessionEnd) -> Result<(), AllocEr
     Ok(out.extend_from_slice(told.as_bytes())?)
 }
 
-/// What is told of serving an empty store.
-fn served(alloc: Global, row: &Row) -> Result<Vec<u8>, AllocError> {
-    let mut net = net(alloc, &row.links, row.failing)?;
-    let clock = StepClock::new(5_000_000, 1_000_000);
-    let store = Store::new(alloc);
-    let end = serve_plain(
-        alloc, store, &mut net, &clock, "here", row.wanted, row.turns,
-    );
-    let mut out = closed(alloc, &net)?;
+/// What is told of a net and of how serving over it ended.
+fn report(alloc: Global, net: &MemoryNet, end: &ServeEnd) -> Result<Vec<u8>, AllocError> {
+    let mut out = closed(alloc, net)?;
     for session in end.sessions.as_slice() {
         tell(alloc, &mut out, *session)?;
     }
@@ -81,19 +80,42 @@ fn served(alloc: Global, row: &Row) -> Result<Vec<u8>, AllocError> {
     Ok(out)
 }
 
-/// What is told of three connections that all have the number 1, at one store.
+/// What is told of serving an empty store.
+fn served(alloc: Global, row: &Row) -> Result<Vec<u8>, AllocError> {
+    let mut net = net(alloc, &row.links, row.failing)?;
+    let clock = StepClock::new(5_000_000, 1_000_000);
+    let store = Store::new(alloc);
+    let end = serve_plain(
+        alloc, store, &mut net, &clock, "here", row.wanted, row.turns,
+    );
+    report(alloc, &net, &end)
+}
+
+/// Serves the next connection under the number 1, and appends how its session ended.
+fn serve_next(
+    alloc: Global,
+    store: &mut Store,
+    net: &mut MemoryNet,
+    clock: &StepClock,
+    out: &mut Vec<u8>,
+) -> Result<(), AllocError> {
+    match serve_one(alloc, store, net, clock, 1, 100) {
+        Ok(end) => tell(alloc, out, end),
+        Err(_) => out.extend_from_slice(b" net"),
+    }
+}
+
+/// What is told of three connections that all have the number 1, at one store: how their sessions ended, and then what
+/// their links sent.
 fn served_as_one(alloc: Global, links: &[Incoming; 3]) -> Result<Vec<u8>, AllocError> {
     let mut net = net(alloc, links, NEVER)?;
     let clock = StepClock::new(5_000_000, 1_000_000);
     let mut store = Store::new(alloc);
-    let mut ends = Vec::new(alloc);
+    let mut out = Vec::new(alloc);
     for _ in 0..3 {
-        if let Ok(end) = serve_one(alloc, &mut store, &mut net, &clock, 1, 100) {
-            tell(alloc, &mut ends, end)?;
-        }
+        serve_next(alloc, &mut store, &mut net, &clock, &mut out)?;
     }
-    let mut out = closed(alloc, &net)?;
-    out.extend_from_slice(ends.as_slice())?;
+    out.extend_from_slice(closed(alloc, &net)?.as_slice())?;
     Ok(out)
 }
 
@@ -152,7 +174,9 @@ fn rows_of_links() -> [Row; 6] {
                 (&["PUBLISH c x", "GET k"], b"", NEVER),
             ],
             100,
-            "+OK\r\n+OK\r\n+OK\r\n+QUEUED\r\n|$1\r\nv\r\n-ERR outside\r\n*3\r\n$9\r\nsubscribe\r\n$1\r\nc\r\n:1\r\n|:0\r\n$1\r\nv\r\n| ended 4, ended 3, ended 2, ended",
+            "+OK\r\n+OK\r\n+OK\r\n+QUEUED\r\n|\
+             $1\r\nv\r\n-ERR outside\r\n*3\r\n$9\r\nsubscribe\r\n$1\r\nc\r\n:1\r\n|\
+             :0\r\n$1\r\nv\r\n| ended 4, ended 3, ended 2, ended",
         ),
         all(
             [(&["PING"], b"", 1), (&["MULTI"], b"*2\r\n$3", NEVER), PING],
@@ -188,15 +212,13 @@ fn rows_of_links() -> [Row; 6] {
 
 #[test]
 fn connections_are_served_one_after_the_other(rt: HostRuntime) -> Result<(), Fail> {
-    for rows in [rows_of_nets().as_slice(), rows_of_links().as_slice()] {
-        for row in rows {
-            same(
-                &rt,
-                row.told,
-                served(rt.alloc(), row)?.as_slice(),
-                row.told.as_bytes(),
-            );
-        }
+    for row in &rows_of_nets() {
+        let told = served(rt.alloc(), row)?;
+        same(&rt, row.told, told.as_slice(), row.told.as_bytes());
+    }
+    for row in &rows_of_links() {
+        let told = served(rt.alloc(), row)?;
+        same(&rt, row.told, told.as_slice(), row.told.as_bytes());
     }
     Ok(())
 }
@@ -212,13 +234,11 @@ fn nothing_of_a_connection_is_left_to_its_number(rt: HostRuntime) -> Result<(), 
         (&["MULTI", "PING", "EXEC", "SUBSCRIBE c"], b"", NEVER),
         (&["GET k", "PING"], b"", NEVER),
     ];
-    let want =
-        "+OK\r\n+OK\r\n+OK\r\n+OK\r\n+QUEUED\r\n|+OK\r\n+QUEUED\r\n*1\r\n+PONG\r\n*3\r\n$9\r\nsubscribe\r\n$1\r\nc\r\n:1\r\n|$1\r\nw\r\n+PONG\r\n| ended 5, ended 4, ended 2,";
-    same(
-        &rt,
-        want,
-        served_as_one(rt.alloc(), &links)?.as_slice(),
-        want.as_bytes(),
-    );
+    let want = " ended 5, ended 4, ended 2,\
+                +OK\r\n+OK\r\n+OK\r\n+OK\r\n+QUEUED\r\n|\
+                +OK\r\n+QUEUED\r\n*1\r\n+PONG\r\n*3\r\n$9\r\nsubscribe\r\n$1\r\nc\r\n:1\r\n|\
+                $1\r\nw\r\n+PONG\r\n|";
+    let told = served_as_one(rt.alloc(), &links)?;
+    same(&rt, "number 1", told.as_slice(), want.as_bytes());
     Ok(())
 }

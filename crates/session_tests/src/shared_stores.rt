@@ -24,15 +24,18 @@ struct Row {
     talks: &'static [Talk],
 }
 
-/// A store that took these commands.
-fn begun<R: Abort>(rt: &R, alloc: Global, before: &[(u32, &str)]) -> Result<Store, AllocError> {
-    let mut store = Store::new(alloc);
-    for (conn, line) in before {
-        let words = words_of(alloc, line)?;
-        assert!(rt; command_fits(&words));
-        let _reply = store.apply(alloc, 5, *conn, &words)?;
-    }
-    Ok(store)
+/// What a connection says to a store at second 5, whatever it is answered.
+fn say<R: Abort>(
+    rt: &R,
+    alloc: Global,
+    store: &mut Store,
+    conn: u32,
+    line: &str,
+) -> Result<(), AllocError> {
+    let words = words_of(alloc, line)?;
+    assert!(rt; command_fits(&words));
+    let _reply = store.apply(alloc, 5, conn, &words)?;
+    Ok(())
 }
 
 /// What a connection's session sends; the store is then without what the connection had.
@@ -49,6 +52,20 @@ fn talk(
     let _end = session(alloc, &mut desk, &mut link, clock, 100);
     *store = desk.into_store();
     Vec::from_slice(alloc, link.sent())
+}
+
+/// Plays a row at an empty store.
+fn play<R: Abort>(rt: &R, alloc: Global, row: &Row) -> Result<(), AllocError> {
+    let mut store = Store::new(alloc);
+    for (conn, line) in row.before {
+        say(rt, alloc, &mut store, *conn, line)?;
+    }
+    let clock = StepClock::new(5_000_000, row.step);
+    for (conn, lines, want) in row.talks {
+        let sent = talk(alloc, &mut store, &clock, *conn, lines)?;
+        same(rt, row.name, sent.as_slice(), *want);
+    }
+    Ok(())
 }
 
 fn at_once(
@@ -316,19 +333,14 @@ fn rows_of_commands() -> [Row; 6] {
 
 #[test]
 fn connections_share_a_store(rt: HostRuntime) -> Result<(), Fail> {
-    for rows in [
-        rows_at_once().as_slice(),
-        rows_in_time().as_slice(),
-        rows_of_commands().as_slice(),
-    ] {
-        for row in rows {
-            let mut store = begun(&rt, rt.alloc(), row.before)?;
-            let clock = StepClock::new(5_000_000, row.step);
-            for (conn, lines, want) in row.talks {
-                let sent = talk(rt.alloc(), &mut store, &clock, *conn, lines)?;
-                same(&rt, row.name, sent.as_slice(), *want);
-            }
-        }
+    for row in &rows_at_once() {
+        play(&rt, rt.alloc(), row)?;
+    }
+    for row in &rows_in_time() {
+        play(&rt, rt.alloc(), row)?;
+    }
+    for row in &rows_of_commands() {
+        play(&rt, rt.alloc(), row)?;
     }
     Ok(())
 }
