@@ -1,6 +1,7 @@
 pub mod EnvelopeFacts
 pub mod Examples
 pub mod Lists
+pub mod Looked
 pub mod Others
 pub mod Routes
 pub mod Settings

@@ -12,6 +12,7 @@ use Rattle.queue_keys.specs.Bindings.{Binding, member, parts, onto_parts, of_par
 use Rattle.queue_keys.specs.Lookup.{binds, insert_once, with_bound_queue, lookup, queues_for, route_keys}
 use Rattle.queue_keys.proofs.Basics.{bytes_total, and_true, none_some}
 use Rattle.queue_keys.proofs.Splits.{name_free, not_six}
+use Rattle.key_laws.specs.Lookups.{AreInByteOrder, IsBelowAll}
 use Rattle.key_laws.proofs.Lists.{at_are, at_differ}
 
 -- ---- names
@@ -53,7 +54,7 @@ lookup_named r (m ∷ ms) = with_named r (binding_of m) (lookup r ms) (binding_n
 
 -- ---- members
 
-parts_there : (bs : Bytes) → (p : Bytes) × (ps : List Bytes) × (parts bs ≡ p ∷ ps)
+pub parts_there : (bs : Bytes) → (p : Bytes) × (ps : List Bytes) × (parts bs ≡ p ∷ ps)
 parts_there [] = ([], [], refl)
 parts_there (b ∷ bs) =
     let h = parts_there bs in
@@ -62,14 +63,14 @@ parts_there (b ∷ bs) =
       | false ↦ (b ∷ h.0, h.1, refl)
     ])
 
-parts_after : (bs : Bytes) → parts (6 ∷ 22 ∷ bs) ≡ [] ∷ parts bs
+pub parts_after : (bs : Bytes) → parts (6 ∷ 22 ∷ bs) ≡ [] ∷ parts bs
 parts_after bs = let h = parts_there bs in rw (h.2) refl
 
 parts_front : (r bs : Bytes) → all_free r ≡ true → parts (r ++ (6 ∷ 22 ∷ bs)) ≡ r ∷ parts bs
 parts_front [] bs f = parts_after bs
 parts_front (b ∷ r) bs f = let g = and_true (is_free b) (all_free r) f in rw (parts_front r bs g.1, not_six b g.0) refl
 
-parts_only : (q : Bytes) → all_free q ≡ true → parts q ≡ q ∷ []
+pub parts_only : (q : Bytes) → all_free q ≡ true → parts q ≡ q ∷ []
 parts_only [] f = refl
 parts_only (b ∷ q) f = let g = and_true (is_free b) (all_free q) f in rw (parts_only q g.1, not_six b g.0) refl
 
@@ -80,60 +81,51 @@ binding_of-member r x q f g n = rw (parts_front r (x ++ (6 ∷ 22 ∷ q)) f, par
 
 -- ---- order
 
--- all are above it in byte order
-abbrev Above : Bytes → List Bytes → Type 0
-Above q [] = Unit {0}
-Above q (x ∷ xs) = (slice_cmp nat_cmp q x ≡ Less) × Above q xs
-
-abbrev Rising : List Bytes → Type 0
-Rising [] = Unit {0}
-Rising (x ∷ xs) = Above x xs × Rising xs
-
-above_less : (q x : Bytes) (xs : List Bytes) → slice_cmp nat_cmp q x ≡ Less → Above x xs → Above q xs
+above_less : (q x : Bytes) (xs : List Bytes) → slice_cmp nat_cmp q x ≡ Less → IsBelowAll x xs → IsBelowAll q xs
 above_less q x [] e a = tt
 above_less q x (y ∷ xs) e a = (bytes_total.trans q x y e a.0, above_less q x xs e a.1)
 
 turned : (r s : Ordering) → r ≡ Greater → s ≡ ordering_reverse r → s ≡ Less
 turned r s e f = f ∙ ap ordering_reverse e
 
-above_insert : (x q : Bytes) (xs : List Bytes) → slice_cmp nat_cmp x q ≡ Less → Above x xs → Above x (insert_once q xs)
+above_insert : (x q : Bytes) (xs : List Bytes) → slice_cmp nat_cmp x q ≡ Less → IsBelowAll x xs → IsBelowAll x (insert_once q xs)
 above_insert x q [] e a = (e, tt)
 above_insert x q (y ∷ xs) e a =
-    elim (slice_cmp nat_cmp q y) as (λ r. Above x (match_ordering r (q ∷ y ∷ xs) (y ∷ xs) (y ∷ insert_once q xs))) [
+    elim (slice_cmp nat_cmp q y) as (λ r. IsBelowAll x (match_ordering r (q ∷ y ∷ xs) (y ∷ xs) (y ∷ insert_once q xs))) [
       | Less ↦ (e, a)
       | Equal ↦ a
       | Greater ↦ (a.0, above_insert x q xs e a.1)
     ]
 
-insert_rising : (q : Bytes) (xs : List Bytes) → Rising xs → Rising (insert_once q xs)
+insert_rising : (q : Bytes) (xs : List Bytes) → AreInByteOrder xs → AreInByteOrder (insert_once q xs)
 insert_rising q [] h = (tt, tt)
 insert_rising q (x ∷ xs) h =
-    elim (slice_cmp nat_cmp q x) as (λ r. slice_cmp nat_cmp q x ≡ r → Rising (match_ordering r (q ∷ x ∷ xs) (x ∷ xs) (x ∷ insert_once q xs))) [
+    elim (slice_cmp nat_cmp q x) as (λ r. slice_cmp nat_cmp q x ≡ r → AreInByteOrder (match_ordering r (q ∷ x ∷ xs) (x ∷ xs) (x ∷ insert_once q xs))) [
       | Less ↦ λ e. ((e, above_less q x xs e h.0), h)
       | Equal ↦ λ e. h
       | Greater ↦ λ e. (above_insert x q xs (turned (slice_cmp nat_cmp q x) (slice_cmp nat_cmp x q) e (bytes_total.antisymm x q)) h.0, insert_rising q xs h.1)
     ] refl
 
-with_rising : (r : Bytes) (o : Option Binding) (qs : List Bytes) → Rising qs → Rising (with_bound_queue r o qs)
+with_rising : (r : Bytes) (o : Option Binding) (qs : List Bytes) → AreInByteOrder qs → AreInByteOrder (with_bound_queue r o qs)
 with_rising r None qs e = e
-with_rising r (Some b) qs e = elim (binds r b) as (λ t. Rising (if t then insert_once b.queue qs else qs)) [ true ↦ insert_rising b.queue qs e | false ↦ e ]
+with_rising r (Some b) qs e = elim (binds r b) as (λ t. AreInByteOrder (if t then insert_once b.queue qs else qs)) [ true ↦ insert_rising b.queue qs e | false ↦ e ]
 
 -- a lookup is in byte order
-lookup_rising : (r : Bytes) (ms : List Bytes) → Rising (lookup r ms)
+pub lookup_rising : (r : Bytes) (ms : List Bytes) → AreInByteOrder (lookup r ms)
 lookup_rising r [] = tt
 lookup_rising r (m ∷ ms) = with_rising r (binding_of m) (lookup r ms) (lookup_rising r ms)
 
-less_off : (q x : Bytes) → slice_cmp nat_cmp q x ≡ Less → q ≡ x → ⊥
+pub less_off : (q x : Bytes) → slice_cmp nat_cmp q x ≡ Less → q ≡ x → ⊥
 less_off q x e i = off (sym (subst (λ y. slice_cmp nat_cmp q y ≡ Less) (sym i) e) ∙ tied_itself bytes_total q)
   where
     off : Less ≡ Equal → ⊥
     off e = cc
 
-above_away : (q : Bytes) (xs : List Bytes) → Above q xs → IsAway q xs
+above_away : (q : Bytes) (xs : List Bytes) → IsBelowAll q xs → IsAway q xs
 above_away q [] a = tt
 above_away q (x ∷ xs) a = (less_off q x a.0, above_away q xs a.1)
 
-rising_differ : (xs : List Bytes) → Rising xs → Differ xs
+rising_differ : (xs : List Bytes) → AreInByteOrder xs → Differ xs
 rising_differ [] h = tt
 rising_differ (x ∷ xs) h = (above_away x xs h.0, rising_differ xs h.1)
 

@@ -4,6 +4,7 @@
 
 ghost use Rattle.key_laws.specs.KeyLaws.{KeyTells, SplitTells, OnlyKeysSplit, OthersApart, PopsCount, PopsTell, StepsTell, RoutesTell, MembersTell, TokenTells};
 ghost use Rattle.command_blocks.specs.EnvelopeTexts.{EnvelopesServe};
+ghost use Rattle.key_laws.specs.Lookups.{LookupsTell, MembersSpell, OneLookup};
 ghost use Rattle.key_laws.specs.SettingLaws.{LayoutsServe};
 
 /// A queue's key tells the queue and its step, and the split of a key gives them for such a key alone.
@@ -29,6 +30,15 @@ pub fn pops()
 pub fn lookups()
     ensures keys { RoutesTell }
     ensures members { MembersTell }
+{}
+
+/// A queue is in the lookup of some members for a routing key exactly where one of them spells a binding of it, with the same
+/// key and no pattern or with a pattern that matches; each stands there once, in byte order of the names, and no other list
+/// is so. A member is read as the binding that it spells.
+pub fn bound_queues()
+    ensures lookup { LookupsTell }
+    ensures only { OneLookup }
+    ensures members { MembersSpell }
 {}
 
 /// A token tells its seed and its number.
