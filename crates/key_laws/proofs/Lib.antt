@@ -1,5 +1,6 @@
 pub mod EnvelopeFacts
 pub mod Examples
+pub mod Fitting
 pub mod Lists
 pub mod Looked
 pub mod Others

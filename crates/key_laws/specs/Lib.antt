@@ -1,3 +1,4 @@
 pub mod KeyLaws
 pub mod SettingLaws
 pub mod Lookups
+pub mod PatternLaws

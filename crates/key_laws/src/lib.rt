@@ -5,6 +5,7 @@
 ghost use Rattle.key_laws.specs.KeyLaws.{KeyTells, SplitTells, OnlyKeysSplit, OthersApart, PopsCount, PopsTell, StepsTell, RoutesTell, MembersTell, TokenTells};
 ghost use Rattle.command_blocks.specs.EnvelopeTexts.{EnvelopesServe};
 ghost use Rattle.key_laws.specs.Lookups.{LookupsTell, MembersSpell, OneLookup};
+ghost use Rattle.key_laws.specs.PatternLaws.{PatternsTell};
 ghost use Rattle.key_laws.specs.SettingLaws.{LayoutsServe};
 
 /// A queue's key tells the queue and its step, and the split of a key gives them for such a key alone.
@@ -39,6 +40,12 @@ pub fn bound_queues()
     ensures lookup { LookupsTell }
     ensures only { OneLookup }
     ensures members { MembersSpell }
+{}
+
+/// A pattern matches a routing key exactly where its words fit the key's, the texts between the dots: each stands for itself,
+/// `*` for one word and `#` for none or more.
+pub fn pattern_words()
+    ensures { PatternsTell }
 {}
 
 /// A token tells its seed and its number.
