@@ -10,10 +10,10 @@ ghost use Rattle.place_model.specs.Histories.{Client, History, IsHistoryPrefix, 
 ghost use Rattle.queue_keys.specs.Layouts.{Layout, is_layout};
 ghost use Rattle.queue_keys.specs.Names.{Bytes};
 ghost use Rattle.place_model.specs.PlaceOf.{StopMoves, place_of};
-ghost use Rattle.place_model.specs.Returns.{ReturnsWhole};
 ghost use Rattle.place_model.specs.Seen.{seen};
 ghost use Rattle.command_blocks.specs.Setting.{setting_of};
 ghost use Rattle.place_model.specs.Starts.{IsSound};
+ghost use Rattle.place_theorem.specs.Bindings.{ReturnsByBindings};
 ghost use Rattle.place_model.specs.declared.history.Entry.TheVariants.{Call as Called, Stop};
 ghost use Rattle.place_model.specs.declared.place.Place.TheVariants.{Never};
 ghost use Rattle.wire_values.specs.declared.value.Value.{Value};
@@ -50,10 +50,11 @@ pub fn a_stop<N>()
 {}
 
 /// Each EXEC that answered an array, of a transaction with more than two commands, is that of a return, and returned its
-/// message whole: out of the table and its index, and to each of the queues that its lookup gave.
+/// message whole: out of the table and its index, and to each of the queues that its lookup gave, over what SMEMBERS answered
+/// in this try of the bindings of the entry's own exchange.
 pub fn whole_return<N>()
     ensures { (κ : Layout) → is_layout κ ≡ true → let σ = setting_of κ texts in (h p : History N) (c at : ℕ) (words : Words) (reply : Reply) (cl : Client) (xs : List Value) (a b q : Command) (qs : List Command)
         → IsSound σ h → IsHistoryPrefix (and_then p (Called c at words reply ∷ [])) h
         → get (after p).clients c ≡ Some cl → command_of words ≡ Exec → items_of reply.answer ≡ Some xs → (seen σ cl.calls).since ≡ a ∷ b ∷ q ∷ qs
-        → ReturnsWhole σ (seen σ cl.calls) (after p).store.keys (after (and_then p (Called c at words reply ∷ []))).store.keys at }
+        → ReturnsByBindings σ cl.calls (after p).store.keys (after (and_then p (Called c at words reply ∷ []))).store.keys at }
 {}

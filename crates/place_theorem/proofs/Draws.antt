@@ -68,6 +68,20 @@ pub draws_split : (σ : Full) (s n : ℕ) (o : Option Bytes) (xs ys : List Call)
 draws_split σ s n o [] ys n' o' r = (n, o, (refl, refl), r)
 draws_split σ s n o (x ∷ xs) ys n' o' r = let q = draws_split σ s r.0 r.1 xs ys n' o' r.3 in (q.0, q.1, (r.0, r.1, r.2, q.2), q.3)
 
+-- how many were drawn never falls
+draw_grows : (σ : Full) (s n : ℕ) (o : Option Bytes) (c : Command) (x : Value) (i : ℕ) (a : Option Bytes) → Draw σ s n o c x i a → n ≤ i
+draw_grows σ s n o c x i a (Passes n' o' c' x' quiet) = omega arith
+draw_grows σ s n o c x i a (Draws n' o' c' x' quiet) = omega arith
+draw_grows σ s n o c x i a (Draws_and_shows n' o' k v x' tag) = omega arith
+draw_grows σ s n o c x i a (Shows n' o' k v x' seen tag) = omega arith
+
+pub draws_grow : (σ : Full) (s n : ℕ) (o : Option Bytes) (xs : List Call) (n' : ℕ) (o' : Option Bytes) → DrawRuns σ s n o xs n' o' → n ≤ n'
+draws_grow σ s n o [] n' o' r = let same : n ≡ n' = r.0 in omega (arith, same)
+draws_grow σ s n o (x ∷ xs) n' o' r =
+    let first : n ≤ r.0 = draw_grows σ s n o (command_of x.words) x.answer r.0 r.1 r.2 in
+    let later : r.0 ≤ n' = draws_grow σ s r.0 r.1 xs n' o' r.3 in
+    omega (arith, first, later)
+
 -- ---- blocks that draw nothing
 
 -- each of the calls publishes nothing

@@ -245,7 +245,7 @@ module _ (σ : Full) (at : ℕ) (s : State) (c : ℕ) (sn : Seen) (kinds : Kinds
   safe_plain : (from to : Cursor) (cm : Command) (some reply : Value) (b : Bool) (ms : List Value) → Step σ from cm some to → Ready σ s c sn from b [] ms → SafeGoal from b [] ms cm reply
   safe_plain from to cm some reply b ms (Passes_by w h cm' x far) ok =
       subst (λ (p : State × Value). reply ≡ p.1 → Safe σ s p.0 c sn cm reply) (sym (aside_plain at s c (conn_in (At None w h None) b [] ms) cm far.1)) (λ is. far_safe σ s c sn kinds alike at cm reply far.0 (aside_quiet σ e s.keys sn cm reply far is))
-  safe_plain from to cm some reply b ms (Asks t u k x) ok = λ is. far_safe σ s c sn kinds alike at (Smembers k) reply tt (record { hand = refl; ran = refl; pushes = refl })
+  safe_plain from to cm some reply b ms (Asks t u e' x told) ok = λ is. far_safe σ s c sn kinds alike at (Smembers (σ.names.binding e')) reply tt (record { hand = refl; ran = refl; pushes = refl })
   safe_plain from to cm some reply b ms (Talks cm' x t) ok = talk_safe cm b ms reply t
   safe_plain from to cm some reply b ms (Publishes k v n q) ok = λ is. publish_safe k v reply q is
   safe_plain from to cm some reply b ms (Finds_none ks qs) ok = λ is. brpop_safe ks reply ok.is.hand (brpop_done (keys_of σ) e s.keys ks kinds qs) is
@@ -306,8 +306,8 @@ module _ (σ : Full) (at : ℕ) (s : State) (c : ℕ) (sn : Seen) (kinds : Kinds
   stands_plain from to cm reply b ms (Passes_by w h cm' x far) l ok =
       subst (λ (p : State × Value). reply ≡ p.1 → Stands σ p.0 c from (seen_by σ.names sn cm reply)) (sym (aside_plain at s c (conn_in (At None w h None) b [] ms) cm far.1))
       (λ is. ran_stands cm from _ (record { hand = (aside_quiet σ e s.keys sn cm reply far is).hand ∙ ok.is.hand; since = tt; asked = tt }) (stands_of σ s c sn from b [] ms ok))
-  stands_plain from to cm reply b ms (Asks t u k x) l ok = λ is.
-      let st = ran_stands (Smembers k) (At None (σ.names.unacked ∷ []) None (Some (t, u, None))) sn ok.is (stands_of σ s c sn (At None (σ.names.unacked ∷ []) None (Some (t, u, None))) b [] ms ok) in
+  stands_plain from to cm reply b ms (Asks t u e' x told) l ok = λ is.
+      let st = ran_stands (Smembers (σ.names.binding e')) (At None (σ.names.unacked ∷ []) None (Some (t, u, None))) sn ok.is (stands_of σ s c sn (At None (σ.names.unacked ∷ []) None (Some (t, u, None))) b [] ms ok) in
       record { marked = st.marked; channels = []; pending = st.pending; mine = st.mine; mark_ok = record { free = st.mark_ok.free; held = st.mark_ok.held }; talk_ok = inl refl; is = record { hand = ok.is.hand; since = tt; asked = refl } }
   stands_plain from to cm reply b ms (Talks cm' x t) l ok = talk_stands cm b ms reply t ok
   stands_plain from to cm reply b ms (Publishes k v n q) l ok = λ is. ran_stands (Lpush k (v ∷ [])) Idle _ (record { hand = ok.is.hand; since = tt; asked = tt }) (stands_of σ s c sn Idle b [] ms ok)

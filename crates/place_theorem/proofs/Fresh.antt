@@ -1,5 +1,5 @@
--- A tag is published once, and the next tag of a client stands nowhere.
-use Rattle.std.proofs.Common.{◌++◌, Bool, List, None, Option, Some, [], ap, arith, false, if◌then◌else◌, inl, inr, length, nat_cmp, nat_lt, refl, subst, suc, sym, true, ℕ, ℤ, ◌∙◌, ◌∷◌, ◌≡◌, ◌≢◌, ◌⊎◌}
+-- A tag is published once, and what a client hasn't drawn stands nowhere.
+use Rattle.std.proofs.Common.{◌++◌, Bool, List, None, Option, Some, [], ap, arith, false, if◌then◌else◌, inl, inr, length, nat_cmp, nat_lt, refl, subst, sym, true, ℕ, ℤ, ◌<◌, ◌≤◌, ◌∙◌, ◌∷◌, ◌≡◌, ◌≢◌, ◌⊎◌}
 use Rattle.std.proofs.lemmas.Cmp.{nat_cmp_total}
 use Rattle.std.specs.FinMap.{get, insert, nat_cmp-IsAntisymmetric}
 use Rattle.wire_values.specs.declared.value.Value.{Value}
@@ -16,8 +16,8 @@ use Rattle.store_laws.proofs.Law.{altering}
 use Rattle.store_laws.proofs.Live.{live}
 use Rattle.store_laws.proofs.Maps.{conn_or, get-insert_other, get-insert_same}
 use Rattle.command_blocks.specs.Answers.{number_of}
-use Rattle.command_blocks.specs.Blocks.{AreBlocks, IsFrontOfBlocks, IsMannered, drawn_by}
-use Rattle.command_blocks.specs.Calls.{Call, call, concat}
+use Rattle.command_blocks.specs.Blocks.{AreBlocks, IsMannered, drawn_by}
+use Rattle.command_blocks.specs.Calls.{Call, IsPrefixOf, call, concat}
 use Rattle.place_model.specs.Counts.{start_count}
 use Rattle.place_model.specs.Histories.{AllMayCome, Client, History, IsHistoryPrefix, MayCome, SystemState, after, after_entries, and_then, conn_of, next, next_of, start_from, table, with_client}
 use Rattle.place_model.specs.Identity.{HasAnywhere, HasEnvelope, HasOrigin, IsNowhere, IsPublished, IsPush, PushedIn}
@@ -26,12 +26,14 @@ use Rattle.command_blocks.specs.Setting.{is_queue}
 use Rattle.place_model.specs.Starts.{IsSound}
 use Rattle.place_model.specs.declared.history.Entry.{Entry}
 use Rattle.place_model.specs.declared.history.Entry.TheVariants.{Call as Called, Heard, Stop}
-use Rattle.place_theorem.proofs.Draws.{DrawRuns, HasDrawn, blocks_draw, drawn_runs, draws_split, none_drawn, pushed_split, pushed_tag}
+use Rattle.place_theorem.proofs.Draws.{DrawRuns, HasDrawn, blocks_draw, drawn_runs, draws_grow, draws_split, none_drawn, pushed_split, pushed_tag}
 use Rattle.place_theorem.proofs.Full.{Full}
 use Rattle.place_theorem.proofs.Kept.{Inv, stopped_is}
 use Rattle.place_theorem.proofs.Machine.{AllApart, Asks, At, Begins, Cursor, Ends, Fails, Finds, Finds_none, Finds_other, Halted, Idle, IsTalk, Leaves, Live, Passes_by, Publishes, Queues, Reads, Refuses, Runs, Step, Talks, Watches, front_runs, runs_split}
 use Rattle.place_theorem.proofs.Once.{SeedsDiffer, seeds_differ, start_body, start_seed}
 use Rattle.place_theorem.proofs.Origins.{identity, identity_anywhere, pushed_last, pushed_more}
+use Rattle.place_theorem.specs.Begun.{BeginsBlocks}
+use Rattle.place_theorem.proofs.Prefixes.{prefix_sound}
 use Rattle.place_theorem.proofs.Safe.{conn_in, queue_in}
 use Rattle.place_theorem.proofs.Sound.{after-append, all_mannered, inv_begin, inv_of, parted}
 use Rattle.place_theorem.proofs.Unborn.{no_place, nothing_pushed, nothing_stored}
@@ -142,22 +144,25 @@ tidy_start σ m cs c cl is before x t b from e p runs =
 
 -- ---- the pushes of one client
 
--- each has a tag of the client's seed, and those of one tag have one body
-pub record PushesOk (σ : Full) (s : ℕ) (l : List Call) : Type 0 where
-  pub own : (t b : Bytes) → PushedIn σ.names t b l → (j : ℕ) × (t ≡ σ.names.tag s j)
+-- each has one of the first n tags of the client's seed, and those of one tag have one body
+pub record PushesOk (σ : Full) (s n : ℕ) (l : List Call) : Type 0 where
+  pub own : (t b : Bytes) → PushedIn σ.names t b l → (j : ℕ) × (j ≤ n) × (t ≡ σ.names.tag s j)
   pub once : (t b b' : Bytes) → PushedIn σ.names t b l → PushedIn σ.names t b' l → b ≡ b'
 
-mannered_drawn : (σ : Full) (s : ℕ) (l : List Call) → IsFrontOfBlocks σ.names s l → PushesOk σ s l
-mannered_drawn σ s l h =
-    let whole = blocks_draw σ s 0 0 None h.0 h.1 in
-    let part = draws_split σ s 0 None l h.2.0 (drawn_by σ.names s 0 0 h.0 h.1) whole.0 (subst (λ z. DrawRuns σ s 0 None z (drawn_by σ.names s 0 0 h.0 h.1) whole.0) (sym h.2.1) whole.1) in
+-- calls that are a prefix of blocks have drawn no more than these
+front_pushes : (σ : Full) (s : ℕ) (l : List Call) (bs : List (List Call)) (blocks : AreBlocks σ.names s 0 0 bs) → IsPrefixOf l (concat bs) → PushesOk σ s (drawn_by σ.names s 0 0 bs blocks) l
+front_pushes σ s l bs blocks h =
+    let n = drawn_by σ.names s 0 0 bs blocks in
+    let whole = blocks_draw σ s 0 0 None bs blocks in
+    let part = draws_split σ s 0 None l h.0 n whole.0 (subst (λ z. DrawRuns σ s 0 None z n whole.0) (sym h.1) whole.1) in
+    let few : part.0 ≤ n = draws_grow σ s part.0 part.1 h.0 n whole.0 part.3 in
     let d : HasDrawn σ s part.0 part.1 l = drawn_runs σ s 0 part.0 None part.1 [] l part.2 (none_drawn σ s) in
-    record { own = λ t b p. let j = d.own t b p in (j.0, j.2); once = d.once }
+    record { own = λ t b p. let j = d.own t b p in (j.0, omega (arith, j.1, few), j.2); once = d.once }
 
 -- a push outside a transaction is listed with any number
 listed_number : (σ : Full) (from to : Cursor) (cm : Command) (listed : Value) (k v : Bytes) → Step σ from cm listed to → Live to → cm ≡ Lpush k (v ∷ []) → is_queue σ.names k ≡ true → queue_in from ≡ None → (m : ℤ) × (number_of listed ≡ Some m)
 listed_number σ from to cm listed k v (Passes_by w h c x far) live is q free = let a : AllApart σ (k ∷ []) = subst (λ z. AllApart σ (altering z)) is far.0 in let z = a.0.0 in absurd (cc (z, q))
-listed_number σ from to cm listed k v (Asks t u k' x) live is q free = absurd (cc is)
+listed_number σ from to cm listed k v (Asks t u e x named) live is q free = absurd (cc is)
 listed_number σ from to cm listed k v (Talks c x t) live is q free = absurd (subst IsTalk is t)
 listed_number σ from to cm listed k v (Publishes k' v' n q') live is q free = (n, number_of-Integer n)
 listed_number σ from to cm listed k v (Finds_none ks qs) live is q free = absurd (cc is)
@@ -172,15 +177,16 @@ listed_number σ from to cm listed k v (Reads t u) live is q free = absurd (cc i
 listed_number σ from to cm listed k v (Leaves w r) live is q free = absurd (cc is)
 listed_number σ from to cm listed k v (Refuses f g c x y st) live is q free = absurd live
 
-manner_pushes : (σ : Full) (s : ℕ) (l : List Call) → IsMannered σ.names s l → Tidy σ l → PushesOk σ s l
-manner_pushes σ s l (inl h) tidy = mannered_drawn σ s l h
-manner_pushes σ s l (inr h) tidy =
-    let d = mannered_drawn σ s (h.0 ++ call h.1 h.2 h.3 ∷ []) h.6 in
+-- so have calls that begin blocks
+begun_pushes : (σ : Full) (s : ℕ) (l : List Call) (bs : List (List Call)) (blocks : AreBlocks σ.names s 0 0 bs) → BeginsBlocks l bs → Tidy σ l → PushesOk σ s (drawn_by σ.names s 0 0 bs blocks) l
+begun_pushes σ s l bs blocks (inl h) tidy = front_pushes σ s l bs blocks h
+begun_pushes σ s l bs blocks (inr h) tidy =
+    let d = front_pushes σ s (h.0 ++ call h.1 h.2 h.3 ∷ []) bs blocks h.6 in
     record { own = λ t b p. d.own t b (listed t b p); once = λ t b b' p p'. d.once t b b' (listed t b p) (listed t b' p') }
   where
     last_listed : (t b : Bytes) → IsPush σ.names t b (command_of h.2) h.4 → IsPush σ.names t b (command_of h.2) h.3
     last_listed t b p =
-        let r = front_runs σ s (h.0 ++ call h.1 h.2 h.3 ∷ []) h.6 in
+        let r = front_runs σ s (h.0 ++ call h.1 h.2 h.3 ∷ []) (bs, blocks, h.6) in
         let parts = runs_split σ Idle r.0 h.0 (call h.1 h.2 h.3 ∷ []) r.1 in
         let step : Step σ parts.0 (command_of h.2) h.3 r.0 = subst (λ z. Step σ parts.0 (command_of h.2) h.3 z) parts.2.2 parts.2.1 in
         let n = listed_number σ parts.0 r.0 (command_of h.2) h.3 p.key p.bytes step r.2 p.pushes p.queue (tidy h.0 (call h.1 h.2 h.4) t b parts.0 h.5 p parts.1) in
@@ -191,6 +197,14 @@ manner_pushes σ s l (inr h) tidy =
       | inl q ↦ pushed_more σ t b h.0 (call h.1 h.2 h.3 ∷ []) q
       | inr q ↦ pushed_last σ t b h.0 (call h.1 h.2 h.3) (last_listed t b q)
     ]
+
+-- a client in its manner has begun blocks
+manner_begins : (σ : Full) (s : ℕ) (l : List Call) → IsMannered σ.names s l → (bs : List (List Call)) × AreBlocks σ.names s 0 0 bs × BeginsBlocks l bs
+manner_begins σ s l (inl h) = (h.0, h.1, inl h.2)
+manner_begins σ s l (inr h) = (h.6.0, h.6.1, inr (h.0, h.1, h.2, h.3, h.4, h.5, h.6.2))
+
+manner_pushes : (σ : Full) (s : ℕ) (l : List Call) → IsMannered σ.names s l → Tidy σ l → (n : ℕ) × PushesOk σ s n l
+manner_pushes σ s l h tidy = let b = manner_begins σ s l h in (drawn_by σ.names s 0 0 b.0 b.1, begun_pushes σ s l b.0 b.1 b.2 tidy)
 
 -- ---- the pushes of all clients
 
@@ -239,7 +253,7 @@ module _ {N : Type 0} (σ : Full) (h p : History N) (sound : IsSound σ.names h)
   differ : SeedsDiffer p.clients
   differ = seeds_differ p.clients s.table.seeds_differ
 
-  pushes_ok : (c : ℕ) (cl : Client) → get end.clients c ≡ Some cl → PushesOk σ cl.seed cl.calls
+  pushes_ok : (c : ℕ) (cl : Client) → get end.clients c ≡ Some cl → (n : ℕ) × PushesOk σ cl.seed n cl.calls
   unfolding AllTidy
   pushes_ok c cl is = manner_pushes σ cl.seed cl.calls (manners c cl is) (all c cl is)
     where
@@ -266,36 +280,42 @@ module _ {N : Type 0} (σ : Full) (h p : History N) (sound : IsSound σ.names h)
   one_body t b b' o o' =
       let ok = pushes_ok o.0 o.1 o.2 in
       let ok' = pushes_ok o'.0 o'.1 o'.2 in
-      let j = ok.own t b o.3 in
-      let j' = ok'.own t b' o'.3 in
-      let same : o.1.seed ≡ o'.1.seed = (σ.laws.tag_parts o.1.seed j.0 o'.1.seed j'.0 (subst (λ x. σ.names.is_tag x ≡ true) j.1 (pushed_tag σ t b o.1.calls o.3)) (sym j.1 ∙ j'.1)).0 in
+      let j = ok.1.own t b o.3 in
+      let j' = ok'.1.own t b' o'.3 in
+      let same : o.1.seed ≡ o'.1.seed = (σ.laws.tag_parts o.1.seed j.0 o'.1.seed j'.0 (subst (λ x. σ.names.is_tag x ≡ true) j.2 (pushed_tag σ t b o.1.calls o.3)) (sym j.2 ∙ j'.2)).0 in
       let c : o.0 ≡ o'.0 = same_client o.0 o'.0 o.1 o'.1 o.2 o'.2 same in
       let here : get end.clients o.0 ≡ Some o'.1 = subst (λ y. get end.clients y ≡ Some o'.1) (sym c) o'.2 in
       let they : o'.1 ≡ o.1 = cc (here, o.2) in
-      ok.once t b b' o.3 (subst (λ y. PushedIn σ.names t b' y.calls) they o'.3)
+      ok.1.once t b b' o.3 (subst (λ y. PushedIn σ.names t b' y.calls) they o'.3)
 
   pub one_publication : (t b b' : Bytes) → IsPublished σ.names (after p) t b → IsPublished σ.names (after p) t b' → b ≡ b'
   one_publication t b b' o o' = one_body t b b' (at_end t b o) (at_end t b' o')
 
-  -- at a block's start the next tag was published by nobody
-  fresh_published : (c : ℕ) (cl : Client) (bs : List (List Call)) (blocks : AreBlocks σ.names cl.seed 0 0 bs) (b : Bytes) → get (after p).clients c ≡ Some cl → cl.calls ≡ concat bs → IsPublished σ.names (after p) (σ.names.tag cl.seed (suc (drawn_by σ.names cl.seed 0 0 bs blocks))) b → ⊥
-  fresh_published c cl bs blocks b is calls o =
-      let n = drawn_by σ.names cl.seed 0 0 bs blocks in
+  -- the prefix's own clients
+  here : IsSound σ.names p
+  here = prefix_sound σ.names h p sound pre
+
+  tidy_here : AllTidy σ (after p)
+  tidy_here = tidy_after σ (start_count σ.names p.start) first p.entries (inv_begin σ p.clients p.start p.used here.start) (tidy_start σ p.start p.clients) here.legal (all_mannered σ p here)
+
+  -- a tag that the client hasn't drawn was published by nobody
+  fresh_published : (c : ℕ) (cl : Client) (bs : List (List Call)) (blocks : AreBlocks σ.names cl.seed 0 0 bs) (n : ℕ) (b : Bytes) → get (after p).clients c ≡ Some cl → BeginsBlocks cl.calls bs → drawn_by σ.names cl.seed 0 0 bs blocks < n → IsPublished σ.names (after p) (σ.names.tag cl.seed n) b → ⊥
+  unfolding AllTidy
+  fresh_published c cl bs blocks n b is begun beyond o =
+      let t : Bytes = σ.names.tag cl.seed n in
       let g = grown o.0 o.1 o.2 in
       -- the publisher's tags are of its own seed, so it is this client
-      let j = (pushes_ok o.0 g.0 g.1).own (σ.names.tag cl.seed (suc n)) b (subst (PushedIn σ.names (σ.names.tag cl.seed (suc n)) b) g.2.1 (pushed_more σ (σ.names.tag cl.seed (suc n)) b o.1.calls g.2.0 o.3)) in
-      let same_seed : cl.seed ≡ g.0.seed = (σ.laws.tag_parts cl.seed (suc n) g.0.seed j.0 (pushed_tag σ (σ.names.tag cl.seed (suc n)) b o.1.calls o.3) j.1).0 in
+      let j = (pushes_ok o.0 g.0 g.1).1.own t b (subst (PushedIn σ.names t b) g.2.1 (pushed_more σ t b o.1.calls g.2.0 o.3)) in
+      let same_seed : cl.seed ≡ g.0.seed = (σ.laws.tag_parts cl.seed n g.0.seed j.0 (pushed_tag σ t b o.1.calls o.3) j.2).0 in
       let there = seed_start first (p.entries ++ pre.0) o.0 g.0.seed (g.0, g.1, refl) in
       let us = seed_start first p.entries c cl.seed (cl, is, refl) in
       let same : o.0 ≡ c = differ o.0 c there.0 us.0 there.1 us.1 (there.2 ∙ sym same_seed ∙ sym us.2) in
       let mine : get (after p).clients c ≡ Some o.1 = subst (λ y. get (after p).clients y ≡ Some o.1) same o.2 in
       let they : o.1 ≡ cl = cc (mine, is) in
       -- and it has drawn fewer
-      let r = blocks_draw σ cl.seed 0 0 None bs blocks in
-      let d : HasDrawn σ cl.seed n r.0 cl.calls = subst (HasDrawn σ cl.seed n r.0) (sym calls) (drawn_runs σ cl.seed 0 n None r.0 [] (concat bs) r.1 (none_drawn σ cl.seed)) in
-      let i = d.own (σ.names.tag cl.seed (suc n)) b (subst (λ y. PushedIn σ.names (σ.names.tag cl.seed (suc n)) b y.calls) they o.3) in
-      let k : suc n ≡ i.0 = (σ.laws.tag_parts cl.seed (suc n) cl.seed i.0 (pushed_tag σ (σ.names.tag cl.seed (suc n)) b o.1.calls o.3) i.2).1 in
-      omega (arith, k, i.1)
+      let i = (begun_pushes σ cl.seed cl.calls bs blocks begun (tidy_here c cl is)).own t b (subst (λ y. PushedIn σ.names t b y.calls) they o.3) in
+      let k : n ≡ i.0 = (σ.laws.tag_parts cl.seed n cl.seed i.0 (pushed_tag σ t b o.1.calls o.3) i.2).1 in
+      omega (arith, k, i.1, beyond)
 
   -- a tag of a client's seed isn't in the start
   not_started : (c : ℕ) (cl : Client) (b : Bytes) (j : ℕ) → get (after p).clients c ≡ Some cl → HasEnvelope σ.names p.start (σ.names.tag cl.seed j) b → ⊥
@@ -303,12 +323,12 @@ module _ {N : Type 0} (σ : Full) (h p : History N) (sound : IsSound σ.names h)
       let us = seed_start first p.entries c cl.seed (cl, is, refl) in
       start_seed σ p.start p.used p.clients (σ.names.tag cl.seed j) b s.start s.table st c us.0 us.1 j (ap (λ z. σ.names.tag z j) (sym us.2))
 
-  -- and so the next tag stands nowhere
-  pub fresh_tag : (c : ℕ) (cl : Client) (bs : List (List Call)) (blocks : AreBlocks σ.names cl.seed 0 0 bs) → get (after p).clients c ≡ Some cl → cl.calls ≡ concat bs → IsNowhere σ.names p (σ.names.tag cl.seed (suc (drawn_by σ.names cl.seed 0 0 bs blocks)))
-  fresh_tag c cl bs blocks is calls =
-      let t : Bytes = σ.names.tag cl.seed (suc (drawn_by σ.names cl.seed 0 0 bs blocks)) in
-      let unpublished : (b : Bytes) → IsPublished σ.names (after p) t b → ⊥ = λ b o. fresh_published c cl bs blocks b is calls o in
-      let not_in_start : (b : Bytes) → HasEnvelope σ.names p.start t b → ⊥ = λ b st. not_started c cl b (suc (drawn_by σ.names cl.seed 0 0 bs blocks)) is st in
+  -- and so such a tag stands nowhere
+  pub fresh_tag : (c : ℕ) (cl : Client) (bs : List (List Call)) (blocks : AreBlocks σ.names cl.seed 0 0 bs) (n : ℕ) → get (after p).clients c ≡ Some cl → BeginsBlocks cl.calls bs → drawn_by σ.names cl.seed 0 0 bs blocks < n → IsNowhere σ.names p (σ.names.tag cl.seed n)
+  fresh_tag c cl bs blocks n is begun beyond =
+      let t : Bytes = σ.names.tag cl.seed n in
+      let unpublished : (b : Bytes) → IsPublished σ.names (after p) t b → ⊥ = λ b o. fresh_published c cl bs blocks n b is begun beyond o in
+      let not_in_start : (b : Bytes) → HasEnvelope σ.names p.start t b → ⊥ = λ b st. not_started c cl b n is st in
       let not_stored : (b : Bytes) → HasEnvelope σ.names (after p).store.keys t b → ⊥ = λ b st. origin_none t b unpublished not_in_start (identity σ h p t b sound pre st) in
       let now = nothing_stored σ (after p).store.keys t not_stored in
       let began = nothing_stored σ p.start t not_in_start in
@@ -338,9 +358,9 @@ module _ {N : Type 0} (σ : Full) (h p : History N) (sound : IsSound σ.names h)
   own_seed : (t b : Bytes) → IsPublished σ.names (after p) t b → (c : ℕ) × (cl : Client) × (get (table p.clients) c ≡ Some cl) × ((j : ℕ) × (t ≡ σ.names.tag cl.seed j))
   own_seed t b o =
       let e = at_end t b o in
-      let j = (pushes_ok e.0 e.1 e.2).own t b e.3 in
+      let j = (pushes_ok e.0 e.1 e.2).1.own t b e.3 in
       let there = seed_start first (p.entries ++ pre.0) e.0 e.1.seed (e.1, e.2, refl) in
-      (e.0, there.0, there.1, (j.0, j.1 ∙ ap (λ z. σ.names.tag z j.0) (sym there.2)))
+      (e.0, there.0, there.1, (j.0, j.2 ∙ ap (λ z. σ.names.tag z j.0) (sym there.2)))
 
   -- all envelopes of a tag are one but for their marks
   pub one_tree : (t b b' : Bytes) → HasAnywhere σ.names (after p) t b → HasAnywhere σ.names (after p) t b' → b ≡ b'

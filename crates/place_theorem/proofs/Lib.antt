@@ -13,6 +13,7 @@ pub mod First
 pub mod Stopped
 pub mod Nowhere
 pub mod Pushed
+pub mod Bindings
 pub mod Returned
 pub mod Standing
 pub mod Origins

@@ -82,7 +82,7 @@ Idle = At None [] None None
 -- one command with its reply
 pub data Step (σ : Full) : Cursor → Command → Value → Cursor → Type 0 where
   Passes_by : (w : List Bytes) (h : Option (Bytes × Bytes)) (c : Command) (x : Value) → IsAside σ c → Step σ (At None w h None) c x (At None w h None)
-  Asks : (t u k : Bytes) (x : Value) → Step σ (At None (σ.names.unacked ∷ []) None (Some (t, u, None))) (Smembers k) x (At None (σ.names.unacked ∷ []) None (Some (t, u, Some x)))
+  Asks : (t u e : Bytes) (x : Value) → σ.names.exchange_in u ≡ Some e → Step σ (At None (σ.names.unacked ∷ []) None (Some (t, u, None))) (Smembers (σ.names.binding e)) x (At None (σ.names.unacked ∷ []) None (Some (t, u, Some x)))
   Talks : (c : Command) (x : Value) → IsTalk c → Step σ Idle c x Idle
   Publishes : (k v : Bytes) (z : ℤ) → is_queue σ.names k ≡ true → Step σ Idle (Lpush k (v ∷ [])) (Integer z) Idle
   Finds_none : (ks : List Bytes) → QueueKeys σ ks → Step σ Idle (Brpop ks) NullArray Idle
@@ -106,7 +106,7 @@ Live other = Unit {0}
 -- nothing follows a reply that isn't listed
 pub step_live : (σ : Full) (from to : Cursor) (c : Command) (reply : Value) → Step σ from c reply to → Live from
 step_live σ from to c reply (Passes_by w h cm x a) = tt
-step_live σ from to c reply (Asks t u k x) = tt
+step_live σ from to c reply (Asks t u e x is) = tt
 step_live σ from to c reply (Talks cm x a) = tt
 step_live σ from to c reply (Publishes k v n q) = tt
 step_live σ from to c reply (Finds_none ks qs) = tt
@@ -190,10 +190,10 @@ module _ (σ : Full) where
   asked_is u ms None e = inl e
   asked_is u ms (Some x) e = inr refl
 
-  asking_run : (t u : Bytes) (b : Cursor) (o : Option Bytes) (a : ℕ) (ms : List Bytes) (rest : List Call) → Runs σ (At None (σ.names.unacked ∷ []) None (Some (t, u, asked o ms))) rest b → Runs σ (At None (σ.names.unacked ∷ []) None (Some (t, u, None))) (asking σ.names o a ms rest) b
+  asking_run : (t u : Bytes) (b : Cursor) (o : Option Bytes) (a : ℕ) (ms : List Bytes) (rest : List Call) → σ.names.exchange_in u ≡ o → Runs σ (At None (σ.names.unacked ∷ []) None (Some (t, u, asked o ms))) rest b → Runs σ (At None (σ.names.unacked ∷ []) None (Some (t, u, None))) (asking σ.names o a ms rest) b
   unfolding command_of
-  asking_run t u b None a ms rest run = run
-  asking_run t u b (Some e) a ms rest run = (At None (σ.names.unacked ∷ []) None (Some (t, u, Some (bulks ms))), Asks t u (σ.names.binding e) (bulks ms), run)
+  asking_run t u b None a ms rest is run = run
+  asking_run t u b (Some e) a ms rest is run = (At None (σ.names.unacked ∷ []) None (Some (t, u, Some (bulks ms))), Asks t u e (bulks ms) is, run)
 
   -- the commands with those of the pushes
   gathered : Side → Bytes → List Command → List Bytes → List Command
@@ -237,7 +237,7 @@ module _ (σ : Full) where
         (
           At None w None (Some (t, y.entry, None)),
           Reads t y.entry,
-          asking_run t y.entry b (σ.names.exchange_in y.entry) y.c y.members _ (
+          asking_run t y.entry b (σ.names.exchange_in y.entry) y.c y.members _ refl (
             At (Some []) w None r,
             Begins w None r,
             (
@@ -264,7 +264,7 @@ module _ (σ : Full) where
     (
       At None (σ.names.unacked ∷ []) None (Some (t, u, None)),
       Reads t u,
-      asking_run t u Idle (σ.names.exchange_in u) c ms (leaving d) (Idle, Leaves (σ.names.unacked ∷ []) (Some (t, u, asked (σ.names.exchange_in u) ms)), refl),
+      asking_run t u Idle (σ.names.exchange_in u) c ms (leaving d) refl (Idle, Leaves (σ.names.unacked ∷ []) (Some (t, u, asked (σ.names.exchange_in u) ms)), refl),
     ),
   )
   tries_run side t n end l (Whole_try m y zs ok) = try_run side t y (integers zs) [] Idle ok (λ whole. Ends _ _ _ _ _ whole) refl

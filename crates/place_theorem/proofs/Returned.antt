@@ -28,18 +28,20 @@ use Rattle.queue_keys.specs.Lookup.{lookup}
 use Rattle.queue_keys.specs.Names.{Bytes}
 use Rattle.queue_keys.specs.QueueKeys.{Among, IsAway}
 use Rattle.command_blocks.specs.ReturnBlocks.{Carries}
-use Rattle.place_model.specs.Returns.{IsWholeReturn, ReturnsWhole, gain, push_commands, take_out}
+use Rattle.place_model.specs.Returns.{IsWholeReturn, gain, push_commands, take_out}
 use Rattle.place_model.specs.Seen.{Seen, seen}
 use Rattle.command_blocks.specs.Setting.{is_queue}
 use Rattle.place_model.specs.Starts.{IsHashOrNone, IsListOrNone, IsSound, elements_at, elements_of}
 use Rattle.command_blocks.specs.declared.side.Side.{Side}
 use Rattle.command_blocks.specs.declared.side.Side.TheVariants.{Left, Right}
 use Rattle.place_model.specs.declared.history.Entry.TheVariants.{Call as Called}
+use Rattle.place_theorem.specs.Bindings.{ReturnsByBindings, set_read}
+use Rattle.place_theorem.proofs.Bindings.{ReadAt, ReadOf, members_read, runs_read}
 use Rattle.place_theorem.proofs.Full.{Alike, Full, Kinds, keys_of}
 use Rattle.place_theorem.proofs.Kept.{Inv}
 use Rattle.place_theorem.proofs.Machine.{Asks, At, Begins, Cursor, Ends, Fails, Finds, Finds_none, Finds_other, Idle, IsTalk, Leaves, Passes_by, Publishes, Queues, Reads, Refuses, Runs, Step, Talks, Watches, Whole, Whole_end, Whole_free, Whole_pop, Whole_return, is_aside, runs_split, step_live}
 use Rattle.place_theorem.proofs.Pushed.{among_queue, pushes_away, pushes_gain}
-use Rattle.place_theorem.proofs.Safe.{AskedIs, Stands, conn_in, queue_in}
+use Rattle.place_theorem.proofs.Safe.{AskedIs, Stands, conn_in, queue_in, read_in}
 use Rattle.place_theorem.proofs.Settle.{get-lasting, index_kept, state_is, unacked_kept}
 use Rattle.place_theorem.proofs.Sound.{after-append, entry_of}
 use Rattle.place_theorem.proofs.Transactions.{AllPushed, all_pushed, kept_alike, turned}
@@ -52,7 +54,7 @@ Inside σ from = (cs : List Command) × (w : List Bytes) × (h : Option (Bytes �
 
 pub exec_inside : (σ : Full) (from to : Cursor) (c : Command) (x : Value) → Step σ from c x to → c ≡ Exec → Inside σ from
 exec_inside σ from to c x (Passes_by w h cm y far) is = let z : is_aside Exec ≡ true = subst (λ a. is_aside a ≡ true) is far.1 in absurd (cc z)
-exec_inside σ from to c x (Asks t u k y) is = absurd (cc is)
+exec_inside σ from to c x (Asks t u e y named) is = absurd (cc is)
 exec_inside σ from to c x (Talks cm y t) is = absurd (subst IsTalk is t)
 exec_inside σ from to c x (Publishes k v n q) is = absurd (cc is)
 exec_inside σ from to c x (Finds_none ks qs) is = absurd (cc is)
@@ -179,21 +181,22 @@ whole_from σ m m' at side t u v ms kinds carries was taken =
     go k false b is = inl (is ∙ ap (λ x. if x then None else get m k) b)
 
 -- at the machine: EXEC answered an array, and more than two commands were queued
-abbrev Made : Full → State → ℕ → Seen → Type 0
-Made σ s c sn = (side : Side) × (t : Bytes) × (u : Bytes) × (v : Bytes) × (ms : List Bytes) × Carries σ.names u t v × (table_entry σ.names s.keys t ≡ Some u) × (sn.since ≡ take_out σ.names t (push_commands side v (σ.names.keys_in u ms)))
-    × ((σ.names.exchange_in u ≡ None) ⊎ (sn.asked ≡ bulks ms))
+abbrev Made : Full → State → ℕ → Seen → Option (Bytes × Value) → Type 0
+Made σ s c sn o = (side : Side) × (t : Bytes) × (u : Bytes) × (v : Bytes) × (ms : List Bytes) × Carries σ.names u t v × (table_entry σ.names s.keys t ≡ Some u) × (sn.since ≡ take_out σ.names t (push_commands side v (σ.names.keys_in u ms)))
+    × ((σ.names.exchange_in u ≡ None) ⊎ (sn.asked ≡ bulks ms)) × ((σ.names.exchange_in u ≡ None) ⊎ ReadAt σ u (bulks ms) o)
 
 asked_is : (σ : Full) (t u v : Bytes) (ms : List Bytes) (a : Option Value) (x : Value) → (σ.names.exchange_in u ≡ None) ⊎ (a ≡ Some (bulks ms)) → AskedIs (Some (t, u, a)) x → (σ.names.exchange_in u ≡ None) ⊎ (x ≡ bulks ms)
 asked_is σ t u v ms a x (inl none) is = inl none
 asked_is σ t u v ms None x (inr e) is = absurd (cc e)
 asked_is σ t u v ms (Some y) x (inr e) is = let z : y ≡ bulks ms = cc e in inr (is ∙ z)
 
-made : (σ : Full) (s : State) (c : ℕ) (sn : Seen) (cs : List Command) (w : List Bytes) (h : Option (Bytes × Bytes)) (r : Option (Bytes × Bytes × Option Value)) (a b q : Command) (qs : List Command)
-    → Whole σ cs w h r → sn.since ≡ a ∷ b ∷ q ∷ qs → (ok : Stands σ s c (At (Some cs) w h r) sn) → ok.marked ≡ false → Made σ s c sn
-made σ s c sn cs w h r a b q qs (Whole_pop t u n tag) more ok clear = absurd (cc (more, ok.is.since))
-made σ s c sn cs w h r a b q qs (Whole_end t) more ok clear = absurd (cc (more, ok.is.since))
-made σ s c sn cs w h r a b q qs (Whole_return side t u v ms x carries lookup) more ok clear = (side, t, u, v, ms, carries, ok.mark_ok.held.1 clear, ok.is.since, asked_is σ t u v ms x sn.asked lookup ok.is.asked)
-made σ s c sn cs w h r a b q qs (Whole_free ks w' far) more ok clear = absurd (cc (more, ok.is.since))
+made : (σ : Full) (s : State) (c : ℕ) (sn : Seen) (cs : List Command) (w : List Bytes) (h : Option (Bytes × Bytes)) (r : Option (Bytes × Bytes × Option Value)) (o : Option (Bytes × Value)) (a b q : Command) (qs : List Command)
+    → Whole σ cs w h r → ReadOf σ r o → sn.since ≡ a ∷ b ∷ q ∷ qs → (ok : Stands σ s c (At (Some cs) w h r) sn) → ok.marked ≡ false → Made σ s c sn o
+made σ s c sn cs w h r o a b q qs (Whole_pop t u n tag) told more ok clear = absurd (cc (more, ok.is.since))
+made σ s c sn cs w h r o a b q qs (Whole_end t) told more ok clear = absurd (cc (more, ok.is.since))
+made σ s c sn cs w h r o a b q qs (Whole_return side t u v ms x carries lookup) told more ok clear =
+    (side, t, u, v, ms, carries, ok.mark_ok.held.1 clear, ok.is.since, asked_is σ t u v ms x sn.asked lookup ok.is.asked, members_read σ t u ms x o lookup told)
+made σ s c sn cs w h r o a b q qs (Whole_free ks w' far) told more ok clear = absurd (cc (more, ok.is.since))
 
 -- the connection isn't marked, and the keys are those after the commands
 pub exec_ran : (σ : Full) (at : ℕ) (s : State) (c : ℕ) (cs : List Command) (w : List Bytes) (h : Option (Bytes × Bytes)) (r : Option (Bytes × Bytes × Option Value)) (b : Bool) (ch : List Bytes) (ps : List Value) (xs : List Value) → (ch ≡ []) ⊎ (At (Some cs) w h r ≡ Idle)
@@ -206,7 +209,7 @@ exec_ran σ at s c cs w h r b (y ∷ ys) ps xs (inr z) is = let q : queue_in (At
 -- one entry of a client in order
 returns_at : (σ : Full) (base : Bytes → ℕ) (w : SystemState) (inv : Inv σ base w) (c : ℕ) (x : Call) (cl : Client) (to : Cursor) (xs : List Value) (a b q : Command) (qs : List Command)
     → get w.clients c ≡ Some cl → cl.stopped ≡ false → x.answer ≡ (serve x.at (ready w x.at c).store c (command_of x.words) (conn (ready w x.at c).store.conns c)).1 → Runs σ Idle (cl.calls ++ x ∷ []) to
-    → command_of x.words ≡ Exec → x.answer ≡ Array xs → (seen σ.names cl.calls).since ≡ a ∷ b ∷ q ∷ qs → ReturnsWhole σ.names (seen σ.names cl.calls) w.store.keys (serve x.at (ready w x.at c).store c (command_of x.words) (conn (ready w x.at c).store.conns c)).0.keys x.at
+    → command_of x.words ≡ Exec → x.answer ≡ Array xs → (seen σ.names cl.calls).since ≡ a ∷ b ∷ q ∷ qs → ReturnsByBindings σ.names cl.calls w.store.keys (serve x.at (ready w x.at c).store c (command_of x.words) (conn (ready w x.at c).store.conns c)).0.keys x.at
 returns_at σ base w inv c x cl to xs a b q qs known runs_on right runs exec array more =
     let s : State = (ready w x.at c).store in
     let sn : Seen = seen σ.names cl.calls in
@@ -220,28 +223,32 @@ returns_at σ base w inv c x cl to xs a b q qs known runs_on right runs exec arr
     let same : serve x.at s c (command_of x.words) (conn s.conns c) ≡ serve x.at s c Exec (conn_in cur here.marked here.channels here.pending) = ap (λ k. serve x.at s c k (conn s.conns c)) exec ∙ ap (serve x.at s c Exec) here.mine in
     let answered : Array xs ≡ (serve x.at s c Exec (conn_in cur here.marked here.channels here.pending)).1 = sym array ∙ right ∙ ap (λ p. p.1) same in
     let ran = exec_ran σ x.at s c inside.0 inside.1 inside.2 inside.3 here.marked here.channels here.pending xs here.talk_ok answered in
-    let it = made σ s c sn inside.0 inside.1 inside.2 inside.3 a b q qs inside.5 more here ran.0 in
+    let told : ReadOf σ inside.3 (set_read cl.calls) = subst (λ f. ReadOf σ (read_in f) (set_read cl.calls)) inside.4 (runs_read σ Idle parts.0 cl.calls None parts.1 tt) in
+    let it = made σ s c sn inside.0 inside.1 inside.2 inside.3 (set_read cl.calls) a b q qs inside.5 told more here ran.0 in
     let commands : inside.0 ≡ take_out σ.names it.1 (push_commands it.0 it.3 (σ.names.keys_in it.2 it.4)) = sym here.is.since ∙ it.7 in
     let cs : Conns = insert s.conns c (conn_in Idle false [] here.pending) in
     let m' : Keys = last σ x.at cs s c sn ready_inv.kinds ready_inv.alike it.1 it.0 it.2 it.3 it.4 it.5.1 in
     let keys : (serve x.at s c (command_of x.words) (conn s.conns c)).0.keys ≡ m' = ap (λ p. p.0.keys) same ∙ ran.1 ∙ ap (λ l. (run_all x.at s.keys cs l).keys) commands in
     let took : Taken σ s.keys m' it.0 it.1 it.3 (σ.names.keys_in it.2 it.4) = taken σ x.at cs s c sn ready_inv.kinds ready_inv.alike it.1 it.0 it.2 it.3 it.4 it.5.1 in
     record {
-      side = it.0;
-      tag = it.1;
-      entry = it.2;
-      envelope = it.3;
-      members = it.4;
-      commands = it.7;
-      lookup = it.8;
-      whole = subst (λ k. IsWholeReturn σ.names w.store.keys k x.at it.0 it.1 it.2 it.3 (σ.names.keys_in it.2 it.4)) (sym keys)
-          (whole_from σ w.store.keys m' x.at it.0 it.1 it.2 it.3 it.4 inv.kinds it.5 (subst (λ k. table_entry σ.names k it.1 ≡ Some it.2) live it.6) (subst (λ k. Taken σ k m' it.0 it.1 it.3 (σ.names.keys_in it.2 it.4)) live took));
+      returned = record {
+        side = it.0;
+        tag = it.1;
+        entry = it.2;
+        envelope = it.3;
+        members = it.4;
+        commands = it.7;
+        lookup = it.8;
+        whole = subst (λ k. IsWholeReturn σ.names w.store.keys k x.at it.0 it.1 it.2 it.3 (σ.names.keys_in it.2 it.4)) (sym keys)
+            (whole_from σ w.store.keys m' x.at it.0 it.1 it.2 it.3 it.4 inv.kinds it.5 (subst (λ k. table_entry σ.names k it.1 ≡ Some it.2) live it.6) (subst (λ k. Taken σ k m' it.0 it.1 it.3 (σ.names.keys_in it.2 it.4)) live took));
+      };
+      bindings = it.9;
     }
 
 -- a return that ran returned its message whole
 pub whole_return : {N : Type 0} (σ : Full) (h p : History N) (c at : ℕ) (words : Words) (reply : Reply) (cl : Client) (xs : List Value) (a b q : Command) (qs : List Command) → IsSound σ.names h → IsHistoryPrefix (and_then p (Called c at words reply ∷ [])) h
     → get (after p).clients c ≡ Some cl → command_of words ≡ Exec → items_of reply.answer ≡ Some xs → (seen σ.names cl.calls).since ≡ a ∷ b ∷ q ∷ qs
-    → ReturnsWhole σ.names (seen σ.names cl.calls) (after p).store.keys (after (and_then p (Called c at words reply ∷ []))).store.keys at
+    → ReturnsByBindings σ.names cl.calls (after p).store.keys (after (and_then p (Called c at words reply ∷ []))).store.keys at
 whole_return {N = N} σ h p c at words reply cl xs a b q qs sound pre known exec array more =
     let e = entry_of σ h p (Called c at words reply) sound pre in
     let they : e.1.0 ≡ cl = cc (known, e.1.1) in
@@ -250,4 +257,4 @@ whole_return {N = N} σ h p c at words reply cl xs a b q qs sound pre known exec
     let it = returns_at σ (start_count σ.names p.start) (after p) e.0 c x cl runs.0 xs a b q qs known (ap (λ y. y.stopped) (sym they) ∙ e.1.2) (served (after p) c at words reply e.1.3) (subst (λ y. Runs σ Idle (y.calls ++ x ∷ []) runs.0) they runs.1) exec (array_of reply.answer xs array) more in
     let keys : (after (and_then p (Called c at words reply ∷ []))).store.keys ≡ (serve at (ready (after p) at c).store c (command_of words) (conn (ready (after p) at c).store.conns c)).0.keys =
     ap (λ y. y.store.keys) (after-append (start_from p.start p.clients) p.entries (Called c at words reply ∷ []) ∙ next_called N (after p) c at words reply cl known) ∙ ap (λ s. s.keys) (state_is at (settled (after p).store at) c words) in
-    subst (λ k. ReturnsWhole σ.names (seen σ.names cl.calls) (after p).store.keys k at) (sym keys) it
+    subst (λ k. ReturnsByBindings σ.names cl.calls (after p).store.keys k at) (sym keys) it

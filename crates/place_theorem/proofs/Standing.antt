@@ -173,7 +173,7 @@ module _ (σ : Full) (t b : Bytes) where
         → HasEnvelope σ.names (serve at s c cm (conn_in from mark [] ps)).0.keys t b → Comes s from cm reply
     comes_plain from to cm some reply mark ps (Passes_by w h cm' x far) ok is st =
         inl (stood_same s.keys _ (far_same σ (around at s.conns) s.keys cm far.0) (subst (λ (p : State × Value). HasEnvelope σ.names p.0.keys t b) (aside_plain at s c (conn_in (At None w h None) mark [] ps) cm far.1) st))
-    comes_plain from to cm some reply mark ps (Asks x u k y) ok is st = inl st
+    comes_plain from to cm some reply mark ps (Asks x u e y named) ok is st = inl st
     comes_plain from to cm some reply mark ps (Talks cm' x h) ok is st = inl (talk_comes cm mark ps h st)
     comes_plain from to cm some reply mark ps (Publishes k v n q) ok is st = elim (stood_push (around at s.conns) s.keys Left k v kinds q st) [
       | inl old ↦ inl old
@@ -219,7 +219,7 @@ module _ (σ : Full) (at : ℕ) (s : State) (c : ℕ) where
 
   held_plain : (from to : Cursor) (cm : Command) (reply : Value) (mark : Bool) (ps : List Value) (h : Bytes × Bytes) → Step σ from cm reply to → reply ≡ (serve at s c cm (conn_in from mark [] ps)).1 → held_in to ≡ Some h → HeldBefore from h
   held_plain from to cm reply mark ps h (Passes_by w h' cm' x far) is in_hand = inl in_hand
-  held_plain from to cm reply mark ps h (Asks x u k y) is in_hand = inl in_hand
+  held_plain from to cm reply mark ps h (Asks x u e y named) is in_hand = inl in_hand
   held_plain from to cm reply mark ps h (Talks cm' x h') is in_hand = inl in_hand
   held_plain from to cm reply mark ps h (Publishes k v n q) is in_hand = inl in_hand
   held_plain from to cm reply mark ps h (Finds_none ks qs) is in_hand = inl in_hand

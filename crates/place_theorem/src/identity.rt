@@ -1,14 +1,15 @@
 //! All envelopes of a message are the one that was published, but for the marks of redelivery.
 ghost use Rattle.command_blocks.specs.Blocks.{AreBlocks, drawn_by};
-ghost use Rattle.command_blocks.specs.Calls.{Call, concat};
+ghost use Rattle.command_blocks.specs.Calls.{Call};
 ghost use Rattle.place_model.specs.Histories.{Client, History, IsHistoryPrefix, after, calls_of};
 ghost use Rattle.place_model.specs.Identity.{HasAnywhere, HasOrigin, IsNowhere, IsPublished};
 ghost use Rattle.queue_keys.specs.Names.{Bytes};
 ghost use Rattle.queue_keys.specs.QueueKeys.{Among};
 ghost use Rattle.command_blocks.specs.Setting.{IsLawful, Setting};
 ghost use Rattle.place_model.specs.Starts.{IsSound};
+ghost use Rattle.place_theorem.specs.Begun.{BeginsBlocks};
 ghost use Rattle.std.specs.FinMap.{get};
-ghost use Rattle.std.specs.Prelude.{◌≡◌, ℕ, List, Some, suc};
+ghost use Rattle.std.specs.Prelude.{◌≡◌, ◌<◌, ℕ, List, Some};
 
 /// Each envelope that stands in a list or in the table, or that a client has in hand, has the body of one that
 /// was published under its tag, or that stood in the start.
@@ -29,13 +30,15 @@ pub fn one_tree<N>()
         → HasAnywhere σ (after p) t b → HasAnywhere σ (after p) t b' → b ≡ b' }
 {}
 
-/// Where a client's calls so far are whole blocks, its next tag stands nowhere: nobody published it, and no list, no table,
-/// no saved start, no hand and no transaction has it.
+/// A tag that a client hasn't drawn stands nowhere: nobody published it, and no list, no table, no saved start, no hand and no
+/// transaction has it. Where a client's calls so far begin these blocks, which may be amid one of them, it has drawn no more tags
+/// than these blocks draw: that of a publication with its first call. So the next tag is that of the number above, also where a
+/// publication is begun, and it and each later one stand nowhere.
 pub fn fresh_tag<N>()
     ensures { (σ : Setting) → IsLawful σ → (h p : History N) → IsSound σ h → IsHistoryPrefix p h
-        → (c : ℕ) (cl : Client) (bs : List (List Call)) (blocks : AreBlocks σ cl.seed 0 0 bs)
-        → get (after p).clients c ≡ Some cl → cl.calls ≡ concat bs
-        → IsNowhere σ p (σ.tag cl.seed (suc (drawn_by σ cl.seed 0 0 bs blocks))) }
+        → (c : ℕ) (cl : Client) (bs : List (List Call)) (blocks : AreBlocks σ cl.seed 0 0 bs) (n : ℕ)
+        → get (after p).clients c ≡ Some cl → BeginsBlocks cl.calls bs → drawn_by σ cl.seed 0 0 bs blocks < n
+        → IsNowhere σ p (σ.tag cl.seed n) }
 {}
 
 /// What the world keeps of a client: it is one of the history's table, and its calls are those of its connection.
