@@ -12,3 +12,4 @@ pub mod Decided
 pub mod Sounds
 pub mod Crafts
 pub mod Determined
+pub mod OneDesk

@@ -3,12 +3,19 @@
 #![tactic(auto)]
 
 ghost use Rattle.schedule_laws.specs.BegunBlocks.{RunsAreSteps, RunsEndBlocks, SchedulesSayBlocks};
+ghost use Rattle.schedule_laws.specs.OneDesk.{SchedulesFillOne};
 ghost use Rattle.schedule_laws.specs.Sound.{LayoutsMakeCrafts, SchedulesLead, SchedulesSound};
 
 /// What a schedule determines is where its lines lead: all of them to the desk of a whole history, or one of them to the
 /// desk that was full, which has the numbers that are told.
 pub fn lines_lead()
     ensures { SchedulesLead }
+{}
+
+/// Where the history of a schedule was full, its lines filled exactly one desk: there is one, with the numbers that are told,
+/// and whichever desk they filled is this one, by the same line. So a status that tells of a full history speaks of it alone.
+pub fn one_filled_desk()
+    ensures { SchedulesFillOne }
 {}
 
 /// What a schedule determines is sound: a whole history, and also that of the desk that was full.
