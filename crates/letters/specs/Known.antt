@@ -1,4 +1,4 @@
--- Which texts are noted. Serves the proofs of code.
+-- Which texts are noted. Cost only: each answer is right without it, and what is noted spares a reading. Serves the proofs of code.
 use Rattle.std.specs.Prelude.{◌≡◌, ℕ, List, Some}
 use Rattle.std.specs.BTreeMap.{get}
 use Rattle.std.specs.Ordering.{nat_cmp}

@@ -35,7 +35,7 @@ impl Letters {
     ghost use Rattle.envelope.specs.Entries.{entry_at, entry_for};
     ghost use Rattle.envelope.specs.Envelopes.{envelope_at};
     ghost use Rattle.letters.specs.Known.{Knows, NotesOne, NotesTwo};
-    ghost use Rattle.letters.specs.Letters.{envelope_letter};
+    ghost use Rattle.letters.specs.Letters.{entry_letter, envelope_letter};
     ghost use Rattle.letters.specs.declared.letter.Letter.{Letter};
     ghost use Rattle.serde_json.specs.View.{view as data_of};
     ghost use Rattle.serde_json.specs.Written.{compact_text};
@@ -86,7 +86,8 @@ impl Letters {
     /// Notes an envelope by the text of its entry.
     fn add_entry(&mut self, text: Bytes, e: &Envelope) -> Result<(), AllocError>
         requires { entry_at text ≡ Ok (entry_for (data_of e.now)) }
-        ensures { NotesOne self.old self.new }
+        ensures noted { OnOk result (Knows self.new text (entry_letter (data_of e.now))) }
+        ensures kept { NotesOne self.old self.new }
     {
         self.put(text, Letter::of_entry(e))
     }
@@ -104,12 +105,13 @@ impl Letters {
 }
 
 impl Note {
-    ghost use Rattle.std.specs.Prelude.{IfSome};
+    ghost use Rattle.std.specs.Prelude.{IfNone, IfSome};
 
     /// What the bytes spell, where they are this text.
     fn letter_if(&self, bytes: &[u8]) -> Option<Letter>
         ensures letter { IfSome result (λ letter. letter_of bytes.now ≡ Some letter) }
         ensures own { IfSome result (λ letter. (self.now.text ≡ bytes.now) × (self.now.letter ≡ letter)) }
+        ensures other { IfNone result (self.now.text ≡ bytes.now → ⊥) }
     {
         if self.text.as_slice() == bytes {
             return Some(self.letter);

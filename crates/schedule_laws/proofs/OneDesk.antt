@@ -3,8 +3,8 @@ use Rattle.std.proofs.Common.{◌≡◌, ℕ, subst, sym, ap, refl, ◌∙◌, L
 use Rattle.queue_keys.specs.Names.{Bytes}
 use Rattle.schedule_model.specs.Desk.{ScheduleReader, first_desk}
 use Rattle.schedule_model.specs.Faults.{Craft}
-use Rattle.schedule_model.specs.Filled.{FilledDesk, IsFilled, IsLedBy, LeadTo, lines_read}
-use Rattle.schedule_model.specs.Schedules.{Led, Went, Filled, Full, line_led, schedule_run}
+use Rattle.schedule_model.specs.Filled.{FilledDesk, IsLedBy, LeadTo, lines_read}
+use Rattle.schedule_model.specs.Schedules.{Filled, Full, Went, line_led, schedule_run}
 use Rattle.schedule_laws.specs.OneDesk.{FillsOnly, SchedulesFillOne}
 use Rattle.schedule_laws.proofs.Leads.{schedule_leads}
 
