@@ -6,7 +6,7 @@ use Rattle.queue_keys.specs.Names.{Bytes, has_front, is_name}
 use Rattle.queue_keys.specs.Bindings.{parts, onto_parts, of_parts, binding_of}
 use Rattle.queue_keys.specs.Lookup.{insert_once, lookup, with_bound_queue}
 use Rattle.queue_keys.proofs.Basics.{and_true, eqb_true}
-use Rattle.lookups.specs.Parts.{binds_by, bound_queue, cut, cut_at, first_cut, if_bound, if_last, second_cut, separator_from, with_queue}
+use Rattle.lookups.specs.Parts.{binds_by, bound_queue, cut, cut_at, first_cut, if_bound, if_last, second_cut, separator_from, with_found_queue}
 
 -- ---- the first separator
 
@@ -117,26 +117,26 @@ first_is m (Some p) h = second_is p.0 p.1 (cut p.1) (cuts p.1) ∙ sym (ap three
 
 -- ---- the queue of a binding
 
-with_parts : (r : Bytes) (ps qs : List Bytes) → with_queue (if_bound r (three_of ps)) qs ≡ with_bound_queue r (of_parts ps) qs
+with_parts : (r : Bytes) (ps qs : List Bytes) → with_found_queue (if_bound r (three_of ps)) qs ≡ with_bound_queue r (of_parts ps) qs
 with_parts r [] qs = refl
 with_parts r (d ∷ []) qs = refl
 with_parts r (d ∷ x ∷ []) qs = refl
 with_parts r (d ∷ x ∷ q ∷ []) qs = by (is_name q) (binds_by d x r) refl where
-  by : (n b : Bool) → binds_by d x r ≡ b → with_queue (if n then (if b then Some q else None) else None) qs ≡ with_bound_queue r (if n then Some (record { routing_key = d; pattern = x; queue = q }) else None) qs
+  by : (n b : Bool) → binds_by d x r ≡ b → with_found_queue (if n then (if b then Some q else None) else None) qs ≡ with_bound_queue r (if n then Some (record { routing_key = d; pattern = x; queue = q }) else None) qs
   by true true e = sym (ap (λ b. if b then insert_once q qs else qs) e)
   by true false e = sym (ap (λ b. if b then insert_once q qs else qs) e)
   by false true e = refl
   by false false e = refl
 with_parts r (d ∷ x ∷ q ∷ p ∷ ps) qs = refl
 
-pub with_member : (r m : Bytes) (qs : List Bytes) → with_queue (bound_queue r m) qs ≡ with_bound_queue r (binding_of m) qs
+pub with_member : (r m : Bytes) (qs : List Bytes) → with_found_queue (bound_queue r m) qs ≡ with_bound_queue r (binding_of m) qs
 unfolding binding_of
-with_member r m qs = ap (λ o. with_queue (if_bound r o) qs) (first_is m (cut m) (cuts m)) ∙ with_parts r (parts m) qs
+with_member r m qs = ap (λ o. with_found_queue (if_bound r o) qs) (first_is m (cut m) (cuts m)) ∙ with_parts r (parts m) qs
 
 -- a lookup's queues with those of one member more
-pub one_more : (r : Bytes) (ms : List Bytes) (count : ℕ) (m d : Bytes) (qs new : List Bytes) → 0 < count → count ≤ length ms → m ≡ get_or ms (count - 1) d → qs ≡ lookup r (drop count ms) → new ≡ with_queue (bound_queue r m) qs → new ≡ lookup r (drop (count - 1) ms)
+pub one_more : (r : Bytes) (ms : List Bytes) (count : ℕ) (m d : Bytes) (qs new : List Bytes) → 0 < count → count ≤ length ms → m ≡ get_or ms (count - 1) d → qs ≡ lookup r (drop count ms) → new ≡ with_found_queue (bound_queue r m) qs → new ≡ lookup r (drop (count - 1) ms)
 one_more r ms count m d qs new some few is so now =
     let next : count - 1 + 1 ≡ count = omega (arith, some) in
     let more : drop (count - 1) ms ≡ get_or ms (count - 1) d ∷ drop (count - 1 + 1) ms = drop_more ms (count - 1) d (omega (arith, some, few)) in
-    now ∙ ap (with_queue (bound_queue r m)) so ∙ with_member r m (lookup r (drop count ms))
+    now ∙ ap (with_found_queue (bound_queue r m)) so ∙ with_member r m (lookup r (drop count ms))
     ∙ sym (ap (lookup r) more ∙ (λ i. with_bound_queue r (binding_of (sym is i)) (lookup r (drop (next i) ms))))

@@ -5,7 +5,7 @@ use Rattle.queue_keys.specs.Names.{Bytes, same}
 use Rattle.queue_keys.specs.Patterns.{any_end, dotted_words, first_and, is_none, word_matches, words_match}
 use Rattle.lookups.proofs.Dots.{words_there}
 use Rattle.lookups.specs.Runs.{IsPassing, IsUpToHash, all_pass, end_passes}
-use Rattle.lookups.specs.WordsLeft.{text_length, words_in}
+use Rattle.lookups.specs.WordsLeft.{text_extent, words_in}
 
 -- ---- ends of words
 
@@ -60,7 +60,7 @@ by_first t w ws is off = ap words_match is ∙ ap (λ (b : Bool). λ (l : List B
 by_hash : (t w : Bytes) (ws : List Bytes) → dotted_words t ≡ w ∷ ws → same (35 ∷ []) w ≡ true → words_match (dotted_words t) ≡ any_end (words_match ws)
 by_hash t w ws is on = ap words_match is ∙ ap (λ (b : Bool). λ (l : List Bytes). if b then any_end (words_match ws) l else first_and (word_matches w) (words_match ws) l) on
 
-module _ (p k : Option Bytes) (t w : Bytes) (others left : Option Bytes) (h : IsPassing p k (Some t) left) (is : dotted_words t ≡ w ∷ words_in others) (few : text_length others ≤ length t) where
+module _ (p k : Option Bytes) (t w : Bytes) (others left : Option Bytes) (h : IsPassing p k (Some t) left) (is : dotted_words t ≡ w ∷ words_in others) (few : text_extent others ≤ length t) where
   -- at a #
   pub hash_found : same (35 ∷ []) w ≡ true → IsUpToHash p k others left
   hash_found on =
@@ -87,12 +87,12 @@ module _ (p k : Option Bytes) (t w : Bytes) (others left : Option Bytes) (h : Is
     decided = sym h.whole ∙ ap (λ f. f (words_in left)) (by_first t w (words_in others) is off) ∙ ap (first_and (word_matches w) (words_match (words_in others))) words_left
 
     -- a word passes
-    pub word_found : word_matches w v ≡ true → text_length rest ≤ length u → IsPassing p k others rest
+    pub word_found : word_matches w v ≡ true → text_extent rest ≤ length u → IsPassing p k others rest
     word_found found less = record {
       whole = sym (decided ∙ ap (λ b. b && all_pass others rest) found);
       ends = λ e. h.ends (ap (λ f. any_end f (words_in left)) (by_first t w (words_in others) is off) ∙ ap (any_end (first_and (word_matches w) (words_match (words_in others)))) words_left ∙ no_end_after (word_matches w) (words_match (words_in others)) v (words_in rest) e);
       shorter = (let f = h.shorter in omega (arith, f, few));
-      within = (let f : text_length left ≤ text_length k = h.within in let g : text_length left ≡ suc (length u) = ap text_length key in omega (arith, f, g, less));
+      within = (let f : text_extent left ≤ text_extent k = h.within in let g : text_extent left ≡ suc (length u) = ap text_extent key in omega (arith, f, g, less));
     }
 
 -- the pattern's words are done

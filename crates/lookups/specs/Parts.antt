@@ -47,6 +47,6 @@ abbrev pub bound_queue : Bytes → Bytes → Option Bytes
 bound_queue r m = if_bound r (three_parts m)
 
 -- a list in byte order with that queue, if there is one
-abbrev pub with_queue : Option Bytes → List Bytes → List Bytes
-with_queue None qs = qs
-with_queue (Some q) qs = insert_once q qs
+abbrev pub with_found_queue : Option Bytes → List Bytes → List Bytes
+with_found_queue None qs = qs
+with_found_queue (Some q) qs = insert_once q qs

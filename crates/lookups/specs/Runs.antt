@@ -2,7 +2,7 @@
 use Rattle.std.specs.Prelude.{◌≡◌, ◌<◌, ◌≤◌, Bool, true, false, Option}
 use Rattle.queue_keys.specs.Names.{Bytes}
 use Rattle.queue_keys.specs.Patterns.{any_end, words_match}
-use Rattle.lookups.specs.WordsLeft.{text_length, told, words_in}
+use Rattle.lookups.specs.WordsLeft.{text_extent, told, words_in}
 use Rattle.lookups.specs.declared.patterns.Run.{Run}
 use Rattle.lookups.specs.declared.patterns.Run.TheVariants.{Whole, Stopped, Hash}
 
@@ -17,8 +17,8 @@ end_passes p k = any_end (words_match (words_in p)) (words_in k)
 pub record IsUpToHash (p k others left : Option Bytes) : Type 0 where
   pub whole : all_pass p k ≡ end_passes others left
   pub ends : end_passes p k ≡ end_passes others left
-  pub shorter : text_length others < text_length p
-  pub within : text_length left ≤ text_length k
+  pub shorter : text_extent others < text_extent p
+  pub within : text_extent left ≤ text_extent k
 
 -- what a run tells
 abbrev pub HasPassed : Option Bytes → Option Bytes → Run → Type 0
@@ -30,5 +30,5 @@ HasPassed p k (Hash others left) = IsUpToHash p k (told others) (told left)
 pub record IsPassing (p k words left : Option Bytes) : Type 0 where
   pub whole : all_pass words left ≡ all_pass p k
   pub ends : end_passes words left ≡ false → end_passes p k ≡ false
-  pub shorter : text_length words ≤ text_length p
-  pub within : text_length left ≤ text_length k
+  pub shorter : text_extent words ≤ text_extent p
+  pub within : text_extent left ≤ text_extent k

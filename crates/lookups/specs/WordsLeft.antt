@@ -10,9 +10,9 @@ words_in None = []
 words_in (Some t) = dotted_words t
 
 -- its length and one, and 0 without a text
-abbrev pub text_length : Option Bytes → ℕ
-text_length None = 0
-text_length (Some t) = suc (length t)
+abbrev pub text_extent : Option Bytes → ℕ
+text_extent None = 0
+text_extent (Some t) = suc (length t)
 
 -- the text that is left, if one is
 abbrev pub told : Option (Bor Bytes) → Option Bytes

@@ -2,7 +2,7 @@
 ghost use Rattle.std.specs.Prelude.{◌≡◌, ◌∷◌, ◌≤◌, length, position, ◌==◌};
 ghost use Rattle.queue_keys.specs.Patterns.{any_end, dotted_words, matches, word_matches, words_match};
 ghost use Rattle.lookups.specs.Runs.{HasPassed};
-ghost use Rattle.lookups.specs.WordsLeft.{text_length, told, words_in};
+ghost use Rattle.lookups.specs.WordsLeft.{text_extent, told, words_in};
 
 use crate::bindings::after;
 use queue_keys::are_same;
@@ -95,7 +95,7 @@ fn word_passes(word: &[u8], found: &[u8]) -> bool
 /// The first word of a text, and the text of the words after it, if there is a dot.
 fn first_word(text: &[u8]) -> (&[u8], Option<&[u8]>)
     ensures words { dotted_words text.now ≡ result.0.now ∷ words_in (told result.1) }
-    ensures shorter { text_length (told result.1) ≤ length text.now }
+    ensures shorter { text_extent (told result.1) ≤ length text.now }
 {
     match first_dot(text) {
         Some(place) => (&text[..place], Some(after(text, place + 1))),

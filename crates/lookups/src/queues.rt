@@ -4,7 +4,7 @@ ghost use Rattle.queue_keys.specs.Names.{is_name};
 ghost use Rattle.queue_keys.specs.Lookup.{insert_once, lookup, queues_for, route_keys};
 ghost use Rattle.queue_keys.specs.Layouts.{HasStep, plain};
 ghost use Rattle.queue_keys.specs.QueueKeys.{keys_at};
-ghost use Rattle.lookups.specs.Parts.{bound_queue, with_queue};
+ghost use Rattle.lookups.specs.Parts.{bound_queue, with_found_queue};
 ghost use Rattle.lookups.specs.Standings.{standing_from};
 
 use crate::bindings::bound_queue;
@@ -95,7 +95,7 @@ fn add_bound(
     routing_key: &[u8],
     member: &[u8],
 ) -> Result<(), AllocError>
-    ensures { OnOk result (queues.new.items ≡ with_queue (bound_queue routing_key.now member.now) queues.old.items) }
+    ensures { OnOk result (queues.new.items ≡ with_found_queue (bound_queue routing_key.now member.now) queues.old.items) }
 {
     match bound_queue(routing_key, member) {
         Some(queue) => add_once(alloc, queues, queue),
