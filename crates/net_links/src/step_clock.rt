@@ -1,5 +1,6 @@
 //! A clock that goes on by a step at each look.
-ghost use Rattle.std.specs.Prelude.{◌<◌, ◌≡◌, ◌^◌};
+ghost use Rattle.std.specs.Prelude.{◌≡◌};
+ghost use Rattle.net_links.specs.StepMoments.{IsStepMoment, step_moment};
 
 use crate::Clock;
 use std::sync::atomic::{AtomicU64, Ordering};
@@ -10,31 +11,42 @@ const END: u64 = 1 << 59;
 /// Answers a moment and then adds a step, up to 2^59 microseconds. Its rest does nothing.
 #[derive(Drop)]
 pub struct StepClock {
-    at: AtomicU64,
+    start: u64,
     step: u64,
+    looks: AtomicU64,
 }
 
 impl StepClock {
     /// A clock at a moment, in microseconds; takes no memory.
     pub fn new(start: u64, step: u64) -> StepClock
-        ensures { result.step ≡ step }
+        ensures start { result.start ≡ start }
+        ensures step { result.step ≡ step }
     {
         StepClock {
-            at: AtomicU64::new(start),
+            start,
             step,
+            looks: AtomicU64::new(0),
         }
     }
 }
 
 impl Clock for StepClock {
-    ghost gives = { λ c moment. moment < 2 ^ 64 };
+    ghost gives = { λ c. IsStepMoment c.start c.step };
 
     fn now(&self) -> u64 {
-        let at = self.at.load(Ordering::SeqCst);
-        let next = at.saturating_add(self.step).min(END);
-        self.at.store(next, Ordering::SeqCst);
-        at
+        let looks = self.looks.fetch_add(1, Ordering::SeqCst);
+        moment_at(self.start, self.step, looks)
     }
 
     fn rest(&self) {}
+}
+
+/// The moment that a clock answers after so many looks.
+fn moment_at(start: u64, step: u64, looks: u64) -> u64
+    ensures { result ≡ step_moment start step looks }
+{
+    if looks == 0 {
+        return start;
+    }
+    start.saturating_add(step.saturating_mul(looks)).min(END)
 }

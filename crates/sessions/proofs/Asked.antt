@@ -11,7 +11,7 @@ use Rattle.wire_grammar.specs.declared.kind.WireKind.{WireKind}
 use Rattle.wire_values.specs.declared.value.Value.{Value}
 use Rattle.desks.specs.Deeds.{Deed, DidAsk}
 use Rattle.desks.specs.declared.desk.DeskFault.{DeskFault}
-use Rattle.sessions.specs.Askings.{HasAnswered}
+use Rattle.sessions.specs.Askings.{HasAnsweredValue}
 use Rattle.sessions.specs.Calls.{AreCalls, IsCall, answers, deed_bytes}
 use Rattle.sessions.specs.Hearings.{EndsTalk, HasHeard}
 use Rattle.sessions.specs.Talkings.{Talks, TalksAll}
@@ -63,7 +63,7 @@ module _ {D : Type 0} (goes : D → List Deed → D → Type 0) (joins : (s t u 
 module _ {D : Type 0} (goes : D → List Deed → D → Type 0) (stays : (s : D) → goes s [] s) (joins : (s t u : D) (l m : List Deed) → goes s l t → goes t m u → goes s (l ++ m) u) (gives : ℕ → Type 0) (shared : Bool) (fault : Option DeskFault) (first now next : D) (stream sent : List ℕ) (t t2 : Talking) (s : Talks goes gives first now stream sent t) where
   -- a value was asked
   pub asked_one : (v : Value) → ((before : ℕ) (rest : List ℕ) → Stands t.decoder before rest → HasNext before rest t2.decoder (Ok (Some v)))
-      → HasAnswered goes gives shared fault now next v t.out.items t2.out.items t.commands t2.commands (Ok tt) → Talks goes gives first next stream sent t2
+      → HasAnsweredValue goes gives shared fault now next v t.out.items t2.out.items t.commands t2.commands (Ok tt) → Talks goes gives first next stream sent t2
   asked_one v there (words, spells, (reply, done, wrote)) =
       let n = there s.heard.from s.heard.rest s.stands in
       let d : Deed = DidAsk done.at words reply in
@@ -75,7 +75,7 @@ module _ {D : Type 0} (goes : D → List Deed → D → Type 0) (stays : (s : D)
 
   -- no more is asked after this value
   ended_one : (v : Value) (front more : List ℕ) → s.heard.rest ≡ front ++ more → Spells v front → (why : Why)
-      → HasAnswered goes gives shared fault now next v t.out.items t2.out.items t.commands t2.commands (Err why) → EndsTalk goes gives shared fault first next stream (sent ++ t2.out.items) t2.commands why
+      → HasAnsweredValue goes gives shared fault now next v t.out.items t2.out.items t.commands t2.commands (Err why) → EndsTalk goes gives shared fault first next stream (sent ++ t2.out.items) t2.commands why
   ended_one v front more e sp NotWords (none, i) = (heard_same goes joins gives first now next stream t.commands t2.commands s.heard i.stays i.uncounted, ap (λ l. sent ++ l) i.unwritten ∙ s.answered, (v, (front, more, e, sp), none))
   ended_one v front more e sp (Full entries bytes) (words, spells, (i, is)) = (heard_same goes joins gives first now next stream t.commands t2.commands s.heard i.stays i.uncounted, ap (λ l. sent ++ l) i.unwritten ∙ s.answered, (v, words, (front, more, e, sp), spells), is)
   ended_one v front more e sp Closed (words, spells, (i, is)) = (heard_same goes joins gives first now next stream t.commands t2.commands s.heard i.stays i.uncounted, ap (λ l. sent ++ l) i.unwritten ∙ s.answered, (v, words, (front, more, e, sp), spells), is)
@@ -97,7 +97,7 @@ module _ {D : Type 0} (goes : D → List Deed → D → Type 0) (stays : (s : D)
 
   -- no more is asked
   pub asked_last : (v : Value) (why : Why) → ((before : ℕ) (rest : List ℕ) → Stands t.decoder before rest → HasNext before rest t2.decoder (Ok (Some v)))
-      → HasAnswered goes gives shared fault now next v t.out.items t2.out.items t.commands t2.commands (Err why) → EndsTalk goes gives shared fault first next stream (sent ++ t2.out.items) t2.commands why
+      → HasAnsweredValue goes gives shared fault now next v t.out.items t2.out.items t.commands t2.commands (Err why) → EndsTalk goes gives shared fault first next stream (sent ++ t2.out.items) t2.commands why
   asked_last v why there done =
       let n = there s.heard.from s.heard.rest s.stands in
       ended_one v n.0 n.1 n.2 n.3 why done

@@ -15,8 +15,8 @@ use Rattle.desks.specs.declared.desk.DeskFault.{DeskFault}
 use Rattle.sessions.specs.Hearings.{EndsTalk, HasHeard, WritesAll, WritesFront}
 use Rattle.net_links.specs.LinkViews.{LinkView, raised_by}
 use Rattle.sessions.specs.Sendings.{SendsFront}
-use Rattle.sessions.specs.SessionEnds.{EndsSession, HasSession, IsCalm}
-use Rattle.sessions.specs.Talkings.{AnswersAll, HasFlushed, HasTaken, HasTurned, InSession, IsCut, IsEndWhy, Talks}
+use Rattle.sessions.specs.SessionEnds.{EndsSession, HasSession, IsCalmLink}
+use Rattle.sessions.specs.Talkings.{AnswersAll, HasFlushed, HasTakenPiece, HasTurned, InSession, IsCut, IsEndWhy, Talks}
 use Rattle.sessions.specs.declared.ends.Why.{Why}
 use Rattle.sessions.specs.declared.ends.Why.TheVariants.{Closed, Ended, Full, Link, Memory, NotWords, Turns, Wire}
 use Rattle.sessions.specs.declared.talking.Talking.{Talking}
@@ -76,7 +76,7 @@ module _ {D : Type 0} (goes : D → List Deed → D → Type 0) (gives : ℕ →
 
   module _ (t2 : Talking) (was is : Option (List ℕ)) (faults faults2 : ℕ) where
     -- a front was sent
-    cut_at : (result : Result ⊤ Why) → (h : HasHeard goes gives first now stream t.commands) × WritesFront h.deeds (sent ++ t.out.items) → SendsFront was is t.out.items → IsCut faults faults2 result → HasTaken goes gives shared fault first now stream sent was is faults faults2 (record t { out = t2.out }) result
+    cut_at : (result : Result ⊤ Why) → (h : HasHeard goes gives first now stream t.commands) × WritesFront h.deeds (sent ++ t.out.items) → SendsFront was is t.out.items → IsCut faults faults2 result → HasTakenPiece goes gives shared fault first now stream sent was is faults faults2 (record t { out = t2.out }) result
     cut_at (Ok done) a b never = absurd never
     cut_at (Err Link) (h, (more, e)) (front, rest, split, some, sends) rose =
         (front, sends, (h, (rest ++ more, e ∙ ap (λ l. (sent ++ l) ++ more) split ∙ ap (λ l. l ++ more) (sym (append_assoc sent front rest)) ∙ append_assoc (sent ++ front) rest more), rose))
@@ -90,7 +90,7 @@ module _ {D : Type 0} (goes : D → List Deed → D → Type 0) (gives : ℕ →
     cut_at (Err Closed) a b never = absurd never
 
     -- all was sent
-    sent_all : (answered : Result ⊤ Why) → AnswersAll goes gives shared fault first now stream sent t answered → Appends was is t.out.items → t2.out.items ≡ [] → faults2 ≡ faults → HasTaken goes gives shared fault first now stream sent was is faults faults2 (record t { out = t2.out }) answered
+    sent_all : (answered : Result ⊤ Why) → AnswersAll goes gives shared fault first now stream sent t answered → Appends was is t.out.items → t2.out.items ≡ [] → faults2 ≡ faults → HasTakenPiece goes gives shared fault first now stream sent was is faults faults2 (record t { out = t2.out }) answered
     sent_all (Ok done) a sends none same = (
       t.out.items,
       sends,
@@ -110,8 +110,8 @@ module _ {D : Type 0} (goes : D → List Deed → D → Type 0) (gives : ℕ →
     sent_all (Err Turns) a sends none same = absurd a
     sent_all (Err Link) a sends none same = absurd a
 
-    pub flushed : (answered result : Result ⊤ Why) → AnswersAll goes gives shared fault first now stream sent t answered → HasFlushed was is faults faults2 t.out.items t2.out.items answered result → HasTaken goes gives shared fault first now stream sent was is faults faults2 (record t { out = t2.out }) result
-    flushed answered result a (inl (same, sends, none, kept)) = subst (λ r. HasTaken goes gives shared fault first now stream sent was is faults faults2 (record t { out = t2.out }) r) (sym same) (sent_all answered a sends none kept)
+    pub flushed : (answered result : Result ⊤ Why) → AnswersAll goes gives shared fault first now stream sent t answered → HasFlushed was is faults faults2 t.out.items t2.out.items answered result → HasTakenPiece goes gives shared fault first now stream sent was is faults faults2 (record t { out = t2.out }) result
+    flushed answered result a (inl (same, sends, none, kept)) = subst (λ r. HasTakenPiece goes gives shared fault first now stream sent was is faults faults2 (record t { out = t2.out }) r) (sym same) (sent_all answered a sends none kept)
     flushed answered result a (inr (cut, sends)) = cut_at result (front_all answered a) sends cut
 
 module _ {D : Type 0} (goes : D → List Deed → D → Type 0) (gives : ℕ → Type 0) (shared : Bool) (fault : Option DeskFault) (first now : D) (old mid new : LinkView) (t : Talking) (n : ℕ) (s : InSession goes gives first now old mid t n) where
@@ -190,10 +190,10 @@ module _ {D : Type 0} (goes : D → List Deed → D → Type 0) (gives : ℕ →
     ends = ends;
   }
 
-  calm : new.faults ≡ got.faults → IsCalm old new
+  calm : new.faults ≡ got.faults → IsCalmLink old new
   calm same = record { no_fault = same ∙ unfailed ∙ s.same_faults; no_end = same_ends ∙ unended ∙ s.same_ends }
 
-  pub taken : (result : Result ⊤ Why) → HasTaken goes gives shared fault first next (s.stream ++ piece) s.sent got.sent new.sent got.faults new.faults t2 result → HasTurned goes gives shared fault first next old new t2 n result
+  pub taken : (result : Result ⊤ Why) → HasTakenPiece goes gives shared fault first next (s.stream ++ piece) s.sent got.sent new.sent got.faults new.faults t2 result → HasTurned goes gives shared fault first next old new t2 n result
   taken (Ok done) (more, sends, talks, none, same) = record {
     stream = s.stream ++ piece;
     sent = s.sent ++ more;

@@ -59,7 +59,7 @@ HasAnsweredWords goes gives shared fault old new words out out2 count count2 (Er
 HasAnsweredWords goes gives shared fault old new words out out2 count count2 (Err Link) = ⊥
 
 -- a value's words were asked so; NotWords comes exactly where it spells none
-abbrev pub HasAnswered : {D : Type 0} → (D → List Deed → D → Type 0) → (ℕ → Type 0) → Bool → Option DeskFault → D → D → Value → List ℕ → List ℕ → ℕ → ℕ → Result ⊤ Why → Type 0
-HasAnswered goes gives shared fault old new v out out2 count count2 (Err NotWords) = (command_in v ≡ None) × IsSame goes old new out out2 count count2
-HasAnswered goes gives shared fault old new v out out2 count count2 (Err Memory) = IsSame goes old new out out2 count count2 ⊎ ((words : Words) × (command_in v ≡ Some words) × HasAnsweredWords goes gives shared fault old new words out out2 count count2 (Err Memory))
-HasAnswered goes gives shared fault old new v out out2 count count2 result = (words : Words) × (command_in v ≡ Some words) × HasAnsweredWords goes gives shared fault old new words out out2 count count2 result
+abbrev pub HasAnsweredValue : {D : Type 0} → (D → List Deed → D → Type 0) → (ℕ → Type 0) → Bool → Option DeskFault → D → D → Value → List ℕ → List ℕ → ℕ → ℕ → Result ⊤ Why → Type 0
+HasAnsweredValue goes gives shared fault old new v out out2 count count2 (Err NotWords) = (command_in v ≡ None) × IsSame goes old new out out2 count count2
+HasAnsweredValue goes gives shared fault old new v out out2 count count2 (Err Memory) = IsSame goes old new out out2 count count2 ⊎ ((words : Words) × (command_in v ≡ Some words) × HasAnsweredWords goes gives shared fault old new words out out2 count count2 (Err Memory))
+HasAnsweredValue goes gives shared fault old new v out out2 count count2 result = (words : Words) × (command_in v ≡ Some words) × HasAnsweredWords goes gives shared fault old new words out out2 count count2 result

@@ -11,7 +11,7 @@ use Rattle.sessions.specs.declared.ends.Why.{Why}
 use Rattle.sessions.specs.declared.ends.Why.TheVariants.{Closed, Ended, Full, Link, Memory, NotWords, Turns, Wire}
 
 -- a link didn't fail and didn't end
-pub record IsCalm (old new : LinkView) : Type 0 where
+pub record IsCalmLink (old new : LinkView) : Type 0 where
   pub no_fault : new.faults ≡ old.faults
   pub no_end : new.ends ≡ old.ends
 
@@ -23,12 +23,12 @@ IsLinkCause old new rest = (Rose old.faults new.faults × (new.ends ≡ old.ends
 abbrev pub EndsSession : {D : Type 0} → (D → List Deed → D → Type 0) → (ℕ → Type 0) → Bool → Option DeskFault → D → D → LinkView → LinkView → ℕ → ℕ → List ℕ → List ℕ → ℕ → Why → Type 0
 EndsSession goes gives shared fault first now old new turns receives stream sent count Ended =
     (h : HasHeard goes gives first now stream count) × WritesAll h.deeds sent × (h.rest ≡ []) × Rose old.ends new.ends × (new.faults ≡ old.faults) × (receives < turns)
-EndsSession goes gives shared fault first now old new turns receives stream sent count Turns = (h : HasHeard goes gives first now stream count) × WritesAll h.deeds sent × IsFront h.rest × (receives ≡ turns) × IsCalm old new
+EndsSession goes gives shared fault first now old new turns receives stream sent count Turns = (h : HasHeard goes gives first now stream count) × WritesAll h.deeds sent × IsFront h.rest × (receives ≡ turns) × IsCalmLink old new
 EndsSession goes gives shared fault first now old new turns receives stream sent count Link = (h : HasHeard goes gives first now stream count) × WritesFront h.deeds sent × IsLinkCause old new h.rest
-EndsSession goes gives shared fault first now old new turns receives stream sent count (Wire kind place) = EndsTalk goes gives shared fault first now stream sent count (Wire kind place) × IsCalm old new
-EndsSession goes gives shared fault first now old new turns receives stream sent count NotWords = EndsTalk goes gives shared fault first now stream sent count NotWords × IsCalm old new
-EndsSession goes gives shared fault first now old new turns receives stream sent count (Full entries bytes) = EndsTalk goes gives shared fault first now stream sent count (Full entries bytes) × IsCalm old new
-EndsSession goes gives shared fault first now old new turns receives stream sent count Closed = EndsTalk goes gives shared fault first now stream sent count Closed × IsCalm old new
+EndsSession goes gives shared fault first now old new turns receives stream sent count (Wire kind place) = EndsTalk goes gives shared fault first now stream sent count (Wire kind place) × IsCalmLink old new
+EndsSession goes gives shared fault first now old new turns receives stream sent count NotWords = EndsTalk goes gives shared fault first now stream sent count NotWords × IsCalmLink old new
+EndsSession goes gives shared fault first now old new turns receives stream sent count (Full entries bytes) = EndsTalk goes gives shared fault first now stream sent count (Full entries bytes) × IsCalmLink old new
+EndsSession goes gives shared fault first now old new turns receives stream sent count Closed = EndsTalk goes gives shared fault first now stream sent count Closed × IsCalmLink old new
 EndsSession goes gives shared fault first now old new turns receives stream sent count Memory = EndsTalk goes gives shared fault first now stream sent count Memory
 
 -- a session: the bytes that came over the link, those that went out, how often bytes came, and why it ended

@@ -16,8 +16,8 @@ use Rattle.sessions.specs.declared.ends.Why.TheVariants.{Closed, Ended, Full, Li
 use Rattle.sessions.specs.declared.talking.Talking.{Talking}
 
 -- a decoder isn't spent, and stands somewhere in a stream
-abbrev pub IsPlaced : Decoder → Type 0
-IsPlaced d = (before : ℕ) × (rest : List ℕ) × Stands d before rest
+abbrev pub StandsSomewhere : Decoder → Type 0
+StandsSomewhere d = (before : ℕ) × (rest : List ℕ) × Stands d before rest
 
 -- the values that a stream begins with were asked, the decoder stands after them, and what was sent and what is to be sent are their answers
 pub record Talks {D : Type 0} (goes : D → List Deed → D → Type 0) (gives : ℕ → Type 0) (first now : D) (stream sent : List ℕ) (t : Talking) : Type 0 where
@@ -70,10 +70,10 @@ EndsTaken goes gives shared fault first now stream written count faults faults2 
 EndsTaken goes gives shared fault first now stream written count faults faults2 Memory = EndsTalk goes gives shared fault first now stream written count Memory
 
 -- the values of a piece were asked and their answers sent; or no more is asked or sent
-abbrev pub HasTaken : {D : Type 0} → (D → List Deed → D → Type 0) → (ℕ → Type 0) → Bool → Option DeskFault → D → D → List ℕ → List ℕ → Option (List ℕ) → Option (List ℕ) → ℕ → ℕ → Talking → Result ⊤ Why → Type 0
-HasTaken goes gives shared fault first now stream sent was is faults faults2 t (Ok done) =
+abbrev pub HasTakenPiece : {D : Type 0} → (D → List Deed → D → Type 0) → (ℕ → Type 0) → Bool → Option DeskFault → D → D → List ℕ → List ℕ → Option (List ℕ) → Option (List ℕ) → ℕ → ℕ → Talking → Result ⊤ Why → Type 0
+HasTakenPiece goes gives shared fault first now stream sent was is faults faults2 t (Ok done) =
     (more : List ℕ) × Appends was is more × TalksAll goes gives first now stream (sent ++ more) t × (t.out.items ≡ []) × (faults2 ≡ faults)
-HasTaken goes gives shared fault first now stream sent was is faults faults2 t (Err why) =
+HasTakenPiece goes gives shared fault first now stream sent was is faults faults2 t (Err why) =
     (more : List ℕ) × Appends was is more × EndsTaken goes gives shared fault first now stream (sent ++ more) t.commands faults faults2 why
 
 -- amid a session all whole values that came were asked, their answers sent, and bytes came so often

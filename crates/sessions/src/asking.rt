@@ -4,7 +4,7 @@ ghost use Rattle.links.specs.Counts.{raised};
 ghost use Rattle.desks.specs.Deeds.{DidAsk};
 ghost use Rattle.desks.specs.Faults.{IsOpen};
 ghost use Rattle.wire_grammar.specs.Fits.{HasSpelling, IsWithinLimits};
-ghost use Rattle.sessions.specs.Askings.{HasAnswered, HasAnsweredWords, IsDeskWhy, IsNearFault};
+ghost use Rattle.sessions.specs.Askings.{HasAnsweredValue, HasAnsweredWords, IsDeskWhy, IsNearFault};
 ghost use Rattle.sessions.specs.Talks.{reply_bytes, store_moment};
 
 use crate::Why;
@@ -42,7 +42,7 @@ pub fn answer<D: Desk, C: Clock>(
     requires near { D.remote ≡ false }
     requires open { IsOpen (D.fault desk.old) (D.stopped desk.old) }
     requires spelled { HasSpelling value.now }
-    ensures answered { HasAnswered D.goes (C.gives clock.now) D.shared (D.fault desk.new) desk.old desk.new value.now out.old.items out.new.items commands.old commands.new result }
+    ensures answered { HasAnsweredValue D.goes (C.gives clock.now) D.shared (D.fault desk.new) desk.old desk.new value.now out.old.items out.new.items commands.old commands.new result }
     ensures open { OnOk result (IsOpen (D.fault desk.new) (D.stopped desk.new)) }
 {
     match command_in(alloc, value) {

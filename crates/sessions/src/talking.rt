@@ -4,8 +4,8 @@ ghost use Rattle.desks.specs.Faults.{IsOpen};
 ghost use Rattle.resp_wire.specs.Moves.{unread_of};
 ghost use Rattle.resp_wire.specs.Stands.{Stands};
 ghost use Rattle.wire_grammar.specs.Fits.{HasSpelling};
-ghost use Rattle.sessions.specs.Askings.{HasAnswered};
-ghost use Rattle.sessions.specs.Talkings.{AnswersAll, AnswersNext, IsPlaced, Talks};
+ghost use Rattle.sessions.specs.Askings.{HasAnsweredValue};
+ghost use Rattle.sessions.specs.Talkings.{AnswersAll, AnswersNext, StandsSomewhere, Talks};
 
 use crate::Why;
 use crate::asking::answer;
@@ -51,7 +51,7 @@ fn answer_value<D: Desk, C: Clock>(
     requires near { D.remote ≡ false }
     requires open { IsOpen (D.fault desk.old) (D.stopped desk.old) }
     requires spelled { HasSpelling value }
-    ensures answered { HasAnswered D.goes (C.gives clock.now) D.shared (D.fault desk.new) desk.old desk.new value out.old.items out.new.items commands.old commands.new result }
+    ensures answered { HasAnsweredValue D.goes (C.gives clock.now) D.shared (D.fault desk.new) desk.old desk.new value out.old.items out.new.items commands.old commands.new result }
     ensures open { OnOk result (IsOpen (D.fault desk.new) (D.stopped desk.new)) }
 {
     answer(alloc, desk, clock, &value, out, commands)
@@ -66,10 +66,10 @@ fn answer_next<D: Desk, C: Clock>(
 ) -> Result<bool, Why>
     requires near { D.remote ≡ false }
     requires open { IsOpen (D.fault desk.old) (D.stopped desk.old) }
-    requires placed { IsPlaced talking.old.decoder }
+    requires placed { StandsSomewhere talking.old.decoder }
     ensures less { result ≡ Ok true → unread_of talking.new.decoder < unread_of talking.old.decoder }
     ensures open { OnOk result (IsOpen (D.fault desk.new) (D.stopped desk.new)) }
-    ensures placed { OnOk result (IsPlaced talking.new.decoder) }
+    ensures placed { OnOk result (StandsSomewhere talking.new.decoder) }
     ensures answers { (first : D) (stream sent : List ℕ) → Talks D.goes (C.gives clock.now) first desk.old stream sent talking.old
         → AnswersNext D.goes (C.gives clock.now) D.shared (D.fault desk.new) first desk.new stream sent talking.new result }
 {
@@ -97,9 +97,9 @@ pub(crate) fn answer_all<D: Desk, C: Clock>(
 ) -> Result<(), Why>
     requires near { D.remote ≡ false }
     requires open { IsOpen (D.fault desk.old) (D.stopped desk.old) }
-    requires placed { IsPlaced talking.old.decoder }
+    requires placed { StandsSomewhere talking.old.decoder }
     ensures open { OnOk result (IsOpen (D.fault desk.new) (D.stopped desk.new)) }
-    ensures placed { OnOk result (IsPlaced talking.new.decoder) }
+    ensures placed { OnOk result (StandsSomewhere talking.new.decoder) }
     ensures answers { (first : D) (stream sent : List ℕ) → Talks D.goes (C.gives clock.now) first desk.old stream sent talking.old
         → AnswersAll D.goes (C.gives clock.now) D.shared (D.fault desk.new) first desk.new stream sent talking.new result }
 {

@@ -4,7 +4,7 @@ ghost use Rattle.std.specs.Prelude.{IsOk, List, OnOk, [], false, length, ℕ, �
 ghost use Rattle.desks.specs.Faults.{IsOpen};
 ghost use Rattle.resp_wire.specs.Stands.{Stands};
 ghost use Rattle.net_links.specs.LinkViews.{LinkView, link_view};
-ghost use Rattle.sessions.specs.Talkings.{HasFlushed, HasTaken, HasTurned, InSession, IsEndWhy, IsPlaced, TalksAll};
+ghost use Rattle.sessions.specs.Talkings.{HasFlushed, HasTakenPiece, HasTurned, InSession, IsEndWhy, StandsSomewhere, TalksAll};
 
 use crate::Why;
 use crate::sending::send_all;
@@ -25,10 +25,10 @@ pub(crate) fn turn<D: Desk, L: Link, C: Clock>(
 ) -> Result<(), Why>
     requires near { D.remote ≡ false }
     requires open { IsOpen (D.fault desk.old) (D.stopped desk.old) }
-    requires placed { IsPlaced talking.old.decoder }
+    requires placed { StandsSomewhere talking.old.decoder }
     requires room { 1 ≤ length room.old }
     ensures open { OnOk result (IsOpen (D.fault desk.new) (D.stopped desk.new)) }
-    ensures placed { OnOk result (IsPlaced talking.new.decoder) }
+    ensures placed { OnOk result (StandsSomewhere talking.new.decoder) }
     ensures room { length room.new ≡ length room.old }
     ensures turned { (first : D) (start : LinkView) (n : ℕ)
         → InSession D.goes (C.gives clock.now) first desk.old start (link_view L.sent L.received L.faults L.ends L.gains link.old) talking.old n
@@ -65,15 +65,15 @@ fn take<D: Desk, L: Link, C: Clock>(
 ) -> Result<(), Why>
     requires near { D.remote ≡ false }
     requires open { IsOpen (D.fault desk.old) (D.stopped desk.old) }
-    requires placed { IsPlaced talking.old.decoder }
+    requires placed { StandsSomewhere talking.old.decoder }
     ensures open { OnOk result (IsOpen (D.fault desk.new) (D.stopped desk.new)) }
-    ensures placed { OnOk result (IsPlaced talking.new.decoder) }
+    ensures placed { OnOk result (StandsSomewhere talking.new.decoder) }
     ensures received { Keeps (L.received link.old) (L.received link.new) }
     ensures later { L.faults link.old ≤ L.faults link.new }
     ensures ends { L.ends link.new ≡ L.ends link.old }
     ensures gains { L.gains link.new ≡ L.gains link.old }
     ensures taken { (first : D) (stream sent : List ℕ) → TalksAll D.goes (C.gives clock.now) first desk.old stream sent talking.old
-        → HasTaken D.goes (C.gives clock.now) D.shared (D.fault desk.new) first desk.new (stream ++ piece.now) sent (L.sent link.old) (L.sent link.new) (L.faults link.old) (L.faults link.new) talking.new result }
+        → HasTakenPiece D.goes (C.gives clock.now) D.shared (D.fault desk.new) first desk.new (stream ++ piece.now) sent (L.sent link.old) (L.sent link.new) (L.faults link.old) (L.faults link.new) talking.new result }
 {
     match talking.decoder.feed(alloc, piece) {
         Ok(()) => {

@@ -1,14 +1,14 @@
 use Rattle.std.proofs.Common.{length, ◌-◌, ◌≡◌, ◌≤◌}
 use Rattle.desks.specs.Faults.{IsOpen}
 use Rattle.net_links.specs.LinkViews.{link_view}
-use Rattle.sessions.specs.Talkings.{InSession, IsPlaced}
+use Rattle.sessions.specs.Talkings.{InSession, StandsSomewhere}
 use Rattle.sessions.proofs.conversing.converse.Given as goal
 
 abbrev pub invariant-turns : goal.invariant-turns
 invariant-turns g l =
     record {
       opened : IsOpen (g.D.Desk.fault l.desk) (g.D.Desk.stopped l.desk);
-      placed : IsPlaced l.talking.decoder;
+      placed : StandsSomewhere l.talking.decoder;
       room : length l.room ≡ length l.initial.room;
       few : l.taken ≤ l.fn.turns;
       session : InSession g.D.Desk.goes (g.C.Clock.gives l.initial.clock) l.initial.desk l.desk
