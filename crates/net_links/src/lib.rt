@@ -6,7 +6,6 @@
 #![tactic(auto)]
 
 mod clock;
-mod counts;
 mod link;
 mod memory_link;
 mod memory_net;
@@ -14,9 +13,9 @@ mod net;
 mod step_clock;
 
 pub use clock::Clock;
-pub use counts::raise;
 pub use link::{Link, NetFault};
 pub use memory_link::MemoryLink;
 pub use memory_net::MemoryNet;
+pub use links::raise;
 pub use net::Net;
 pub use step_clock::StepClock;
