@@ -14,8 +14,8 @@ mod step_clock;
 
 pub use clock::Clock;
 pub use link::{Link, NetFault};
+pub use links::raise;
 pub use memory_link::MemoryLink;
 pub use memory_net::MemoryNet;
-pub use links::raise;
 pub use net::Net;
 pub use step_clock::StepClock;
