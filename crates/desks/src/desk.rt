@@ -1,5 +1,6 @@
 //! What a desk is.
-ghost use Rattle.std.specs.Prelude.{Bool, IfErr, IfOk, List, OnErr, OnOk, Option, [], ℕ, ◌++◌, ◌<◌, ◌^◌, ◌∷◌, ◌≡◌};
+ghost use Rattle.std.specs.Prelude.{Bool, IfErr, IfOk, List, OnErr, OnOk, Option, [], ℕ, ◌++◌, ◌<◌, ◌∷◌, ◌≡◌};
+ghost use Rattle.store_model.specs.Limits.{moment_limit};
 ghost use Rattle.wire_grammar.specs.Fits.{IsWithinLimits};
 ghost use Rattle.desks.specs.Deeds.{Deed, DidAsk, DidNote, DidStop};
 ghost use Rattle.desks.specs.Faults.{HasCounts, HasShown, HasStopped, IsFaultOf};
@@ -56,7 +57,7 @@ pub trait Desk {
     /// Hands over a command, with the moment in seconds, which is below 2^40; its words are within the limits of RESP2
     /// here. Each fault comes as `DeskFault` says.
     fn ask(&mut self, alloc: Global, at: u64, words: &Words) -> Result<Reply, DeskFault>
-        requires moment { at < 2 ^ 40 }
+        requires moment { at < moment_limit }
         requires words { IsWithinLimits words.now }
         ensures ok { IfOk result (λ reply. goes self.old (DidAsk at words.now reply ∷ []) self.new) }
         ensures err { OnErr result (goes self.old [] self.new) }

@@ -11,6 +11,7 @@ mod real;
 mod traits;
 mod whole;
 
+pub use counts::raise;
 pub use memory_sink::MemorySink;
 pub use memory_source::MemorySource;
 pub use real::{StdSink, StdSource};

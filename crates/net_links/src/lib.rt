@@ -6,7 +6,6 @@
 #![tactic(auto)]
 
 mod clock;
-mod counts;
 mod link;
 mod memory_link;
 mod memory_net;
@@ -14,8 +13,8 @@ mod net;
 mod step_clock;
 
 pub use clock::Clock;
-pub use counts::raise;
 pub use link::{Link, NetFault};
+pub use links::raise;
 pub use memory_link::MemoryLink;
 pub use memory_net::MemoryNet;
 pub use net::Net;

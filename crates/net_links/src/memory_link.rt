@@ -8,9 +8,8 @@ ghost use Rattle.net_links.specs.MemoryForms.{MemoryLinkView, after_failure, aft
 ghost use Rattle.net_links.specs.NetCauses.{HasGained, HasNetCause};
 ghost use Rattle.net_links.specs.declared.link.NetFault.TheVariants.{Failed as net_failed, Memory};
 
-use crate::counts::raise;
 use crate::{Link, NetFault};
-use links::Failed;
+use links::{Failed, raise};
 use std::alloc::Global;
 use std::marker::Model;
 use wire_values::Bytes;

@@ -8,8 +8,8 @@ ghost use Rattle.net_links.specs.NetCauses.{HasClosedFaults, HasNetCause};
 ghost use Rattle.net_links.specs.Traffics.{ClosesOne, IsFresh, KeepsClosed};
 ghost use Rattle.net_links.specs.declared.link.NetFault.TheVariants.{Failed};
 
-use crate::counts::raise;
 use crate::{MemoryLink, Net, NetFault};
+use links::raise;
 use std::alloc::Global;
 use std::marker::Model;
 use std::mem;

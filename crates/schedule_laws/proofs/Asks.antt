@@ -347,9 +347,9 @@ lines_ask κ craft before (l ∷ ls) d e h a to =
 -- the line that had no room
 filled_asks : (κ : Craft) (craft : IsCraft κ) (ls : List Bytes) (n cost : ℕ) (f : FilledDesk κ first_desk ls n cost) → Asks κ (of_lines (lines_until f.filled)) f.desk
 filled_asks κ craft ls n cost f =
-    let h = lines_hold κ craft first_desk f.filled.desk f.filled.before (first_holds κ.setting) f.filled.led in
+    let h = lines_hold κ craft first_desk f.filled.reached f.filled.before (first_holds κ.setting) f.filled.led in
     subst (LedAsks κ (of_lines (lines_until f.filled))) f.filled.filled
-    (line_asks κ craft f.filled.before f.filled.desk f.filled.line h.present (lines_ask κ craft [] f.filled.before first_desk f.filled.desk (first_holds κ.setting) (first_asks κ) f.filled.led))
+    (line_asks κ craft f.filled.before f.filled.reached f.filled.line h.present (lines_ask κ craft [] f.filled.before first_desk f.filled.reached (first_holds κ.setting) (first_asks κ) f.filled.led))
 
 determined_asked : (κ : Craft) (craft : IsCraft κ) (ls : List Bytes) (r : Determined) → IsLedBy κ first_desk ls r → IsAskedFor κ ls r
 determined_asked κ craft ls (Whole d) to =

@@ -130,7 +130,7 @@ lines_hold κ craft d e (l ∷ ls) h to = lines_hold κ craft to.0 e ls (subst (
 
 -- and the line that had no room
 pub filled_holds : (κ : Craft) (craft : IsCraft κ) (d : ScheduleReader) (ls : List Bytes) (n cost : ℕ) → Holds κ.setting d → (f : FilledDesk κ d ls n cost) → Holds κ.setting f.desk × (is_full f.desk.entries ≡ true)
-filled_holds κ craft d ls n cost h f = subst (LedHolds κ.setting) f.filled.filled (line_holds κ craft f.filled.desk f.filled.line (lines_hold κ craft d f.filled.desk f.filled.before h f.filled.led))
+filled_holds κ craft d ls n cost h f = subst (LedHolds κ.setting) f.filled.filled (line_holds κ craft f.filled.reached f.filled.line (lines_hold κ craft d f.filled.reached f.filled.before h f.filled.led))
 
 determined_sound : (κ : Craft) (craft : IsCraft κ) (ls : List Bytes) (r : Determined) → DecidesFronts κ.setting → IsLedBy κ first_desk ls r → IsSoundlyDetermined κ ls r
 determined_sound κ craft ls (Whole d) decide to = desk_sound κ.setting d (lines_hold κ craft first_desk d ls (first_holds κ.setting) to) decide

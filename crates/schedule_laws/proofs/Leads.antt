@@ -22,7 +22,7 @@ module _ (κ : Craft) (d : ScheduleReader) (l : Bytes) (ls : List Bytes) where
       line = f.filled.line;
       later = f.filled.later;
       lines = ap (λ z. l ∷ z) f.filled.lines;
-      desk = f.filled.desk;
+      reached = f.filled.reached;
       led = (next, went, f.filled.led);
       filled = f.filled.filled;
     };
@@ -39,7 +39,7 @@ module _ (κ : Craft) (d : ScheduleReader) (l : Bytes) (ls : List Bytes) where
   filled_here : (e : ScheduleReader) → line_led κ d l ≡ Filled e → FilledDesk κ d (l ∷ ls) (length e.entries) (total_cost e.entries)
   filled_here e is = record {
     desk = e;
-    filled = record { before = []; line = l; later = ls; lines = refl; desk = d; led = refl; filled = is };
+    filled = record { before = []; line = l; later = ls; lines = refl; reached = d; led = refl; filled = is };
     entries = refl;
     costs = refl;
   }

@@ -45,7 +45,7 @@ one_fill κ d d' (l ∷ before) later (m ∷ before') later' line line' at at' e
 -- no other desk is filled by the lines that filled one
 pub fills_only : (κ : Craft) (d : ScheduleReader) (ls : List Bytes) (n cost : ℕ) (f : FilledDesk κ d ls n cost) → FillsOnly κ d ls n cost f
 fills_only κ d ls n cost f e g =
-    one_fill κ d d g.before g.later f.filled.before f.filled.later g.line f.filled.line g.desk f.filled.desk e f.desk refl (sym g.lines ∙ f.filled.lines) g.led f.filled.led g.filled f.filled.filled
+    one_fill κ d d g.before g.later f.filled.before f.filled.later g.line f.filled.line g.reached f.filled.reached e f.desk refl (sym g.lines ∙ f.filled.lines) g.led f.filled.led g.filled f.filled.filled
 
 pub fills_one : SchedulesFillOne
 fills_one κ bytes n cost is =

@@ -26,9 +26,9 @@ pub record IsFilled (κ : Craft) (d : ScheduleReader) (ls : List Bytes) (e : Sch
   pub line : Bytes
   pub later : List Bytes
   pub lines : ls ≡ before ++ line ∷ later
-  pub desk : ScheduleReader
-  pub led : LeadTo κ d before desk
-  pub filled : line_led κ desk line ≡ Filled e
+  pub reached : ScheduleReader
+  pub led : LeadTo κ d before reached
+  pub filled : line_led κ reached line ≡ Filled e
 
 -- the desk that these lines filled, which has so many entries at this cost
 pub record FilledDesk (κ : Craft) (d : ScheduleReader) (ls : List Bytes) (n cost : ℕ) : Type 0 where

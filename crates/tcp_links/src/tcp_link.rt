@@ -1,8 +1,8 @@
 //! A link over a stream of the system.
 ghost use Rattle.std.specs.Prelude.{◌≡◌, ◌&&◌, nat_eq, not};
 
-use links::Failed;
-use net_links::{Link, NetFault, raise};
+use links::{Failed, raise};
+use net_links::{Link, NetFault};
 use std::alloc::Global;
 use std::io::{Read, Write};
 

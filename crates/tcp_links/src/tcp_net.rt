@@ -5,7 +5,8 @@ ghost use Rattle.net_links.specs.NetCauses.{HasNetCause};
 ghost use Rattle.net_links.specs.Traffics.{IsFresh};
 
 use crate::TcpLink;
-use net_links::{Net, NetFault, raise};
+use links::raise;
+use net_links::{Net, NetFault};
 use std::alloc::Global;
 use std::net::{OpenListener, OpenStream, SocketAddr};
 use std::time::Duration;

@@ -27,7 +27,7 @@ use Rattle.command_blocks.specs.Scripts.{Over, if_told, kept_by, next_words, nul
 use Rattle.unacked.specs.Pops.{index_words, table_words, tag_within}
 use Rattle.unacked.specs.Queues.{are_some}
 use Rattle.unacked.proofs.Names.{no_some}
-use Rattle.unacked.specs.Steps.{begin_left, steps_left}
+use Rattle.unacked.specs.Steps.{multi_left, steps_left}
 use Rattle.store_model.specs.Words.{Words}
 use Rattle.unacked.specs.declared.step.Step.{Step}
 use Rattle.unacked.specs.declared.step.Step.TheVariants.{Begin, Index, Table}
@@ -67,7 +67,7 @@ entry_is d v e =
 
 -- what was read as an envelope is put into the table
 pub kept : (d : Data) (v : Bytes) → envelope_at v ≡ Ok d → steps_left (index_words d) (table_words d) Begin ≡ kept_by plain_setting v (tag_of_bytes v)
-kept d v e = sym (ap (kept_by plain_setting v) (tag_is d v e) ∙ ap (λ u. begin_left (index_words d) (codes "HSET" ∷ codes "unacked" ∷ tag_within d ∷ u ∷ [])) (entry_is d v e))
+kept d v e = sym (ap (kept_by plain_setting v) (tag_is d v e) ∙ ap (λ u. multi_left (index_words d) (codes "HSET" ∷ codes "unacked" ∷ tag_within d ∷ u ∷ [])) (entry_is d v e))
 
 -- ---- an element that is none
 

@@ -11,27 +11,27 @@ use Rattle.unacked.specs.declared.step.Step.{Step}
 use Rattle.unacked.specs.declared.step.Step.TheVariants.{Begin, Index, Table, Run}
 
 -- EXEC is next, which two integers answer
-abbrev pub run_left : Script
-run_left = plainly (codes "EXEC" ∷ []) (on_two_numbers Over)
+abbrev pub exec_left : Script
+exec_left = plainly (codes "EXEC" ∷ []) (on_two_numbers Over)
 
 -- the command on the table is next
-abbrev pub table_left : Words → Script
-table_left table = plainly table (on_queued run_left)
+abbrev pub table_step_left : Words → Script
+table_step_left table = plainly table (on_queued exec_left)
 
 -- the command on the index is next, by the moment
-abbrev pub index_left : (ℕ → Words) → Words → Script
-index_left index table = Say index (on_queued (table_left table))
+abbrev pub index_step_left : (ℕ → Words) → Words → Script
+index_step_left index table = Say index (on_queued (table_step_left table))
 
 -- MULTI is next
-abbrev pub begin_left : (ℕ → Words) → Words → Script
-begin_left index table = plainly (codes "MULTI" ∷ []) (on_done (index_left index table))
+abbrev pub multi_left : (ℕ → Words) → Words → Script
+multi_left index table = plainly (codes "MULTI" ∷ []) (on_done (index_step_left index table))
 
 -- the transaction of these two commands, from a step on
 abbrev pub steps_left : (ℕ → Words) → Words → Step → Script
-steps_left index table Begin = begin_left index table
-steps_left index table Index = index_left index table
-steps_left index table Table = table_left table
-steps_left index table Run = run_left
+steps_left index table Begin = multi_left index table
+steps_left index table Index = index_step_left index table
+steps_left index table Table = table_step_left table
+steps_left index table Run = exec_left
 
 -- what goes on after an answer to the command of a step
 abbrev pub answered_left : (ℕ → Words) → Words → Step → Value → Script

@@ -10,8 +10,8 @@ ghost use Rattle.unacked.specs.Ends.{HasEnding, end_left, unindex_words, untable
 ghost use Rattle.unacked.specs.Steps.{steps_left};
 
 use crate::step::{Course, Step};
-use crate::words::{one_word, three_words};
 use block_core::{BlockCore, Progress, Stage};
+use block_words::{one_word, three_words};
 use envelope::Tag;
 use std::alloc::{AllocError, Global};
 use wire_values::{Value, Words};

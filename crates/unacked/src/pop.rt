@@ -14,8 +14,9 @@ ghost use Rattle.unacked.specs.Steps.{steps_left};
 
 use crate::queues::Queues;
 use crate::step::{Course, Step};
-use crate::words::{decimal_text, four_words, one_word};
+use crate::words::{decimal_text, four_words};
 use block_core::{BlockCore, Progress, Stage};
+use block_words::one_word;
 use command_blocks::answer::{is_null_array, pair};
 use envelope::{Envelope, EnvelopeFault, read, write_entry};
 use queue_keys::{QueueName, pop_keys};
