@@ -1,11 +1,11 @@
 -- What a desk that has its store does.
-use Rattle.std.proofs.Common.{◌≡◌, ℕ, Bool, true, false, List, [], ◌∷◌, Option, None, Some, refl, sym, subst}
-use Rattle.std.specs.Prelude.{IsErr, IsTrue, Ok, Result}
+use Rattle.std.proofs.Common.{◌≡◌, ℕ, Bool, true, false, [], ◌∷◌, Option, None, Some, refl, sym, subst}
+use Rattle.std.specs.Prelude.{IsTrue}
 use Rattle.store_model.specs.Store.{State, apply_of, gone_of}
 use Rattle.store_model.specs.Words.{Words}
 use Rattle.store_model.specs.declared.reply.Reply.{Reply}
 use Rattle.place_model.specs.declared.heard.Heard.{Heard}
-use Rattle.desks.specs.Deeds.{Deed, DidAsk, DidNote, DidStop}
+use Rattle.desks.specs.Deeds.{DidAsk, DidNote, DidStop}
 use Rattle.desks.specs.Faults.{IsOpen, IsTimely}
 use Rattle.desks.specs.declared.desk.DeskFault.{DeskFault}
 use Rattle.desks.specs.declared.desk.DeskFault.TheVariants.{Memory}

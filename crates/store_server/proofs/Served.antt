@@ -15,7 +15,7 @@ use Rattle.net_links.specs.LinkViews.{LinkView}
 use Rattle.sessions.specs.SessionEnds.{HasSession}
 use Rattle.sessions.specs.declared.conversing.SessionEnd.{SessionEnd}
 use Rattle.sessions.proofs.Mapped.{heard_in, session_as}
-use Rattle.store_server.specs.Servings.{HasServed, HasServedAll, HasServedOne, HasTried, HasVisited, IsServeWhy, IsUnkept, store_goes, why_at, without}
+use Rattle.store_server.specs.Servings.{HasServed, HasServedAll, HasServedOne, HasServedNext, HasVisited, IsServeWhy, IsUnkept, store_goes, why_at, without}
 use Rattle.store_server.specs.declared.serving.ServeWhy.{ServeWhy}
 use Rattle.store_server.specs.declared.serving.ServeWhy.TheVariants.{Ended, Memory, Net}
 

@@ -40,9 +40,9 @@ pub record HasServedOne (gives : ℕ → Type 0) (turns c : ℕ) (store store2 :
   pub carried : ClosesOne closed closed2 link2
 
 -- a connection was served; or the net gave no link, and nothing else happened
-abbrev pub HasTried : (ℕ → Type 0) → ℕ → ℕ → StoreView → StoreView → Option (List LinkView) → Option (List LinkView) → Result SessionEnd NetFault → Type 0
-HasTried gives turns c store store2 closed closed2 (Ok end) = HasServedOne gives turns c store store2 closed closed2 end
-HasTried gives turns c store store2 closed closed2 (Err fault) = (store2 ≡ store) × KeepsClosed closed closed2
+abbrev pub HasServedNext : (ℕ → Type 0) → ℕ → ℕ → StoreView → StoreView → Option (List LinkView) → Option (List LinkView) → Result SessionEnd NetFault → Type 0
+HasServedNext gives turns c store store2 closed closed2 (Ok end) = HasServedOne gives turns c store store2 closed closed2 end
+HasServedNext gives turns c store store2 closed closed2 (Err fault) = (store2 ≡ store) × KeepsClosed closed closed2
 
 -- connections from this number on were served, one after the other, and their sessions ended so
 abbrev pub HasServedAll : (ℕ → Type 0) → ℕ → ℕ → StoreView → StoreView → Option (List LinkView) → Option (List LinkView) → List SessionEnd → Type 0

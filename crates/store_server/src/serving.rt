@@ -3,7 +3,7 @@ ghost use Rattle.std.specs.Prelude.{OnErr, OnOk, [], ◌++◌, ◌∷◌, ◌≡
 ghost use Rattle.net_links.specs.NetCauses.{HasNetCause};
 ghost use Rattle.net_links.specs.LinkViews.{link_view};
 ghost use Rattle.store_model.specs.Store.{StoreView};
-ghost use Rattle.store_server.specs.Servings.{HasServed, HasTried, HasVisited, why_at};
+ghost use Rattle.store_server.specs.Servings.{HasServed, HasServedNext, HasVisited, why_at};
 
 use mini_store::Store;
 use net_links::{Clock, Link, Net, NetFault};
@@ -129,7 +129,7 @@ pub fn serve_one<N: Net, C: Clock>(
     number: u32,
     turns: u64,
 ) -> Result<SessionEnd, NetFault>
-    ensures tried { HasTried (C.gives clock.now) turns number store.old store.new (N.closed net.old) (N.closed net.new) result }
+    ensures tried { HasServedNext (C.gives clock.now) turns number store.old store.new (N.closed net.old) (N.closed net.new) result }
     ensures cause { HasNetCause (N.faults net.old) (N.faults net.new) result }
 {
     match net.accept(alloc) {

@@ -1,0 +1,4 @@
+pub mod Attendance
+pub mod Histories
+pub mod Replies
+pub mod Wholes

@@ -1,0 +1,2 @@
+pub mod ServedHistories
+pub mod WholeSessions
