@@ -1,0 +1,6 @@
+pub mod Counting
+pub mod Going
+pub mod Limits
+pub mod Members
+pub mod Releasing
+pub mod Telling
