@@ -43,7 +43,7 @@ module _ (ms : List Bytes) (end : block.PassEnd) (l rest : List Call) (x y : Cal
   ran_done : (m g s : ℕ) → IsDone (record { moved = m; gone = g; stayed = s }) (x ∷ y ∷ l ++ rest) → IsToldOf end (ended.Done m g s)
   ran_done m g s h =
       let r = read_same x y ms h.members (l ++ rest) (h.returns ++ h.release) e h.read in
-      let are : AreReturned (tags_among plain_setting ms) h.ends h.returns = subst (λ k. AreReturned (tags_among plain_setting k) h.ends h.returns) (sym r.0) h.returned in
+      let are : AreReturned (tags_among plain_setting ms) h.ends h.returns = subst (λ k. AreReturned (tags_among plain_setting k) h.ends h.returns) (sym r.0) h.through in
       let is : end ≡ block.Done (map end_told h.ends) = done_same (tags_among plain_setting ms) end l returns (are_tags ms) rest h.returns h.release h.ends are r.1 in
       let counts : tally h.ends ≡ record { moved = m; gone = g; stayed = s } = h.tally in
       subst (λ z. IsToldOf z (ended.Done m g s)) (sym is)
@@ -52,7 +52,7 @@ module _ (ms : List Bytes) (end : block.PassEnd) (l rest : List Call) (x y : Cal
   ran_stuck : (tag : Tag) → IsStuck tag (x ∷ y ∷ l ++ rest) → end ≡ block.Stuck (tag_text tag.0)
   ran_stuck tag h =
       let r = read_same x y ms h.members (l ++ rest) (h.before ++ (h.tries ++ h.release)) e h.read in
-      stuck_same (tags_among plain_setting ms) end l returns (are_tags ms) rest h.before h.tries h.release h.first h.others h.ends (tag_text tag.0) tag (ap (tags_among plain_setting) r.0 ∙ h.tags) h.returned h.contended r.1
+      stuck_same (tags_among plain_setting ms) end l returns (are_tags ms) rest h.before h.tries h.release h.first h.others h.ends (tag_text tag.0) tag (ap (tags_among plain_setting) r.0 ∙ h.tags) h.through h.contended r.1
 
 pub ends : (token : Bytes) (v : ℕ) (end : block.PassEnd) (calls : List Call) (is : PassEnd) → IsPassBlock plain_setting token v end calls → TellsPass calls is → IsToldOf end is
 ends token v end calls (ended.Done m g s) (Is_held a) h = absurd (one_not (call a (lock_words plain_setting token) NullBulk) h.members (h.returns ++ h.release) h.read)
@@ -99,7 +99,7 @@ not_stuck ts end l t (Returned_until u us e stuck l₁ l₂ tries on rest) is h 
 not_stuck ts end l t (Ended_early u us l₁ tries) is h = not_contended u 0 Contended l₁ tries refl h
 
 pub are_done : (token : Bytes) (v : ℕ) (end : block.PassEnd) (calls : List Call) (is : PassEnd) → IsPassBlock plain_setting token v end calls → TellsPass calls is → IsFirst (λ r. r ≡ done) calls → NoneFailed calls → IsDoneWith calls is
-are_done token v end calls (ended.Done m g s) whole h first none = (h.members, h.returns ++ h.release, h.read, sym (ap returned_count h.tally) ∙ all_counted (tags_among plain_setting h.members) h.ends h.returns h.returned)
+are_done token v end calls (ended.Done m g s) whole h first none = (h.members, h.returns ++ h.release, h.read, sym (ap returned_count h.tally) ∙ all_counted (tags_among plain_setting h.members) h.ends h.returns h.through)
 are_done token v end calls ended.Held (Is_held a) h first none = absurd (done_not (sym first))
 are_done token v end calls ended.Held (Ran a b ms e l l' returns release) h first none = absurd (done_not h)
 are_done token v end calls (ended.Contended tag) (Is_held a) h first none = absurd (done_not (sym first))

@@ -75,7 +75,10 @@ fn a_contended_return_ends_a_pass(rt: HostRuntime) -> Result<(), Fail> {
     let mut core = first_pass(alloc)?;
     assert!(rt; plays(alloc, &mut store, &mut core, due_rows())?);
     for count in 0..8 {
-        assert!(rt; plays(alloc, &mut store, &mut core, failed_rows())?, "try {count}");
+        assert!(rt;
+            plays(alloc, &mut store, &mut core, failed_rows())?,
+            "try {count}"
+        );
     }
     assert!(rt; plays(alloc, &mut store, &mut core, release_rows())?);
     let end = core.end();
@@ -99,7 +102,10 @@ fn pass_refuses(alloc: Global, rows: &[Row], count: usize) -> Result<bool, Fail>
 fn another_answer_puts_a_pass_off(rt: HostRuntime) -> Result<(), Fail> {
     let alloc = rt.alloc();
     for count in 2..16 {
-        assert!(rt; pass_refuses(alloc, restored_rows(), count)?, "a pass after {count} rows");
+        assert!(rt;
+            pass_refuses(alloc, restored_rows(), count)?,
+            "a pass after {count} rows"
+        );
     }
     assert!(rt; pass_refuses(alloc, lost_rows(), 4)?);
     Ok(())

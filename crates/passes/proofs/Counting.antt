@@ -1,8 +1,8 @@
 -- Counting returns.
-use Rattle.std.proofs.Common.{◌≡◌, ◌+◌, ℕ, List, [], ◌∷◌, ◌++◌, refl, sym, ap, ◌∙◌, arith}
+use Rattle.std.proofs.Common.{◌≡◌, ◌+◌, List, [], ◌∷◌, ◌++◌, refl, ap, ◌∙◌, arith}
 use Rattle.returns.specs.declared.returned.Returned.{Returned}
 use Rattle.returns.specs.declared.returned.Returned.TheVariants.{Moved, Gone, Stayed, Contended}
-use Rattle.passes.specs.Counts.{counted, no_counts, returned_count, tally}
+use Rattle.passes.specs.Counts.{counted, returned_count, tally}
 use Rattle.passes.specs.Told.{IsOn}
 use Rattle.passes.specs.declared.counts.Counts.{Counts}
 

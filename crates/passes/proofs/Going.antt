@@ -1,43 +1,23 @@
 -- A pass from command to command: what is left after an answer.
-use Rattle.std.proofs.Common.{◌≡◌, ◌+◌, ℕ, List, [], ◌∷◌, ◌++◌, drop, Bool, true, false, Option, Some, None, refl, sym, ap, ◌∙◌, subst, Result, Ok, Err, if◌then◌else◌}
+use Rattle.std.proofs.Common.{◌≡◌, ℕ, List, [], ◌∷◌, ◌++◌, Some, refl, sym, ap, ◌∙◌, subst, Result, Ok, Err}
 use Rattle.std.specs.declared.alloc.AllocError.{AllocError}
 use Rattle.std.specs.Prelude.{IfOk}
-use Rattle.wire_values.specs.Layer.{layer}
 use Rattle.wire_values.specs.declared.value.Value.{Value}
 use Rattle.store_model.specs.Words.{Words}
 use Rattle.command_blocks.specs.Calls.{Call, call}
 use Rattle.command_blocks.specs.Cores.{IsAnswered}
-use Rattle.command_blocks.specs.Scripts.{Plan, Script, Over, Off, Say, after_call, next_words, null_bulk_in, on_done, on_locked}
-use Rattle.wire_grammar.specs.Fits.{IsWithinLimits}
+use Rattle.command_blocks.specs.Scripts.{Plan, Script, Over, Off, Say, after_call, next_words}
 use Rattle.block_core.specs.Stages.{TellsOn, progress_left}
 use Rattle.block_core.specs.declared.stage.Progress.{Progress}
-use Rattle.returns.specs.Spots.{returned_left}
-use Rattle.returns.specs.declared.returned.Returned.{Returned}
-use Rattle.returns.specs.declared.returned.Returned.TheVariants as returned
-use Rattle.passes.specs.Passes.{PassHad, PassingHad, TellsNext, after_return, let_go_left, pass_stage_left, passing_left, returned_so}
+use Rattle.returns.specs.declared.trying.Trying.{Trying}
+use Rattle.passes.specs.Passes.{PassHad, PassingHad, TellsNext, pass_stage_left, passing_left}
 use Rattle.passes.specs.Told.{TellsPass}
 use Rattle.passes.specs.declared.ended.PassEnd.{PassEnd}
 use Rattle.passes.specs.declared.passing.PassStage.{PassStage}
 use Rattle.passes.specs.declared.passing.Passing.{Passing}
-use Rattle.passes.specs.declared.passing.Returns.{Returns}
+use Rattle.passes.specs.declared.passing.Passing.TheVariants.{Returning}
+use Rattle.passes.specs.declared.turns.Returns.{Returns}
 use Rattle.passes.specs.declared.terms.Terms.{Terms}
-
--- ---- SET
-
-pub held_left : (go : Script) (r : Value) → null_bulk_in (layer r) ≡ true → Over ≡ on_locked go r
-held_left go r e = sym (ap (λ b. if b then Over else on_done go r) e)
-
-pub locked_left : (go : Script) (r : Value) (b : Bool) → null_bulk_in (layer r) ≡ false → on_done go r ≡ (if b then go else Off) → on_locked go r ≡ (if b then go else Off)
-locked_left go r b e done = ap (λ b. if b then Over else on_done go r) e ∙ done
-
--- ---- a return
-
--- what follows the present one, by its end
-pub follows : (terms : Terms) (returns : Returns) (end : Returned) → returned_left (after_return terms returns) (let_go_left terms) end ≡ returned_so terms returns end
-follows terms returns returned.Moved = refl
-follows terms returns returned.Gone = refl
-follows terms returns returned.Stayed = refl
-follows terms returns (returned.Contended tag) = refl
 
 -- ---- the stage
 
@@ -66,3 +46,14 @@ stages_tell (Err f) self at r is tells = tt
 pub stage_words : (result : Result Words AllocError) (self : PassStage) (at : Passing) (m : ℕ) → self.at ≡ at → IfOk result (λ w. Some w ≡ next_words (passing_left self.terms at) m) → IfOk result (λ w. Some w ≡ next_words (pass_stage_left self) m)
 stage_words (Ok w) self at m is h = h ∙ sym (ap (λ q. next_words (passing_left self.terms q) m) is)
 stage_words (Err f) self at m is h = tt
+
+-- what was moved out of the stage is what stood in it
+pub moved_left : (result : Result (Progress PassStage PassEnd) AllocError) (terms : Terms) (r : Value) (t u : Trying) (q s : Returns) → t ≡ u → q ≡ s → IfOk result (λ p. progress_left pass_stage_left p ≡ after_call (passing_left terms (Returning t q)) (call 0 [] r))
+    → IfOk result (λ p. progress_left pass_stage_left p ≡ after_call (passing_left terms (Returning u s)) (call 0 [] r))
+moved_left result terms r t u q s e f h =
+    subst (λ (x : Trying). IfOk result (λ p. progress_left pass_stage_left p ≡ after_call (passing_left terms (Returning x s)) (call 0 [] r))) e
+    (subst (λ (y : Returns). IfOk result (λ p. progress_left pass_stage_left p ≡ after_call (passing_left terms (Returning t y)) (call 0 [] r))) f h)
+
+pub moved_tells : (result : Result (Progress PassStage PassEnd) AllocError) (r : Value) (t u : Trying) (q s : Returns) → t ≡ u → q ≡ s → IfOk result (λ p. TellsNext (PassingHad (Returning t q)) r p) → IfOk result (λ p. TellsNext (PassingHad (Returning u s)) r p)
+moved_tells result r t u q s e f h =
+    subst (λ (x : Trying). IfOk result (λ p. TellsNext (PassingHad (Returning x s)) r p)) e (subst (λ (y : Returns). IfOk result (λ p. TellsNext (PassingHad (Returning t y)) r p)) f h)

@@ -1,6 +1,5 @@
 pub mod Counting
 pub mod Going
 pub mod Limits
-pub mod Members
-pub mod Releasing
+pub mod Tagged
 pub mod Telling

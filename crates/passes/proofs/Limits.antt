@@ -1,5 +1,5 @@
 -- The words of a pass are within the limits of a command.
-use Rattle.std.proofs.Common.{◌≡◌, ℕ, ◌-◌, ◌<◌, ◌≤◌, ◌^◌, List, [], ◌∷◌, ◌++◌, length, true, false, Bool, refl, sym, subst, ap, codes, decimal, arith, length-append, Result, Ok, Err, if◌then◌else◌}
+use Rattle.std.proofs.Common.{◌∙◌, ◌≡◌, ℕ, ◌-◌, ◌<◌, ◌≤◌, ◌^◌, [], ◌∷◌, ◌++◌, length, true, false, Bool, sym, subst, ap, codes, decimal, arith, length-append, Result, Ok, Err, if◌then◌else◌}
 use Rattle.std.specs.declared.alloc.AllocError.{AllocError}
 use Rattle.std.specs.Prelude.{All, IfOk, min, nat_le}
 use Rattle.std.proofs.lemmas.Fmt.{length-decimal-le}
@@ -11,7 +11,7 @@ use Rattle.queue_keys.specs.Names.{Bytes}
 use Rattle.queue_keys.specs.Texts.{difference, token}
 use Rattle.command_blocks.specs.EnvelopeTexts.{plain_setting}
 use Rattle.command_blocks.specs.PassBlocks.{lock_words}
-use Rattle.passes.specs.Passes.{range_of}
+use Rattle.passes.specs.Releases.{range_of}
 
 pub decimal_few : (n : ℕ) → n < 2 ^ 64 → length (decimal n) ≤ 20
 decimal_few n h = length-decimal-le 20 n (omega arith) (omega (arith, h)) h
@@ -33,13 +33,28 @@ token_few s n h =
 
 lock_short : (t : Bytes) → IsShort t → All IsShort (lock_words plain_setting t)
 lock_short t x =
-    All-cons IsShort (codes "SET") _ (omega arith) (All-cons IsShort plain_setting.mutex _ (omega arith) (All-cons IsShort t _ x (
-    All-cons IsShort (codes "NX") _ (omega arith) (All-cons IsShort (codes "EX") _ (omega arith) (All-cons IsShort (codes "300") [] (omega arith) (All-nil IsShort))))))
+    All-cons IsShort (codes "SET") (codes "unacked_mutex" ∷ t ∷ codes "NX" ∷ codes "EX" ∷ codes "300" ∷ []) (omega arith) (
+    All-cons IsShort (codes "unacked_mutex") (t ∷ codes "NX" ∷ codes "EX" ∷ codes "300" ∷ []) (omega arith) (
+    All-cons IsShort t (codes "NX" ∷ codes "EX" ∷ codes "300" ∷ []) x (
+    All-cons IsShort (codes "NX") (codes "EX" ∷ codes "300" ∷ []) (omega arith) (
+    All-cons IsShort (codes "EX") (codes "300" ∷ []) (omega arith) (
+    All-cons IsShort (codes "300") [] (omega arith) (All-nil IsShort))))))
 
 range_short : (b : Bytes) → IsShort b → All IsShort (range_of b)
 range_short b x =
-    All-cons IsShort (codes "ZREVRANGEBYSCORE") _ (omega arith) (All-cons IsShort plain_setting.index _ (omega arith) (All-cons IsShort b _ x (
-    All-cons IsShort (codes "0") _ (omega arith) (All-cons IsShort (codes "LIMIT") _ (omega arith) (All-cons IsShort (codes "0") _ (omega arith) (All-cons IsShort (codes "10") [] (omega arith) (All-nil IsShort)))))))
+    All-cons IsShort (codes "ZREVRANGEBYSCORE") (codes "unacked_index" ∷ b ∷ codes "0" ∷ codes "LIMIT" ∷ codes "0" ∷ codes "10" ∷ []) (omega arith) (
+    All-cons IsShort (codes "unacked_index") (b ∷ codes "0" ∷ codes "LIMIT" ∷ codes "0" ∷ codes "10" ∷ []) (omega arith) (
+    All-cons IsShort b (codes "0" ∷ codes "LIMIT" ∷ codes "0" ∷ codes "10" ∷ []) x (
+    All-cons IsShort (codes "0") (codes "LIMIT" ∷ codes "0" ∷ codes "10" ∷ []) (omega arith) (
+    All-cons IsShort (codes "LIMIT") (codes "0" ∷ codes "10" ∷ []) (omega arith) (
+    All-cons IsShort (codes "0") (codes "10" ∷ []) (omega arith) (
+    All-cons IsShort (codes "10") [] (omega arith) (All-nil IsShort)))))))
+
+-- three words and three more
+pub lock_said : (r : Result Words AllocError) (words : Words) (t slice : Bytes) → IfOk r (λ w. w ≡ words ++ codes "NX" ∷ codes "EX" ∷ codes "300" ∷ []) → words ≡ codes "SET" ∷ codes "unacked_mutex" ∷ slice ∷ [] → slice ≡ t → IfOk r (λ w. w ≡ lock_words plain_setting t)
+lock_said (Ok w) words t slice e is same =
+    e ∙ ap (λ (l : Words). l ++ codes "NX" ∷ codes "EX" ∷ codes "300" ∷ []) is ∙ ap (λ x. codes "SET" ∷ codes "unacked_mutex" ∷ x ∷ codes "NX" ∷ codes "EX" ∷ codes "300" ∷ []) same
+lock_said (Err f) words t slice e is same = tt
 
 -- SET of the mutex under a short token
 pub lock_made : (r : Result Words AllocError) (t : Bytes) → IfOk r (λ w. w ≡ lock_words plain_setting t) → IsShort t → IfOk r IsWithinLimits
@@ -50,3 +65,8 @@ lock_made (Err f) t e x = tt
 pub range_made : (r : Result Words AllocError) (b : Bytes) → IfOk r (λ w. w ≡ range_of b) → IsShort b → IfOk r IsWithinLimits
 range_made (Ok w) b e x = subst IsWithinLimits (sym e) (words_fit 1048576 (range_of b) (omega arith) (omega arith) (omega arith) (range_short b x))
 range_made (Err f) b e x = tt
+
+-- a token's text that was made
+pub token_made : (r : Result Bytes AllocError) (s n : ℕ) → s < 2 ^ 64 → IfOk r (λ b. b ≡ token s n) → IfOk r (λ b. length b ≤ 41)
+token_made (Ok b) s n h is = subst (λ (t : Bytes). length t ≤ 41) (sym is) (token_few s n h)
+token_made (Err f) s n h is = tt

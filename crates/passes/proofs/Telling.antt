@@ -1,5 +1,5 @@
 -- What an answer brought to a pass tells of the calls up to it.
-use Rattle.std.proofs.Common.{◌≡◌, ◌+◌, ◌<◌, ◌≤◌, ℕ, List, [], ◌∷◌, ◌++◌, append_assoc, length, drop, take, get_or, Option, Some, None, refl, sym, ap, ◌∙◌, subst, codes}
+use Rattle.std.proofs.Common.{◌≡◌, ◌+◌, ◌<◌, ◌≤◌, ℕ, List, [], ◌∷◌, ◌++◌, append_assoc, length, drop, take, Some, refl, sym, ap, ◌∙◌, subst}
 use Rattle.std.proofs.lemmas.List.{append-nil, drop_more, length-map, take_all, take_more, take-append-drop}
 use Rattle.wire_values.specs.declared.value.Value.{Value}
 use Rattle.wire_values.specs.declared.value.Value.TheVariants.{NullBulk}
@@ -21,14 +21,13 @@ use Rattle.returns.specs.Spots.{returned_left, tried_left, trying_left}
 use Rattle.returns.specs.declared.returned.Returned.{Returned}
 use Rattle.returns.specs.declared.returned.Returned.TheVariants as returned
 use Rattle.returns.specs.declared.trying.Trying.{Trying}
-use Rattle.passes.specs.Counts.{counted, no_counts, returned_count, tag_texts, tally}
-use Rattle.passes.specs.Passes.{HasEnded, PassHad, TellsNext, tag_now}
+use Rattle.passes.specs.Counts.{counted, no_counts, returned_count, tag_texts}
+use Rattle.passes.specs.Passes.{HasEnded, tag_now}
 use Rattle.passes.specs.Told.{AreReturned, HasDue, HasReturned, IsDone, IsFirst, IsOn, IsReturned, IsReturning, IsStuck, TellsPass}
 use Rattle.passes.specs.declared.counts.Counts.{Counts}
 use Rattle.passes.specs.declared.ended.PassEnd.{PassEnd}
 use Rattle.passes.specs.declared.ended.PassEnd.TheVariants.{Done, Held, Contended}
-use Rattle.passes.specs.declared.passing.PassStage.{PassStage}
-use Rattle.passes.specs.declared.passing.Returns.{Returns}
+use Rattle.passes.specs.declared.turns.Returns.{Returns}
 use Rattle.passes.proofs.Counting.{tally_more}
 
 -- the moment and the words of a call don't matter
@@ -63,7 +62,7 @@ still_tells calls x (Done m g s) h = record {
   returns = h.returns;
   release = h.release ++ x ∷ [];
   read = read_so h.members _ (h.returns ++ (h.release ++ x ∷ [])) (calls ++ x ∷ []) (append_assoc h.returns h.release (x ∷ [])) (read_more h.members (h.returns ++ h.release) calls x h.read);
-  returned = h.returned;
+  through = h.through;
   tally = h.tally;
 }
 still_tells calls x Held h = first_on (λ r. r ≡ NullBulk) calls (x ∷ []) h
@@ -76,9 +75,9 @@ still_tells calls x (Contended tag) h = record {
   tries = h.tries;
   release = h.release ++ x ∷ [];
   read = read_so h.members _ (h.before ++ (h.tries ++ (h.release ++ x ∷ []))) (calls ++ x ∷ []) (append_assoc h.before (h.tries ++ h.release) (x ∷ []) ∙ ap (λ l. h.before ++ l) (append_assoc h.tries h.release (x ∷ [])))
-    (read_more h.members (h.before ++ (h.tries ++ h.release)) calls x h.read);
+      (read_more h.members (h.before ++ (h.tries ++ h.release)) calls x h.read);
   tags = h.tags;
-  returned = h.returned;
+  through = h.through;
   contended = h.contended;
 }
 
@@ -88,8 +87,8 @@ with_call tags counts tries calls x h = record {
   ends = h.ends;
   before = h.before;
   read = read_so h.members _ (h.before ++ (tries ++ x ∷ [])) (calls ++ x ∷ []) (append_assoc h.before tries (x ∷ [])) (read_more h.members (h.before ++ tries) calls x h.read);
-  tags = h.tags;
-  returned = h.returned;
+  found = h.found;
+  through = h.through;
   tally = h.tally;
 }
 
@@ -109,8 +108,8 @@ none_returned members tags calls x r e (lock, is, locked) read found = record {
   ends = [];
   before = [];
   read = record { lock = lock; range = x; is = ap (λ (l : List Call). l ++ x ∷ []) is; locked = locked; read = ap texts_of e ∙ sym read };
-  tags = sym found;
-  returned = refl;
+  found = sym found;
+  through = refl;
   tally = refl;
 }
 
@@ -164,8 +163,8 @@ one_returned returns end count calls is so on (tries, h, ended) =
       ends = h.ends ++ end ∷ [];
       before = h.before ++ tries;
       read = read_so h.members _ ((h.before ++ tries) ++ []) calls (sym (append-nil (h.before ++ tries))) h.read;
-      tags = h.tags;
-      returned = subst (λ ts. AreReturned ts (h.ends ++ end ∷ []) (h.before ++ tries)) (sym (take_more texts n [] less) ∙ ap (λ k. take k texts) (sym is ∙ sym so)) (returned_more (take n texts) h.ends h.before (tag_now returns) end tries h.returned ended on);
+      found = h.found;
+      through = subst (λ ts. AreReturned ts (h.ends ++ end ∷ []) (h.before ++ tries)) (sym (take_more texts n [] less) ∙ ap (λ k. take k texts) (sym is ∙ sym so)) (returned_more (take n texts) h.ends h.before (tag_now returns) end tries h.through ended on);
       tally = tally_more h.ends end ∙ ap (counted end) h.tally;
     }
 
@@ -177,7 +176,7 @@ all_returned tags counts calls all h = record {
   returns = h.before;
   release = [];
   read = h.read;
-  returned = subst (λ ts. AreReturned ts h.ends h.before) (take_all (returned_count counts) (tag_texts tags) all ∙ sym h.tags) h.returned;
+  through = subst (λ ts. AreReturned ts h.ends h.before) (take_all (returned_count counts) (tag_texts tags) all ∙ sym h.found) h.through;
   tally = h.tally;
 }
 
@@ -197,7 +196,7 @@ one_stuck returns tag calls (tries, h, ended) =
       tries = tries;
       release = [];
       read = read_so h.members _ (h.before ++ (tries ++ [])) calls (ap (λ l. h.before ++ l) (sym (append-nil tries))) h.read;
-      tags = h.tags ∙ sym (take-append-drop n texts) ∙ ap (λ l. take n texts ++ l) (drop_more texts n [] less) ∙ ap (λ (x : Bytes). take n texts ++ x ∷ drop (n + 1) texts) (sym own);
-      returned = h.returned;
+      tags = h.found ∙ sym (take-append-drop n texts) ∙ ap (λ l. take n texts ++ l) (drop_more texts n [] less) ∙ ap (λ (x : Bytes). take n texts ++ x ∷ drop (n + 1) texts) (sym own);
+      through = h.through;
       contended = subst (λ (t : Bytes). IsReturned t (returned.Contended tag) tries) (sym own) ended;
     }

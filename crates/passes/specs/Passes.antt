@@ -1,8 +1,7 @@
 -- What is left of a pass where it stands, and what that tells of its calls. Serves the proofs of code.
-use Rattle.std.specs.Prelude.{◌≡◌, ◌+◌, ℕ, true, refl, get_or, List, [], ◌∷◌, ◌++◌, codes, drop}
+use Rattle.std.specs.Prelude.{◌≡◌, ◌+◌, ℕ, true, refl, get_or, List, [], ◌∷◌, ◌++◌, drop}
 use Rattle.wire_values.specs.declared.value.Value.{Value}
 use Rattle.store_model.specs.Replies.{done}
-use Rattle.store_model.specs.Words.{Words}
 use Rattle.queue_keys.specs.Names.{Bytes}
 use Rattle.command_blocks.specs.Calls.{Call}
 use Rattle.command_blocks.specs.Cores.{is_saying}
@@ -17,14 +16,14 @@ use Rattle.returns.specs.Returns.{spots_say}
 use Rattle.returns.specs.Spots.{trying_left}
 use Rattle.returns.specs.declared.returned.Returned.{Returned}
 use Rattle.returns.specs.declared.returned.Returned.TheVariants as returned
-use Rattle.passes.specs.Counts.{counted, returned_count, tag_texts}
+use Rattle.passes.specs.Counts.{returned_count, tag_texts}
 use Rattle.passes.specs.Releases.{release_left}
 use Rattle.passes.specs.Told.{HasReturned, IsReturned, IsReturning, TellsPass}
 use Rattle.passes.specs.declared.ended.PassEnd.{PassEnd}
 use Rattle.passes.specs.declared.passing.PassStage.{PassStage}
 use Rattle.passes.specs.declared.passing.Passing.{Passing}
 use Rattle.passes.specs.declared.passing.Passing.TheVariants.{Lock, Range, Returning, Releasing}
-use Rattle.passes.specs.declared.passing.Returns.{Returns}
+use Rattle.passes.specs.declared.turns.Returns.{Returns}
 use Rattle.passes.specs.declared.release.Release.{Release}
 use Rattle.passes.specs.declared.release.Release.TheVariants as release
 use Rattle.passes.specs.declared.terms.Terms.{Terms}
@@ -34,10 +33,6 @@ use Rattle.passes.specs.declared.terms.Terms.{Terms}
 -- ZREVRANGEBYSCORE is next
 abbrev pub range_left : Terms → Script
 range_left terms = Say (λ at. due_words plain_setting at terms.visibility) (on_texts (λ ms. returns_script plain_setting terms.token (tags_among plain_setting ms)))
-
--- the words of ZREVRANGEBYSCORE up to this score
-abbrev pub range_of : Bytes → Words
-range_of bound = codes "ZREVRANGEBYSCORE" ∷ plain_setting.index ∷ bound ∷ codes "0" ∷ codes "LIMIT" ∷ codes "0" ∷ codes "10" ∷ []
 
 -- the returns of the tags after so many are next
 abbrev pub turns_left : Terms → Returns → ℕ → Script

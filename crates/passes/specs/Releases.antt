@@ -1,5 +1,6 @@
--- What is left of a release at each of its commands. Serves the proofs of code.
+-- The words of a range, and what is left of a release at each of its commands. Serves the proofs of code.
 use Rattle.std.specs.Prelude.{[], ◌∷◌, codes}
+use Rattle.store_model.specs.Words.{Words}
 use Rattle.queue_keys.specs.Names.{Bytes}
 use Rattle.command_blocks.specs.EnvelopeTexts.{plain_setting}
 use Rattle.command_blocks.specs.Scripts.{Script, Over, plainly, on_done, on_queued, on_released, on_token, leave_script, release_script}
@@ -30,3 +31,7 @@ release_left token Begin = begin_left
 release_left token Remove = remove_left
 release_left token Run = run_left
 release_left token Leave = leave_script Over
+
+-- ZREVRANGEBYSCORE of the index up to this score, ten members at most
+abbrev pub range_of : Bytes → Words
+range_of bound = codes "ZREVRANGEBYSCORE" ∷ plain_setting.index ∷ bound ∷ codes "0" ∷ codes "LIMIT" ∷ codes "0" ∷ codes "10" ∷ []

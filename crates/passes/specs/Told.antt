@@ -1,5 +1,5 @@
 -- What the end of a pass tells of its calls, by their answers. Serves the proofs of code.
-use Rattle.std.specs.Prelude.{◌≡◌, ℕ, List, [], ◌∷◌, ◌++◌, Some, take}
+use Rattle.std.specs.Prelude.{◌≡◌, List, [], ◌∷◌, ◌++◌, Some, take}
 use Rattle.wire_values.specs.declared.value.Value.{Value}
 use Rattle.wire_values.specs.declared.value.Value.TheVariants.{NullBulk}
 use Rattle.delivery_tags.specs.Tags.{tag_text}
@@ -62,8 +62,8 @@ pub record HasReturned (tags : List Tag) (counts : Counts) (more calls : List Ca
   pub ends : List Returned
   pub before : List Call
   pub read : HasDue members (before ++ more) calls
-  pub tags : tags_among plain_setting members ≡ tag_texts tags
-  pub returned : AreReturned (take (returned_count counts) (tag_texts tags)) ends before
+  pub found : tags_among plain_setting members ≡ tag_texts tags
+  pub through : AreReturned (take (returned_count counts) (tag_texts tags)) ends before
   pub tally : tally ends ≡ counts
 
 -- ---- the end
@@ -80,7 +80,7 @@ pub record IsDone (counts : Counts) (calls : List Call) : Type 0 where
   pub returns : List Call
   pub release : List Call
   pub read : HasDue members (returns ++ release) calls
-  pub returned : AreReturned (tags_among plain_setting members) ends returns
+  pub through : AreReturned (tags_among plain_setting members) ends returns
   pub tally : tally ends ≡ counts
 
 -- the tags among the members were returned up to this one, whose return was contended, and then the mutex was let go of
@@ -94,7 +94,7 @@ pub record IsStuck (tag : Tag) (calls : List Call) : Type 0 where
   pub release : List Call
   pub read : HasDue members (before ++ (tries ++ release)) calls
   pub tags : tags_among plain_setting members ≡ first ++ tag_text tag.0 ∷ others
-  pub returned : AreReturned first ends before
+  pub through : AreReturned first ends before
   pub contended : IsReturned (tag_text tag.0) (returned.Contended tag) tries
 
 -- the end of a pass tells of its calls: the null bulk string to SET; or that each tag was returned, with the counts; or that the return of this tag was contended

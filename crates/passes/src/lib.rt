@@ -13,6 +13,7 @@ mod passing;
 mod release;
 mod terms;
 mod token;
+mod turns;
 mod words;
 
 pub use ended::PassEnd;

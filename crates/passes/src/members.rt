@@ -1,9 +1,9 @@
 //! The tags that are due.
-ghost use Rattle.std.specs.Prelude.{◌≡◌, ◌∷◌, ◌+◌, ◌<◌, [], drop, length, IfOk, MatchOption};
+ghost use Rattle.std.specs.Prelude.{◌≡◌, ◌∷◌, ◌+◌, [], drop, IfOk, MatchOption, OnOk};
 ghost use Rattle.delivery_tags.specs.Tags.{tag_text};
 ghost use Rattle.command_blocks.specs.EnvelopeTexts.{plain_setting};
 ghost use Rattle.command_blocks.specs.PassBlocks.{tags_among};
-ghost use Rattle.passes.specs.Counts.{tag_texts};
+ghost use Rattle.passes.specs.Counts.{AreAdded, tag_texts};
 
 use envelope::Tag;
 use std::alloc::{AllocError, Global};
@@ -18,11 +18,19 @@ pub(crate) fn tags_among(alloc: Global, members: &[Bytes]) -> Result<List<Tag>, 
 {
     let mut tags = List::new();
     for member in members {
-        if let Some(tag) = Tag::read(member.as_slice()) {
-            tags.push(alloc, tag)?;
-        }
+        add_read(alloc, &mut tags, member.as_slice())?;
     }
     Ok(tags)
+}
+
+/// Adds a member that is the text of a tag.
+fn add_read(alloc: Global, tags: &mut List<Tag>, member: &[u8]) -> Result<(), AllocError>
+    ensures { OnOk result (AreAdded tags.old member.now tags.new) }
+{
+    match Tag::read(member) {
+        Some(tag) => tags.push(alloc, tag),
+        None => Ok(()),
+    }
 }
 
 /// The tag at a place.
@@ -30,5 +38,10 @@ pub(crate) fn tag_at(tags: &[Tag], place: u64) -> Option<Tag>
     ensures { MatchOption result (drop place (tag_texts tags.now) ≡ [])
         (λ tag. (drop place (tag_texts tags.now) ≡ tag_text tag.0 ∷ drop (place + 1) (tag_texts tags.now))) }
 {
-    tags.get(place as usize).copied()
+    let place = place as usize;
+    if place < tags.len() {
+        Some(tags[place])
+    } else {
+        None
+    }
 }

@@ -21,7 +21,8 @@ use wire_values::{Bytes, Value, Words};
 pub type PassCore = BlockCore<PassStage, PassEnd>;
 
 impl Stage for PassStage {
-    ghost use Rattle.passes.specs.Passes.{PassHad, TellsPass, pass_stage_left, passing_says};
+    ghost use Rattle.passes.specs.Passes.{PassHad, pass_stage_left, passing_says};
+    ghost use Rattle.passes.specs.Told.{TellsPass};
 
     type End = PassEnd;
 

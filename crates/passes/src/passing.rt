@@ -1,12 +1,12 @@
 //! From command to command of a pass.
-ghost use Rattle.std.specs.Prelude.{List as Listed, ◌≡◌, ◌≤◌, ◌<◌, [], IfOk, drop, length};
+ghost use Rattle.std.specs.Prelude.{List as Listed, ◌≡◌, ◌≤◌, [], IfOk, drop, length};
 ghost use Rattle.command_blocks.specs.Calls.{Call, call};
 ghost use Rattle.command_blocks.specs.EnvelopeTexts.{plain_setting};
 ghost use Rattle.command_blocks.specs.Scripts.{after_call, on_locked, returns_script};
 ghost use Rattle.block_core.specs.Stages.{progress_left};
-ghost use Rattle.passes.specs.Counts.{counted, returned_count, tag_texts};
-ghost use Rattle.passes.specs.Passes.{HasEnded, PassHad, PassingHad, TellsNext, pass_stage_left, passing_left, range_left, returned_so};
-ghost use Rattle.passes.specs.Told.{HasReturned};
+ghost use Rattle.passes.specs.Counts.{returned_count, tag_texts};
+ghost use Rattle.passes.specs.Passes.{HasEnded, PassHad, PassingHad, TellsNext, after_return, pass_stage_left, passing_left, range_left, returned_so};
+ghost use Rattle.passes.specs.Told.{HasReturned, IsOn};
 ghost use Rattle.passes.specs.declared.passing.Passing.TheVariants as Passing;
 ghost use Rattle.passes.specs.declared.release.Release.TheVariants as Release;
 
@@ -15,6 +15,7 @@ use crate::ended::PassEnd;
 use crate::members::{tag_at, tags_among};
 use crate::release::Release;
 use crate::terms::Terms;
+use crate::turns::Returns;
 use block_core::Progress;
 use block_words::{is_null_bulk, texts};
 use command_blocks::Side;
@@ -42,14 +43,6 @@ pub(crate) enum Passing {
     Returning(Trying, Returns),
     /// A command of the release, after which the pass ends so.
     Releasing(Release, PassEnd),
-}
-
-/// The tags that are due, and how the returns of those before the present one ended.
-#[derive(Drop)]
-pub(crate) struct Returns {
-    pub(crate) tags: List<Tag>,
-    pub(crate) counts: Counts,
-    ghost within: { returned_count counts < length tags },
 }
 
 impl Terms {
@@ -129,8 +122,9 @@ impl Terms {
         ensures tells { IfOk result (λ p. TellsNext (PassingHad (Passing.Returning trying returns)) answer.now p) }
     {
         match trying.took(alloc, answer)? {
-            Progress::Next(trying) =>
-                Ok(Progress::Next(self.at(Passing::Returning(trying, returns)))),
+            Progress::Next(trying) => Ok(Progress::Next(self.at(Passing::Returning(
+                trying, returns,
+            )))),
             Progress::Over(end) => Ok(Progress::Next(self.returned(returns, end))),
             Progress::Refused => Ok(Progress::Refused),
         }
@@ -143,11 +137,20 @@ impl Terms {
     {
         match end {
             Returned::Contended(tag) => self.releases(PassEnd::Contended(tag)),
-            Returned::Moved | Returned::Gone | Returned::Stayed => {
-                let counts = returns.counts.with(end);
-                self.turn(returns.tags, counts)
-            }
+            Returned::Moved => self.further(returns, Returned::Moved),
+            Returned::Gone => self.further(returns, Returned::Gone),
+            Returned::Stayed => self.further(returns, Returned::Stayed),
         }
+    }
+
+    /// What follows a return that ended so, and wasn't contended.
+    fn further(self, returns: Returns, end: Returned) -> PassStage
+        requires on { IsOn end }
+        ensures left { pass_stage_left result ≡ after_return self returns }
+        ensures had { (calls : Listed Call) → HasEnded returns end calls → PassHad calls result }
+    {
+        let counts = returns.counts.with(end);
+        self.turn(returns.tags, counts)
     }
 
     /// What the answer to a command of the release brings.

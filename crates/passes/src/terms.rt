@@ -1,4 +1,5 @@
 //! What a pass is told.
+ghost use Rattle.std.specs.Prelude.{◌<◌, ◌^◌};
 ghost use Rattle.wire_grammar.specs.Fits.{IsShort};
 
 use wire_values::Bytes;
@@ -9,4 +10,5 @@ pub(crate) struct Terms {
     pub(crate) token: Bytes,
     pub(crate) visibility: u32,
     ghost short: { IsShort token },
+    ghost few: { visibility < 2 ^ 32 },
 }

@@ -14,6 +14,13 @@ pub fn pass_token(alloc: Global, seed: u64, number: u64) -> Result<Bytes, AllocE
     ensures value { IfOk result (λ made. made ≡ token seed number) }
     ensures short { IfOk result (λ made. length made ≤ 41) }
 {
+    token_text(alloc, seed, number)
+}
+
+/// The text of a token.
+fn token_text(alloc: Global, seed: u64, number: u64) -> Result<Bytes, AllocError>
+    ensures { IfOk result (λ made. made ≡ token seed number) }
+{
     let text = format!(in alloc; "{seed}:{number}")?;
     Bytes::from_slice(alloc, text.as_bytes())
 }

@@ -1,12 +1,11 @@
 //! The words of the commands of a pass.
-ghost use Rattle.std.specs.Prelude.{◌≡◌, ◌∷◌, ◌++◌, [], IfOk, Some, string_bytes};
+ghost use Rattle.std.specs.Prelude.{◌≡◌, ◌∷◌, ◌++◌, [], ℕ, IfOk, OnOk, Some, string_bytes};
 ghost use Rattle.queue_keys.specs.Texts.{difference};
-ghost use Rattle.wire_grammar.specs.Fits.{IsShort, IsWithinLimits};
+ghost use Rattle.wire_grammar.specs.Fits.{IsWithinLimits};
 ghost use Rattle.command_blocks.specs.EnvelopeTexts.{plain_setting};
 ghost use Rattle.command_blocks.specs.PassBlocks.{due_words, lock_words};
 ghost use Rattle.command_blocks.specs.Scripts.{next_words};
-ghost use Rattle.passes.specs.Releases.{release_left};
-ghost use Rattle.queue_keys.specs.Names.{Bytes as Text};
+ghost use Rattle.passes.specs.Releases.{range_of, release_left};
 
 use crate::release::Release;
 use crate::terms::Terms;

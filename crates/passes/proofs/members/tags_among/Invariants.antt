@@ -1,5 +1,5 @@
 use Rattle.std.proofs.Common.{drop}
-use Rattle.passes.proofs.Members.{AreFound}
+use Rattle.passes.proofs.Tagged.{AreFound}
 use Rattle.passes.proofs.members.tags_among.Given as goal
 
 abbrev pub invariant-loop-member : goal.invariant-loop-member
