@@ -1,7 +1,8 @@
 //! The texts of an answer.
 ghost use Rattle.std.specs.Prelude.{◌≡◌, IfOk, MatchOption, Some, None};
+ghost use Rattle.wire_values.specs.Layer.{layer};
 ghost use Rattle.command_blocks.specs.Answers.{bulk_of};
-ghost use Rattle.command_blocks.specs.Scripts.{each_told, texts_of};
+ghost use Rattle.command_blocks.specs.Scripts.{each_told, null_bulk_in, texts_of};
 
 use command_blocks::answer::items;
 use std::alloc::{AllocError, Global};
@@ -47,5 +48,21 @@ pub fn bulk(answer: &Value) -> Option<&[u8]>
         | Value::Array(_)
         | Value::NullBulk
         | Value::NullArray => None,
+    }
+}
+
+/// Whether an answer is the null bulk string.
+#[tactic(auto, using(command_blocks::proofs::Layers::array_layer), unfolding(wire_values::specs::Layer::layer))]
+pub fn is_null_bulk(answer: &Value) -> bool
+    ensures { result ≡ null_bulk_in (layer answer.now) }
+{
+    match answer {
+        Value::NullBulk => true,
+        Value::Status(_)
+        | Value::Error(_)
+        | Value::Integer(_)
+        | Value::Bulk(_)
+        | Value::Array(_)
+        | Value::NullArray => false,
     }
 }

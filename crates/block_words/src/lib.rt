@@ -4,5 +4,5 @@
 mod answer;
 mod words;
 
-pub use answer::{bulk, texts};
+pub use answer::{bulk, is_null_bulk, texts};
 pub use words::{one_word, three_words, two_words};

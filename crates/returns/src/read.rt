@@ -11,13 +11,12 @@ ghost use Rattle.command_blocks.specs.Scripts.{Script, on_entry, on_texts, leave
 ghost use Rattle.returns.specs.Returns.{AnswerTells, GoesOn};
 ghost use Rattle.returns.specs.Spots.{IsCarried, carried_keys, entry_left, sent_left, tried_left};
 
-use crate::answers::is_null_bulk;
 use crate::carried::{Carried, Keys};
 use crate::returned::Returned;
 use crate::spot::{Aim, Point, Spot, Unmoved};
 use crate::trying::Trying;
 use block_core::Progress;
-use block_words::{bulk, texts};
+use block_words::{bulk, is_null_bulk, texts};
 use envelope::{Envelope, EnvelopeFault, Tag, UnackedEntry, read_entry, redelivered};
 use lookups::route_keys;
 use queue_keys::{are_same, step_of};

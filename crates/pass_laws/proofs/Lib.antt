@@ -1,0 +1,3 @@
+mod Cuts
+mod Ends
+mod Whole

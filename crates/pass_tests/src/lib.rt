@@ -1,0 +1,10 @@
+//! Tests of passes against a store, beside what other clients say meanwhile: what each says from command to command,
+//! and how it ends.
+#![tactic(auto)]
+
+#[cfg(test)]
+mod passes;
+#[cfg(test)]
+mod rows;
+#[cfg(test)]
+mod talk;

@@ -1,0 +1,5 @@
+pub mod Counting
+pub mod Going
+pub mod Limits
+pub mod Tagged
+pub mod Telling
