@@ -131,7 +131,7 @@ fn why_of(fault: DeskFault) -> Why
 }
 
 /// Appends the bytes of a reply: the values that were pushed before it, and the answer.
-fn reply_onto(alloc: Global, out: &mut Vec<u8>, reply: &Reply) -> Result<(), AllocError>
+pub fn reply_onto(alloc: Global, out: &mut Vec<u8>, reply: &Reply) -> Result<(), AllocError>
     ensures { OnOk result (out.new.items ≡ out.old.items ++ reply_bytes reply.now) }
 {
     for value in reply.pushed.as_slice() {

@@ -12,7 +12,7 @@ mod sending;
 mod talking;
 mod turning;
 
-pub use asking::{answer, store_moment};
+pub use asking::{answer, reply_onto, store_moment};
 pub use conversing::{SessionEnd, session};
 pub use ends::Why;
 pub use received::command_in;

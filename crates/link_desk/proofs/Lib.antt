@@ -1,0 +1,6 @@
+mod Gathered
+mod Heard
+mod Linked
+mod Pushings
+mod Ready
+mod Said

@@ -1,0 +1,151 @@
+//! The desk.
+ghost use Rattle.std.specs.Io.KnownBytes.{Appends, Keeps};
+ghost use Rattle.std.specs.Prelude.{IfErr, IfOk, List, OnErr, OnOk, [], ℕ, ◌<◌, ◌^◌, ◌∷◌, ◌≡◌};
+ghost use Rattle.wire_grammar.specs.Fits.{IsWithinLimits};
+ghost use Rattle.resp_wire.specs.Stands.{Stands};
+ghost use Rattle.desks.specs.Deeds.{DidAsk};
+ghost use Rattle.desks.specs.Faults.{HasCounts, HasShown, IsFaultOf, IsOpen};
+ghost use Rattle.link_desk.specs.Exchanges.{HasExchanged};
+ghost use Rattle.link_desk.specs.Hearings.{HasLinkCause};
+ghost use Rattle.link_desk.specs.LinkDeeds.{CarriesDeeds, is_open, link_desk_view};
+
+use crate::hearing::Hearing;
+use crate::replying::reply;
+use crate::saying::say;
+use desks::{Desk, DeskFault, DeskStanding};
+use net_links::Link;
+use place_model::Heard;
+use std::alloc::Global;
+use store_model::Reply;
+use wire_values::{List, Words};
+
+/// A client's place at a store that is reached over a link. For each command it sends the command once, and receives one
+/// reply; after a fault or a stop it neither sends nor receives anything. What came behind a reply is the beginning of
+/// what answers the next command.
+#[derive(Drop)]
+pub struct LinkDesk<L> {
+    link: L,
+    hearing: Hearing,
+    out: Vec<u8>,
+    notes: List<Heard>,
+    standing: DeskStanding,
+}
+
+impl<L> LinkDesk<L> {
+    /// A desk over a link; takes no memory.
+    pub fn new(alloc: Global, link: L) -> LinkDesk<L>
+        ensures link { result.link ≡ link }
+        ensures notes { result.notes ≡ [] }
+        ensures stands { Stands result.hearing.decoder 0 [] }
+        ensures open { IsOpen result.standing.fault result.standing.stopped }
+    {
+        LinkDesk {
+            link,
+            hearing: Hearing::new(alloc),
+            out: Vec::new(alloc),
+            notes: List::new(),
+            standing: DeskStanding::new(),
+        }
+    }
+
+    /// The notes that were told to it, in order; takes no memory.
+    pub fn notes(&self) -> &[Heard]
+        ensures { result.now ≡ self.now.notes }
+    {
+        self.notes.as_slice()
+    }
+}
+
+impl<L: Drop> LinkDesk<L> {
+    /// The link; takes no memory.
+    pub fn into_link(self) -> L
+        ensures { result ≡ self.link }
+    {
+        self.link
+    }
+}
+
+/// Sends a command, and receives the reply to it.
+fn exchange<L: Link>(
+    alloc: Global,
+    link: &mut L,
+    hearing: &mut Hearing,
+    out: &mut Vec<u8>,
+    words: &Words,
+) -> Result<Reply, DeskFault>
+    ensures exchanged { HasExchanged (L.sent link.old) (L.sent link.new) (L.received link.old) (L.received link.new)
+        hearing.old.decoder hearing.new.decoder words.now result }
+    ensures cause { HasLinkCause (L.faults link.old) (L.faults link.new) (L.ends link.old) (L.ends link.new) result }
+{
+    match say(alloc, link, out, words) {
+        Ok(()) => reply(alloc, link, hearing),
+        Err(fault) => Err(fault),
+    }
+}
+
+impl<L: Link> Desk for LinkDesk<L> {
+    ghost use Rattle.std.specs.Prelude.{false, true};
+    ghost use Rattle.link_desk.specs.CarriesLaws.{CarriesDeeds-stays, CarriesDeeds-joins};
+
+    ghost goes = { λ s l t. CarriesDeeds
+        (link_desk_view (is_open s.standing.fault s.standing.stopped) (L.sent s.link) (L.received s.link) s.hearing.decoder s.notes)
+        l
+        (link_desk_view (is_open t.standing.fault t.standing.stopped) (L.sent t.link) (L.received t.link) t.hearing.decoder t.notes) };
+
+    ghost fault = { λ s. s.standing.fault };
+
+    ghost stopped = { λ s. s.standing.stopped };
+
+    ghost faults = { λ s. L.faults s.link };
+
+    ghost ends = { λ s. L.ends s.link };
+
+    ghost remote = { true };
+
+    ghost shared = { false };
+
+    ghost stays = { λ s. CarriesDeeds-stays
+        (link_desk_view (is_open s.standing.fault s.standing.stopped) (L.sent s.link) (L.received s.link) s.hearing.decoder s.notes) };
+
+    ghost joins = { λ s t u. CarriesDeeds-joins
+        (link_desk_view (is_open s.standing.fault s.standing.stopped) (L.sent s.link) (L.received s.link) s.hearing.decoder s.notes)
+        (link_desk_view (is_open t.standing.fault t.standing.stopped) (L.sent t.link) (L.received t.link) t.hearing.decoder t.notes)
+        (link_desk_view (is_open u.standing.fault u.standing.stopped) (L.sent u.link) (L.received u.link) u.hearing.decoder u.notes) };
+
+    fn ask(&mut self, alloc: Global, _at: u64, words: &Words) -> Result<Reply, DeskFault> {
+        match self.standing.enter() {
+            Ok(()) => {}
+            Err(fault) => return Err(fault),
+        }
+        match exchange(
+            alloc,
+            &mut self.link,
+            &mut self.hearing,
+            &mut self.out,
+            words,
+        ) {
+            Ok(reply) => Ok(reply),
+            Err(fault) => Err(self.standing.refuse(fault)),
+        }
+    }
+
+    fn tell(&mut self, alloc: Global, heard: Heard) -> Result<(), DeskFault> {
+        match self.standing.enter() {
+            Ok(()) => {}
+            Err(fault) => return Err(fault),
+        }
+        match self.notes.push(alloc, heard) {
+            Ok(()) => Ok(()),
+            Err(_) => Err(self.standing.refuse(DeskFault::Memory)),
+        }
+    }
+
+    fn stop(&mut self, _alloc: Global) -> Result<(), DeskFault> {
+        match self.standing.enter() {
+            Ok(()) => {}
+            Err(fault) => return Err(fault),
+        }
+        self.standing.stopped = true;
+        Ok(())
+    }
+}
