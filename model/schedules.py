@@ -82,13 +82,11 @@ def read_args(text):
 
 def is_put_off(words):
     """Whether a line is one that isn't built yet."""
-    if words[0] == b"stop":
-        return b"stop" in PUT_OFF
     if words[0] != b"begin" or len(words) < 3:
-        return bool(PUT_OFF) and words[0] not in (b"client", b"at", b"run", b"step", b"begin")
+        return words[0] == b"stop" and b"stop" in PUT_OFF
     if words[2] == b"publish" and b"exchange" in PUT_OFF:
         return len(words) > 3 and words[3] != b"-"
-    return words[2] in PUT_OFF or (bool(PUT_OFF) and words[2] not in BEGINNINGS)
+    return words[2] in PUT_OFF
 
 
 # --- What a line begins: each reading checks the form of the words and gives what makes the block of a client at rest
