@@ -1,6 +1,8 @@
 """Kombu over our store: messages published with priorities and consumed, and which commands it says that the store refuses.
 
-Between Kombu and the store stands a relay that keeps what goes by on each connection.
+Between Kombu and the store stands a relay that keeps what goes by on each connection. A second kind of relay says what comes
+on all connections on one connection to the store, a burst of whole commands at a time: Kombu holds two connections at once,
+and the store may serve one after the other.
 """
 
 import socket
@@ -9,8 +11,8 @@ import threading
 import kombu
 import redis
 
-from replies import Problem
-from servers import Cut, free_port, value_at
+from replies import Problem, spelled
+from servers import Cut, Link, free_port, value_at
 
 PRIORITIES = (0, 9, 3, 6, 0, 9)
 
@@ -29,11 +31,13 @@ class Relay:
                 near, _ = self.listener.accept()
             except OSError:
                 return
-            far = socket.create_connection(("127.0.0.1", self.behind))
-            asked, told = bytearray(), bytearray()
-            self.heard.append((asked, told))
-            threading.Thread(target=self.carry, args=(near, far, asked), daemon=True).start()
-            threading.Thread(target=self.carry, args=(far, near, told), daemon=True).start()
+            self.heard.append((bytearray(), bytearray()))
+            self.begin(near, *self.heard[-1])
+
+    def begin(self, near, asked, told):
+        far = socket.create_connection(("127.0.0.1", self.behind))
+        threading.Thread(target=self.carry, args=(near, far, asked), daemon=True).start()
+        threading.Thread(target=self.carry, args=(far, near, told), daemon=True).start()
 
     @staticmethod
     def carry(one, other, kept):
@@ -51,6 +55,40 @@ class Relay:
 
     def close(self):
         self.listener.close()
+
+
+class SharedRelay(Relay):
+    """Says everything on one connection to the store."""
+
+    def __init__(self, port):
+        self.link, self.turn = Link(port), threading.Lock()
+        super().__init__(port)
+
+    def begin(self, near, asked, told):
+        threading.Thread(target=self.answer, args=(near, asked, told), daemon=True).start()
+
+    def answer(self, near, asked, told):
+        begun = 0
+        try:
+            while piece := near.recv(65536):
+                asked += piece
+                whole = values(asked[begun:])
+                if not whole:
+                    continue
+                data = b"".join(map(spelled, whole))
+                begun += len(data)
+                with self.turn:
+                    self.link.send(data)
+                    answers = b"".join(map(spelled, self.link.replies(len(whole))))
+                told += answers
+                near.sendall(answers)
+        except OSError:
+            pass
+        near.close()
+
+    def close(self):
+        super().close()
+        self.link.close()
 
 
 def values(data):
@@ -138,19 +176,18 @@ PARTS = (
 )
 
 
-def outcomes(port):
-    """For each part: its name, what came of it, the commands said and those refused. Each part has a connection of Kombu's own."""
+def outcomes(port, kind):
+    """For each part: its name, what came of it, the commands said and those refused. Each part has a relay and a link of its own."""
     for name, part in PARTS:
-        relay = Relay(port)
+        relay = kind(port)
         link = connection(relay.port)
         try:
             came = part(link)
-        except (redis.RedisError, OSError, kombu.exceptions.OperationalError) as fault:
+        except (redis.RedisError, OSError, kombu.exceptions.KombuError) as fault:
             came = "%s: %s" % (type(fault).__name__, fault)
         try:
             link.close()
         except (redis.RedisError, OSError):
             pass
-        link.transport.client.close() if hasattr(link.transport, "client") and hasattr(link.transport.client, "close") else None
         relay.close()
         yield (name, came, *told(relay.heard), len(relay.heard))

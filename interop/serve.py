@@ -121,14 +121,18 @@ def tell_differences(args):
 
 def tell_kombu(args):
     ours, theirs = one_each(args, 4000)
+    relays = kombu_messages.Relay, kombu_messages.SharedRelay
     with ours, theirs:
-        for name, server in (("Redis", theirs), ("ours", ours)):
+        for name, server, kind in (("Redis", theirs, relays[0]), ("ours", ours, relays[0]), ("ours, all on one connection", ours, relays[1])):
             print(f"Kombu {kombu_messages.kombu.__version__} over {name}:")
-            for part, came, said, refused, links in kombu_messages.outcomes(server.port):
+            for part, came, said, refused, links in kombu_messages.outcomes(server.port, kind):
                 print(f"    {part}: {came} ({links} connections)")
                 print("        said:", ", ".join("%s %d" % it for it in sorted(said.items())))
                 for words, error in list(dict.fromkeys(refused))[:6]:
                     print(f"        refused: {words[:100]}: {error}")
+                if came.startswith("TimeoutError"):
+                    print("        the store doesn't serve two connections at once; the other parts are left out")
+                    break
     return True
 
 
