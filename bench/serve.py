@@ -4,7 +4,8 @@
 Run by hand, after ./celery_node build: python3 bench/serve.py [--requests N] [--rounds N] [--program PATH]
 It needs Debian's redis-server and redis-tools. Each server is started on a free port of the loopback and ended by its
 process. One connection, values of 865 bytes, one command in flight and sixteen; the best of some rounds, in which the two
-servers take turns. At the end stands the resident memory of both, after the same commands.
+servers take turns. Beside the rates stands the least processor time of each server for a request, which a busy machine
+disturbs less. At the end stands the resident memory of both, after the same commands.
 """
 
 import argparse
@@ -47,15 +48,17 @@ def rate(port, words, requests, depth):
     return (float(found[-1]), None) if found and done.returncode == 0 else (0.0, said.strip()[-200:])
 
 
-def measured(ports, words, requests, depth, rounds):
-    """The best rate of each server, and the first thing that went wrong."""
-    best, wrong = [0.0, 0.0], None
+def measured(servers, words, requests, depth, rounds):
+    """The best rate of each server, its least microseconds of processor time a request, and the first thing that went wrong."""
+    best, least, wrong = [0.0, 0.0], [float("inf")] * 2, None
     for _ in range(rounds):
-        for place, port in enumerate(ports):
-            got, said = rate(port, words, requests, depth)
+        for place, server in enumerate(servers):
+            begun = server.processor_seconds()
+            got, said = rate(server.port, words, requests, depth)
             best[place] = max(best[place], got)
+            least[place] = min(least[place], (server.processor_seconds() - begun) / requests * 1e6)
             wrong = wrong or said
-    return best, wrong
+    return best, least, wrong
 
 
 def settings_reply(port):
@@ -77,18 +80,18 @@ def main():
     missed = 0
     ours = redis_server() if args.redis_twice else our_server(args.program, 4000)
     with ours, redis_server() as theirs:
-        ports = ours.port, theirs.port
         print("CONFIG GET save: ours", settings_reply(ours.port), "Redis", settings_reply(theirs.port))
         print("memory at the start: ours %d kB, Redis %d kB" % (ours.memory(), theirs.memory()))
-        print(f"{'command':8} {'in flight':>9} {'ours/s':>10} {'Redis/s':>10} {'ratio':>6} aim")
+        print(f"{'command':8} {'in flight':>9} {'ours/s':>10} {'Redis/s':>10} {'ratio':>6} {'ours us':>8} {'Redis us':>8} {'ratio':>6} aim")
         for name, command in ROWS:
             for depth, aim in AIMS.items():
                 if args.only and name not in args.only:
                     continue
-                (one, other), wrong = measured(ports, command, args.requests, depth, args.rounds)
+                (one, other), (cost, due), wrong = measured((ours, theirs), command, args.requests, depth, args.rounds)
                 ratio = one / other if other else 0.0
                 missed += ratio < aim
-                print(f"{name:8} {depth:9} {one:10,.0f} {other:10,.0f} {ratio:6.2f} {aim}{'' if ratio >= aim else ' missed'}", flush=True)
+                print(f"{name:8} {depth:9} {one:10,.0f} {other:10,.0f} {ratio:6.2f} {cost:8.2f} {due:8.2f} {due / cost:6.2f} "
+                      f"{aim}{'' if ratio >= aim else ' missed'}", flush=True)
                 if wrong:
                     print("    redis-benchmark said:", wrong)
         print("memory at the end: ours %d kB, Redis %d kB" % (ours.memory(), theirs.memory()))

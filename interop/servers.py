@@ -59,6 +59,11 @@ class Server:
         self.out.seek(0)
         return self.out.read().decode("latin-1")
 
+    def processor_seconds(self):
+        """The processor time that it took so far."""
+        with open("/proc/%d/schedstat" % self.process.pid, encoding="ascii") as times:
+            return int(times.read().split()[0]) / 1e9
+
     def memory(self):
         """Its resident memory in kB."""
         with open("/proc/%d/status" % self.process.pid, encoding="ascii") as status:
