@@ -12,6 +12,7 @@ from servers import Link, spelled
 NO_WORDS = b"*0\r\n"
 ENDED = "the connection ends"
 ERROR = "an error"
+ANYTHING = "a reply"
 PONG = Simple(b"PONG")
 ABORTED = Problem(b"EXECABORT")
 
@@ -36,6 +37,8 @@ REFUSED = [
     ("the server's settings", "CONFIG GET save", "ERR command", [b"save", b""]),
     ("a command that Celery's worker says", "LRANGE l 0 -1", "ERR command", []),
     ("a key's presence", "EXISTS k", "ERR command", 0),
+    ("a script", "EVAL return{} 0", "ERR command", []),
+    ("what the server tells of itself", "INFO clients", "ERR command", ANYTHING),
     ("a password", "AUTH x", "ERR command", ERROR),
     ("another database", "SELECT 1", "ERR database", OK),
     ("PING with a text", "PING hello", "ERR arity", b"hello"),
@@ -44,6 +47,9 @@ REFUSED = [
     ("SET with milliseconds", "SET k3 v PX 1000", "ERR syntax", OK),
     ("SET of a present key alone", "SET k4 v XX", "ERR syntax", NULL_BULK),
     ("SET that keeps the time to live", "SET k5 v KEEPTTL", "ERR syntax", OK),
+    ("SET that gives what was there", "SET k8 v GET", "ERR syntax", NULL_BULK),
+    ("SET with too many words", "SET k9 v NX EX 10 GET", "ERR arity", NULL_BULK),
+    ("a time to live of less than nothing", "EXPIRE k -1", "ERR integer", 0),
     ("a time to live of nothing", "EXPIRE k 0", "ERR integer", 0),
     ("a time to live above 32 bits", "SET k6 v EX 4294967296", "ERR integer", OK),
     ("a condition on a time to live", "EXPIRE k 10 NX", "ERR arity", 0),
@@ -128,6 +134,8 @@ def is_as_told(told, reply):
     """Whether a reply is the one that a row tells, or an error where it tells no more."""
     if told == ERROR:
         return isinstance(reply, Problem)
+    if told == ANYTHING:
+        return not isinstance(reply, (str, Problem))
     if told == "in any order":
         return sorted(reply) == [b"a", b"b", b"c"]
     if isinstance(told, list) and isinstance(reply, list):

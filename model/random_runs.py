@@ -100,6 +100,8 @@ def main():
                 endings[ending] += 1
                 names.update(reached)
                 entries += length
+            if endings.total() % 1000 == 0:
+                print(endings.total(), "schedules so far", file=sys.stderr, flush=True)
             if time.monotonic() > end:
                 break
     print(endings.total(), "schedules,", entries, "entries, no difference:", ", ".join("%s %d" % it for it in sorted(endings.items())))
