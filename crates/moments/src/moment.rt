@@ -39,7 +39,7 @@ impl Moment {
     }
 
     /// The text of the moment in UTC: `YYYY-MM-DDThh:mm:ss`, a dot and six digits where the fraction isn't 0, and
-    /// `+00:00`; 25 or 32 bytes of ASCII.
+    /// `+00:00`; 25 or 32 bytes, which are UTF-8.
     pub fn write(self, alloc: Global) -> Result<Bytes, AllocError>
         requires { is_within_years self.0 ≡ true }
         ensures text { IfOk result (λ b. b ≡ moment_text self.0) }

@@ -9,7 +9,7 @@ use Rattle.serde_json.specs.Data.{Data, depth, null, string}
 use Rattle.serde_json.specs.Find.{as_array, as_object}
 use Rattle.serde_json.specs.Read.{max_depth}
 use Rattle.serde_json.specs.Written.{has_float}
-use Rattle.task_message.specs.Drafted.{call_tree, can_draft, drafted_content, is_argument, is_filled, is_writable, moment_data, told_tree}
+use Rattle.task_message.specs.Drafted.{call_tree, can_draft, drafted_content, is_argument, is_filled, is_writable, max_argument_levels, moment_data, told_tree}
 use Rattle.task_message.specs.Tasks.{TaskParts}
 
 -- a task that can be drafted
@@ -20,10 +20,10 @@ pub record IsDraftable (t : TaskParts) : Type 0 where
   pub id_some : 1 ≤ length t.id
   pub args_array : is_some (as_array t.args) ≡ true
   pub args_whole : has_float t.args ≡ false
-  pub args_depth : depth t.args ≤ 90
+  pub args_depth : depth t.args ≤ max_argument_levels
   pub kwargs_object : is_some (as_object t.kwargs) ≡ true
   pub kwargs_whole : has_float t.kwargs ≡ false
-  pub kwargs_depth : depth t.kwargs ≤ 90
+  pub kwargs_depth : depth t.kwargs ≤ max_argument_levels
   pub eta : is_writable t.settings.eta ≡ true
   pub expires : is_writable t.settings.expires ≡ true
   pub version : (t.version == 1 || t.version == 2) ≡ true
@@ -44,9 +44,9 @@ draftable t e =
     let f = and_parts _ (is_filled t.id) d.0 in
     let g = and_parts (t.version == 1 || t.version == 2) (is_filled t.name) f.0 in
     let k = and_parts (is_some (as_object t.kwargs)) (is_argument t.kwargs) c.1 in
-    let l = and_parts (not (has_float t.kwargs)) (nat_le (depth t.kwargs) 90) k.1 in
+    let l = and_parts (not (has_float t.kwargs)) (nat_le (depth t.kwargs) max_argument_levels) k.1 in
     let m = and_parts (is_some (as_array t.args)) (is_argument t.args) d.1 in
-    let n = and_parts (not (has_float t.args)) (nat_le (depth t.args) 90) m.1 in
+    let n = and_parts (not (has_float t.args)) (nat_le (depth t.args) max_argument_levels) m.1 in
     let p = and_parts (is_utf8 t.id) (nat_le 1 (length t.id)) f.1 in
     let q = and_parts (is_utf8 t.name) (nat_le 1 (length t.name)) g.1 in
     record {
@@ -56,10 +56,10 @@ draftable t e =
       id_some = below 1 (length t.id) p.1;
       args_array = m.0;
       args_whole = not_true (has_float t.args) n.0;
-      args_depth = below (depth t.args) 90 n.1;
+      args_depth = below (depth t.args) max_argument_levels n.1;
       kwargs_object = k.0;
       kwargs_whole = not_true (has_float t.kwargs) l.0;
-      kwargs_depth = below (depth t.kwargs) 90 l.1;
+      kwargs_depth = below (depth t.kwargs) max_argument_levels l.1;
       eta = b.1;
       expires = a.1;
       version = g.0;

@@ -18,9 +18,13 @@ use Rattle.task_message.specs.Tasks.{TaskParts}
 abbrev pub is_writable : Option ℤ → Bool
 is_writable o = option_map_or is_within_years o true
 
--- a tree without a float, nested at most 90 deep
+-- the deepest nesting of the arguments, and of the keywords, of a task that is drafted
+abbrev pub max_argument_levels : ℕ
+max_argument_levels = 90
+
+-- a tree without a float, nested at most so deep
 abbrev pub is_argument : Data → Bool
-is_argument d = not (has_float d) && nat_le (depth d) 90
+is_argument d = not (has_float d) && nat_le (depth d) max_argument_levels
 
 -- a text of UTF-8 that isn't empty
 abbrev pub is_filled : List ℕ → Bool

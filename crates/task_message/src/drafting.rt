@@ -17,8 +17,8 @@ use serde_json::Value;
 use std::alloc::{AllocError, Global};
 use wire_values::Bytes;
 
-/// The deepest nesting of arguments.
-const MAX_LEVELS: u32 = 90;
+/// The deepest nesting of the arguments, and of the keywords, of a task that is drafted, 90.
+pub const MAX_ARGUMENT_LEVELS: u32 = 90;
 
 /// Whether a task can be drafted: its version is 1 or 2, its name and its id are UTF-8 and not empty, its arguments are
 /// an array and its keywords an object, both without a float and nested at most 90 deep, and its moments lie in the
@@ -49,7 +49,7 @@ fn is_filled(bytes: &[u8]) -> bool
 fn is_argument(tree: &Value) -> bool
     ensures { result ≡ is_argument (data_of tree.now) }
 {
-    !holds_float(tree) && nests_within(tree, MAX_LEVELS)
+    !holds_float(tree) && nests_within(tree, MAX_ARGUMENT_LEVELS)
 }
 
 /// Whether a moment lies in the years 1 to 9999, where there is one.

@@ -10,7 +10,7 @@ mod members;
 mod reading;
 mod task;
 
-pub use drafting::{can_draft, draft};
+pub use drafting::{MAX_ARGUMENT_LEVELS, can_draft, draft};
 pub use fault::{Part, TaskFault};
 pub use members::moment_tree;
 pub use moments::Moment;

@@ -1,5 +1,5 @@
 //! Reading the task that an envelope carries.
-ghost use Rattle.std.specs.Prelude.{◌≡◌, IfOk, Ok, option_map};
+ghost use Rattle.std.specs.Prelude.{◌≡◌, IfOk, IsUtf8, Ok, option_map};
 ghost use Rattle.serde_json.specs.Find.{as_array};
 ghost use Rattle.serde_json.specs.View.{items_view, view as data_of};
 ghost use Rattle.envelope.specs.Envelopes.{json_at};
@@ -33,7 +33,9 @@ const MAX_LEVELS: u32 = 100;
 /// `BadField` of the first part in the order of `Part`; `BadMoment`. `Memory` is want of memory; `TooLong` never comes.
 #[tactic(auto, unfolding(crate::specs::Tasks::task_of))]
 pub fn read(alloc: Global, e: &Envelope) -> Result<Task, TaskFault>
-    ensures { GivesTask task_view result (task_of (data_of e.now)) }
+    ensures task { GivesTask task_view result (task_of (data_of e.now)) }
+    // The name and the id are UTF-8.
+    ensures texts { IfOk result (λ t. IsUtf8 t.name × IsUtf8 t.id) }
 {
     let content = content_of(alloc, e.content())?;
     let found = found_in(e.tree(), &content)?;
@@ -211,7 +213,8 @@ fn settings(object: &Value) -> Result<Settings, TaskFault>
 
 /// A task of its own.
 fn taken(alloc: Global, found: &Found<'_>) -> Result<Task, TaskFault>
-    ensures { GivesTask task_view result (Ok (found_view found.now)) }
+    ensures task { GivesTask task_view result (Ok (found_view found.now)) }
+    ensures texts { IfOk result (λ t. IsUtf8 t.name × IsUtf8 t.id) }
 {
     let name = Bytes::from_slice(alloc, found.name.as_bytes())?;
     let id = Bytes::from_slice(alloc, found.id.as_bytes())?;
