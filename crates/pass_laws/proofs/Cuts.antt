@@ -5,11 +5,11 @@ use Rattle.command_blocks.specs.Scripts.{Script, Over, Off, after_call, rest_of}
 use Rattle.block_laws.proofs.Talks.{off_not}
 
 -- the first of some calls, or else another, and those after it
-pub first_or : Call → List Call → Call
+abbrev pub first_or : Call → List Call → Call
 first_or c [] = c
 first_or c (x ∷ xs) = x
 
-pub others_of : List Call → List Call
+abbrev pub others_of : List Call → List Call
 others_of [] = []
 others_of (x ∷ xs) = xs
 

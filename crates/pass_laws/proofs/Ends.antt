@@ -1,5 +1,5 @@
 -- The returns of a pass that its end tells of are those of its block.
-use Rattle.std.proofs.Common.{◌≡◌, ◌+◌, ℕ, suc, List, [], ◌∷◌, ◌++◌, append_assoc, map, length, Bool, true, false, Some, refl, sym, ap, ◌∙◌, subst, arith, if◌then◌else◌}
+use Rattle.std.proofs.Common.{◌≡◌, List, [], ◌∷◌, ◌++◌, append_assoc, map, length, Bool, true, false, refl, sym, ap, ◌∙◌, subst, arith, if◌then◌else◌}
 use Rattle.delivery_tags.specs.declared.tag.Tag.{Tag}
 use Rattle.queue_keys.specs.Layouts.{plain}
 use Rattle.queue_keys.specs.Names.{Bytes, same}
@@ -7,7 +7,7 @@ use Rattle.queue_keys.specs.QueueKeys.{Each}
 use Rattle.command_blocks.specs.Calls.{Call}
 use Rattle.command_blocks.specs.EnvelopeTexts.{plain_setting, texts}
 use Rattle.command_blocks.specs.PassBlocks.{PassEnd, Held, Stuck, Done, IsReturns, All_returned, Returned, Returned_until, Ended_early, tags_among}
-use Rattle.command_blocks.specs.ReturnBlocks.{ReturnEnd, Moved, Gone, Stayed, Contended, goes_on, IsTries}
+use Rattle.command_blocks.specs.ReturnBlocks.{ReturnEnd, Contended, goes_on, IsTries}
 use Rattle.command_blocks.specs.Scripts.{Over, Return, rest_of, return_script}
 use Rattle.command_blocks.specs.Setting.{IsLawful}
 use Rattle.command_blocks.specs.declared.side.Side.TheVariants.{Right}
@@ -31,10 +31,10 @@ plain_lawful = lawful_setting plain texts refl envelopes_serve
 -- the tags among texts are tags
 pub are_tags : (ms : List Bytes) → Each plain_setting.is_tag (tags_among plain_setting ms)
 are_tags [] = tt
-are_tags (m ∷ ms) = by (plain_setting.is_tag m) refl where
-  by : (b : Bool) → plain_setting.is_tag m ≡ b → Each plain_setting.is_tag (if b then m ∷ tags_among plain_setting ms else tags_among plain_setting ms)
-  by true e = (e, are_tags ms)
-  by false e = are_tags ms
+are_tags (m ∷ ms) = by (plain_setting.is_tag m) refl (are_tags ms) where
+  by : (b : Bool) → plain_setting.is_tag m ≡ b → Each plain_setting.is_tag (tags_among plain_setting ms) → Each plain_setting.is_tag (if b then m ∷ tags_among plain_setting ms else tags_among plain_setting ms)
+  by true e more = (e, more)
+  by false e more = more
 
 -- ---- one return
 
@@ -56,7 +56,7 @@ contended_not end on e = let no : false ≡ true = sym (ap goes_on e) ∙ on in 
 
 -- ---- all of them
 
-ends_in : PassEnd → List ReturnEnd
+abbrev ends_in : PassEnd → List ReturnEnd
 ends_in (Done ends) = ends
 ends_in Held = []
 ends_in (Stuck t) = []
@@ -71,19 +71,19 @@ done_same ts end l All_returned tags x m y ends are e = by ends are where
   by : (ends : List Told) → AreReturned [] ends m → Done [] ≡ Done (map end_told ends)
   by [] are = refl
   by (one ∷ more) are = absurd are
-done_same ts end l (Returned t ts' first others l₁ l₂ tries on rest) tags x m y ends are e = by ends are where
-  by : (ends : List Told) → AreReturned (t ∷ ts') ends m → Done (first ∷ others) ≡ Done (map end_told ends)
-  by [] are = absurd are
-  by (one ∷ more) (a, n, is, so, goes, are) =
+done_same ts end l (Returned t ts' first others l₁ l₂ tries on rest) tags x m y ends are e = by ends are (done_same ts' (Done others) l₂ rest tags.1) where
+  by : (ends : List Told) → AreReturned (t ∷ ts') ends m → ((x m y : List Call) (ends : List Told) → AreReturned ts' ends m → l₂ ++ x ≡ m ++ y → Done others ≡ Done (map end_told ends)) → Done (first ∷ others) ≡ Done (map end_told ends)
+  by [] are later = absurd are
+  by (one ∷ more) (a, n, is, so, goes, are) later =
       let s = one_same t first one l₁ a (l₂ ++ x) (n ++ y) tags.0 tries so (parted l₁ l₂ x m n y e a is) in
-      let r : Done others ≡ Done (map end_told more) = done_same ts' (Done others) l₂ rest tags.1 x n y more are s.1 in
+      let r : Done others ≡ Done (map end_told more) = later x n y more are s.1 in
       ap Done (λ i. s.0 i ∷ (ap ends_in r) i)
-done_same ts end l (Returned_until t ts' first stuck l₁ l₂ tries on rest) tags x m y ends are e = by ends are where
-  by : (ends : List Told) → AreReturned (t ∷ ts') ends m → Stuck stuck ≡ Done (map end_told ends)
-  by [] are = absurd are
-  by (one ∷ more) (a, n, is, so, goes, are) =
+done_same ts end l (Returned_until t ts' first stuck l₁ l₂ tries on rest) tags x m y ends are e = by ends are (done_same ts' (Stuck stuck) l₂ rest tags.1) where
+  by : (ends : List Told) → AreReturned (t ∷ ts') ends m → ((x m y : List Call) (ends : List Told) → AreReturned ts' ends m → l₂ ++ x ≡ m ++ y → Stuck stuck ≡ Done (map end_told ends)) → Stuck stuck ≡ Done (map end_told ends)
+  by [] are later = absurd are
+  by (one ∷ more) (a, n, is, so, goes, are) later =
       let s = one_same t first one l₁ a (l₂ ++ x) (n ++ y) tags.0 tries so (parted l₁ l₂ x m n y e a is) in
-      let r : Stuck stuck ≡ Done (map end_told more) = done_same ts' (Stuck stuck) l₂ rest tags.1 x n y more are s.1 in
+      let r : Stuck stuck ≡ Done (map end_told more) = later x n y more are s.1 in
       absurd (cc r)
 done_same ts end l (Ended_early t ts' l₁ tries) tags x m y ends are e = by ends are where
   by : (ends : List Told) → AreReturned (t ∷ ts') ends m → Stuck t ≡ Done (map end_told ends)
@@ -93,11 +93,11 @@ done_same ts end l (Ended_early t ts' l₁ tries) tags x m y ends are e = by end
       absurd (on_not one goes s.0)
 
 -- the first of some tags, or else another, and those after it
-first_tag : Bytes → List Bytes → Bytes
+abbrev first_tag : Bytes → List Bytes → Bytes
 first_tag t [] = t
 first_tag t (u ∷ us) = u
 
-other_tags : List Bytes → List Bytes
+abbrev other_tags : List Bytes → List Bytes
 other_tags [] = []
 other_tags (u ∷ us) = us
 
@@ -108,31 +108,31 @@ stuck_same ts end l All_returned tags x m tries y before after ends t tag is are
   by : (before : List Bytes) → [] ≡ before ++ t ∷ after → Done [] ≡ Stuck t
   by [] is = absurd (cc is)
   by (u ∷ us) is = absurd (cc is)
-stuck_same ts end l (Returned u us first others l₁ l₂ its on rest) tags x m tries y before after ends t tag is are so e = by before ends is are where
-  by : (before : List Bytes) (ends : List Told) → u ∷ us ≡ before ++ t ∷ after → AreReturned before ends m → Done (first ∷ others) ≡ Stuck t
-  by [] [] is none =
+stuck_same ts end l (Returned u us first others l₁ l₂ its on rest) tags x m tries y before after ends t tag is are so e = by before ends is are (stuck_same us (Done others) l₂ rest tags.1) where
+  by : (before : List Bytes) (ends : List Told) → u ∷ us ≡ before ++ t ∷ after → AreReturned before ends m → ((x m tries y : List Call) (before after : List Bytes) (ends : List Told) (t : Bytes) (tag : Tag) → us ≡ before ++ t ∷ after → AreReturned before ends m → IsReturned t (returned.Contended tag) tries → l₂ ++ x ≡ m ++ (tries ++ y) → Done others ≡ Stuck t) → Done (first ∷ others) ≡ Stuck t
+  by [] [] is none later =
       let own : t ≡ u = sym (ap (first_tag u) is) in
       let s = one_same u first (returned.Contended tag) l₁ tries (l₂ ++ x) y tags.0 its (subst (λ z. IsReturned z (returned.Contended tag) tries) own so) (sym (append_assoc l₁ l₂ x) ∙ e ∙ ap (λ z. z ++ (tries ++ y)) none) in
       absurd (contended_not first on s.0)
-  by [] (one ∷ more) is none = absurd none
-  by (b ∷ bs) [] is are = absurd are
-  by (b ∷ bs) (one ∷ more) is (a, n, cuts, did, goes, are) =
+  by [] (one ∷ more) is none later = absurd none
+  by (b ∷ bs) [] is are later = absurd are
+  by (b ∷ bs) (one ∷ more) is (a, n, cuts, did, goes, are) later =
       let own : b ≡ u = sym (ap (first_tag u) is) in
       let s = one_same u first one l₁ a (l₂ ++ x) (n ++ (tries ++ y)) tags.0 its (subst (λ z. IsReturned z one a) own did) (parted l₁ l₂ x m n (tries ++ y) e a cuts) in
-      let r : Done others ≡ Stuck t = stuck_same us (Done others) l₂ rest tags.1 x n tries y bs after more t tag (ap other_tags is) are so s.1 in
+      let r : Done others ≡ Stuck t = later x n tries y bs after more t tag (ap other_tags is) are so s.1 in
       absurd (cc r)
-stuck_same ts end l (Returned_until u us first stuck l₁ l₂ its on rest) tags x m tries y before after ends t tag is are so e = by before ends is are where
-  by : (before : List Bytes) (ends : List Told) → u ∷ us ≡ before ++ t ∷ after → AreReturned before ends m → Stuck stuck ≡ Stuck t
-  by [] [] is none =
+stuck_same ts end l (Returned_until u us first stuck l₁ l₂ its on rest) tags x m tries y before after ends t tag is are so e = by before ends is are (stuck_same us (Stuck stuck) l₂ rest tags.1) where
+  by : (before : List Bytes) (ends : List Told) → u ∷ us ≡ before ++ t ∷ after → AreReturned before ends m → ((x m tries y : List Call) (before after : List Bytes) (ends : List Told) (t : Bytes) (tag : Tag) → us ≡ before ++ t ∷ after → AreReturned before ends m → IsReturned t (returned.Contended tag) tries → l₂ ++ x ≡ m ++ (tries ++ y) → Stuck stuck ≡ Stuck t) → Stuck stuck ≡ Stuck t
+  by [] [] is none later =
       let own : t ≡ u = sym (ap (first_tag u) is) in
       let s = one_same u first (returned.Contended tag) l₁ tries (l₂ ++ x) y tags.0 its (subst (λ z. IsReturned z (returned.Contended tag) tries) own so) (sym (append_assoc l₁ l₂ x) ∙ e ∙ ap (λ z. z ++ (tries ++ y)) none) in
       absurd (contended_not first on s.0)
-  by [] (one ∷ more) is none = absurd none
-  by (b ∷ bs) [] is are = absurd are
-  by (b ∷ bs) (one ∷ more) is (a, n, cuts, did, goes, are) =
+  by [] (one ∷ more) is none later = absurd none
+  by (b ∷ bs) [] is are later = absurd are
+  by (b ∷ bs) (one ∷ more) is (a, n, cuts, did, goes, are) later =
       let own : b ≡ u = sym (ap (first_tag u) is) in
       let s = one_same u first one l₁ a (l₂ ++ x) (n ++ (tries ++ y)) tags.0 its (subst (λ z. IsReturned z one a) own did) (parted l₁ l₂ x m n (tries ++ y) e a cuts) in
-      stuck_same us (Stuck stuck) l₂ rest tags.1 x n tries y bs after more t tag (ap other_tags is) are so s.1
+      later x n tries y bs after more t tag (ap other_tags is) are so s.1
 stuck_same ts end l (Ended_early u us l₁ its) tags x m tries y before after ends t tag is are so e = by before ends is are where
   by : (before : List Bytes) (ends : List Told) → u ∷ us ≡ before ++ t ∷ after → AreReturned before ends m → Stuck u ≡ Stuck t
   by [] [] is none = ap Stuck (ap (first_tag u) is)

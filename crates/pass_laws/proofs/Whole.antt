@@ -1,13 +1,12 @@
 -- What is told of a whole pass is its end, and one none of whose transactions failed is done.
-use Rattle.std.proofs.Common.{◌≡◌, ◌+◌, ℕ, List, [], ◌∷◌, ◌++◌, map, length, Option, Some, None, true, false, refl, sym, ap, ◌∙◌, subst, codes}
+use Rattle.std.proofs.Common.{◌≡◌, ℕ, List, [], ◌∷◌, ◌++◌, map, Option, Some, None, true, false, refl, sym, ap, ◌∙◌, subst, codes}
 use Rattle.wire_values.specs.Layer.{layer}
-use Rattle.wire_values.specs.declared.value.Value.{Value}
 use Rattle.wire_values.specs.declared.value.Value.TheVariants.{NullArray, NullBulk}
 use Rattle.delivery_tags.specs.Tags.{tag_text}
 use Rattle.delivery_tags.specs.declared.tag.Tag.{Tag}
 use Rattle.store_model.specs.Replies.{done, bulks}
 use Rattle.queue_keys.specs.Names.{Bytes}
-use Rattle.command_blocks.specs.Calls.{Call, call, push_word}
+use Rattle.command_blocks.specs.Calls.{Call, call}
 use Rattle.command_blocks.specs.EnvelopeTexts.{plain_setting}
 use Rattle.command_blocks.specs.PassBlocks.{IsPassBlock, Is_held, Ran, IsReturns, All_returned, Returned, Returned_until, Ended_early, due_words, lock_words, tags_among}
 use Rattle.command_blocks.specs.PassBlocks as block
@@ -17,11 +16,11 @@ use Rattle.command_blocks.specs.declared.side.Side.TheVariants.{Right}
 use Rattle.block_laws.proofs.Values.{layer-NullBulk, layer-Status, some_is, texts_of-bulks}
 use Rattle.return_laws.specs.Ends.{end_told}
 use Rattle.passes.specs.Counts.{returned_count, tally}
-use Rattle.passes.specs.Told.{AreReturned, HasDue, IsDone, IsFirst, IsReturned, IsStuck, TellsPass}
+use Rattle.passes.specs.Told.{AreReturned, HasDue, IsDone, IsFirst, IsStuck, TellsPass}
 use Rattle.passes.specs.declared.counts.Counts.{Counts}
 use Rattle.passes.specs.declared.ended.PassEnd.{PassEnd}
 use Rattle.passes.specs.declared.ended.PassEnd.TheVariants as ended
-use Rattle.pass_laws.specs.Ends.{IsDoneWith, IsToldOf, NoneFailed, gone_in, moved_in, stayed_in}
+use Rattle.pass_laws.specs.Ends.{IsDoneWith, IsToldOf, NoneFailed}
 use Rattle.pass_laws.proofs.Cuts.{first_or, others_of}
 use Rattle.pass_laws.proofs.Ends.{all_counted, are_tags, done_same, gone_tally, moved_tally, stayed_tally, stuck_same}
 
