@@ -65,8 +65,12 @@ impl<L: Drop> LinkDesk<L> {
     }
 }
 
-/// Sends a command, and receives the reply to it.
-fn exchange<L: Link>(
+/// Sends a command whole, once, and receives one reply: all that an open desk does at an `ask`. `out` is the room for the
+/// command's bytes.
+///
+/// `Link` comes where the link failed or ended, `Wire` at the fault of what came, `Flood` after one pushed value more than
+/// may come before a reply, `Memory` where there is no memory; no other fault comes.
+pub fn exchange<L: Link>(
     alloc: Global,
     link: &mut L,
     hearing: &mut Hearing,

@@ -10,7 +10,7 @@ mod pushing;
 mod replying;
 mod saying;
 
-pub use desk::LinkDesk;
+pub use desk::{LinkDesk, exchange};
 pub use hearing::Hearing;
 pub use pushing::is_pushed;
 pub use saying::command_value;
