@@ -1,0 +1,5 @@
+pub mod Endings
+pub mod Processes
+pub mod Servings
+pub mod Statuses
+pub mod Words
