@@ -51,6 +51,11 @@ appends_on (Some l) None d x y p q = absurd p
 appends_on (Some l) (Some m) None x y p q = absurd q
 appends_on (Some l) (Some m) (Some n) x y p q = q ∙ ap (λ i. i ++ y) p ∙ append_assoc l x y
 
+-- no text
+appends_nothing : (a : Option (List ℕ)) → Appends a a []
+appends_nothing None = tt
+appends_nothing (Some l) = sym (append-nil l)
+
 -- sessions alone never make serving end by a fault
 IsOwnEnd : ServingEnd → Type 0
 IsOwnEnd Served = Unit {0}
@@ -81,13 +86,13 @@ own_after s [] own = own
 own_after s (end ∷ ends) own = own_after (end_with s end.why) ends (own_with s end.why own)
 
 -- nothing was served yet
-pub begun : (gives : ℕ → Type 0) (turns : ℕ) (s : StoreView) (net : NetView) (sink : SinkView) → Appends sink.taken sink.taken [] → InServing gives turns s s net net sink sink 0 Served
-begun gives turns s net sink nothing = record {
+pub begun : (gives : ℕ → Type 0) (turns : ℕ) (s : StoreView) (net : NetView) (sink : SinkView) → InServing gives turns s s net net sink sink 0 Served
+begun gives turns s net sink = record {
   ends = [];
   count = refl;
   served = none_served gives turns s net.closed;
   no_fault = refl;
-  told = (nothing, refl);
+  told = (appends_nothing sink.taken, refl);
   ends_so = refl;
 }
 
@@ -190,7 +195,7 @@ module _ (gives : ℕ → Type 0) (turns wanted : ℕ) (s t : StoreView) (a b d 
     cause = cause_from v.ends v.untold end v.cause;
   }
 
-module _ (gives : ℕ → Type 0) (turns wanted : ℕ) (s : StoreView) (a b : NetView) (o : SinkView) (nothing : Appends o.taken o.taken []) (kept : KeepsClosed a.closed b.closed) where
+module _ (gives : ℕ → Type 0) (turns wanted : ℕ) (s : StoreView) (a b : NetView) (o : SinkView) (kept : KeepsClosed a.closed b.closed) where
   refused_so : (end : ServingEnd) → IsServingEnd wanted a b [] [] end → TellsCut o o 1 [] end → HasServedOn gives turns wanted s s a b o o end
   refused_so end cause cut = record {
     ends = [];
@@ -198,7 +203,7 @@ module _ (gives : ℕ → Type 0) (turns wanted : ℕ) (s : StoreView) (a b : Ne
     between = o;
     served = (refl, kept);
     few = omega arith;
-    told = nothing;
+    told = appends_nothing o.taken;
     calm = refl;
     cut = cut;
     cause = cause;

@@ -8,5 +8,4 @@ mod words;
 
 pub use ending::Ended;
 pub use node::{out_of_memory, run, write_text};
-pub use process::answer;
 pub use words::{read_words, views};

@@ -1,0 +1,2 @@
+mod BadWords
+mod Statuses

@@ -1,6 +1,6 @@
 -- What each status of a run says by itself.
 use Rattle.std.specs.Io.KnownBytes.{Appends}
-use Rattle.std.specs.Prelude.{List, None, Some, [], false, length, ℕ, ◌+◌, ◌++◌, ◌≡◌, ◌≤◌, ◌⊎◌}
+use Rattle.std.specs.Prelude.{Contains, List, None, Some, [], false, length, ℕ, ◌+◌, ◌++◌, ◌∷◌, ◌≡◌, ◌≤◌, ◌⊎◌}
 use Rattle.links.specs.Causes.{AppendsFront, Rose}
 use Rattle.links.specs.Views.{SinkView}
 use Rattle.store_model.specs.Store.{StoreView, empty_state}
@@ -10,7 +10,8 @@ use Rattle.serve_run.specs.Endings.{end_after}
 use Rattle.serve_run.specs.Lines.{session_lines}
 use Rattle.serve_run.specs.NetViews.{NetView}
 use Rattle.serve_run.specs.declared.ending.ServingEnd.TheVariants as serving
-use Rattle.waiting_call.specs.Endings.{wait_text}
+use Rattle.top_call.specs.declared.ending.Ended.{Ended}
+use Rattle.waiting_call.specs.Endings.{IsWaitTold, wait_text}
 use Rattle.waiting_call.specs.Words.{bad_wait_place, connections_in, turns_in}
 use Rattle.waiting_call.specs.declared.ending.WaitEnd.TheVariants.{BadWord, Full, LinkFault, Memory}
 use Rattle.waiting_call.specs.declared.ending.WaitEnd.{WaitEnd}
@@ -37,11 +38,16 @@ abbrev pub IsBadWaitWord : List (List ℕ) → NetView → NetView → SinkView 
 IsBadWaitWord words before after old new place =
     (bad_wait_place words ≡ Some place) × (after ≡ before) × Appends old.taken new.taken (wait_text (BadWord place))
 
--- status 5: the sink's count rose; the words were bad, and a front was written of the text for that; or sessions ended, and a front was written of the lines of them all and an ending's text
+-- what was to be written next: the line of the session that is untold, or the text of an ending
+abbrev pub IsNextText : ℕ → List SessionEnd → List ℕ → Type 0
+IsNextText number untold text = (text ≡ session_lines number untold) ⊎ ((told : WaitEnd) × (text ≡ wait_text told))
+
+-- status 5: the sink's count rose; the words were bad, and a front was written of what is told of that; or sessions ended, and after the lines of all but perhaps the last one a front was written of what was to be written next
 abbrev pub IsWaitWriteFault : (ℕ → Type 0) → List (List ℕ) → NetView → NetView → SinkView → SinkView → Type 0
 IsWaitWriteFault gives words before after old new = (old.faults ≤ new.faults) × Rose old.faults new.faults
-    × (((place : ℕ) × (bad_wait_place words ≡ Some place) × (after ≡ before) × ((told : WaitEnd) × AppendsFront old.taken new.taken (wait_text told)))
-    ⊎ ((ends : List SessionEnd) × HasServedAsked gives words before after ends × ((told : WaitEnd) × AppendsFront old.taken new.taken (session_lines 1 ends ++ wait_text told))))
+    × (((place : ℕ) × (bad_wait_place words ≡ Some place) × (after ≡ before) × ((told : WaitEnd) × IsWaitTold (BadWord place) told × AppendsFront old.taken new.taken (wait_text told)))
+    ⊎ ((ends : List SessionEnd) × (untold : List SessionEnd) × (length untold ≤ 1) × HasServedAsked gives words before after (ends ++ untold)
+    × ((text : List ℕ) × IsNextText (length ends + 1) untold text × AppendsFront old.taken new.taken (session_lines 1 ends ++ text))))
 
 -- status 6: the net's count rose; the lines of all sessions that ended were written, and then its text
 abbrev pub IsLinkFault : (ℕ → Type 0) → List (List ℕ) → NetView → NetView → SinkView → SinkView → Type 0
@@ -60,3 +66,15 @@ IsWaitMemory gives words before after old new = (after.faults ≡ before.faults)
     × (((place : ℕ) × (bad_wait_place words ≡ Some place) × (after ≡ before) × Appends old.taken new.taken (wait_text Memory))
     ⊎ ((ends : List SessionEnd) × (untold : List SessionEnd) × (length untold ≤ 1) × HasServedAsked gives words before after (ends ++ untold)
     × WritesSessions old new ends (wait_text Memory)))
+
+-- what each status says, and which there can be: with bad words, and with lawful ones where neither the net nor the sink fails
+pub record IsWaitingEnd (gives : ℕ → Type 0) (words : List (List ℕ)) (before after : NetView) (old new : SinkView) (result : Ended) : Type 0 where
+  pub served : result.status ≡ 0 → IsServed gives words before after old new
+  pub bad_word : result.status ≡ 2 → IsBadWaitWord words before after old new result.place
+  pub write_fault : result.status ≡ 5 → IsWaitWriteFault gives words before after old new
+  pub link_fault : result.status ≡ 6 → IsLinkFault gives words before after old new
+  pub history_full : result.status ≡ 9 → IsFullHistory gives words before after old new
+  pub out_of_memory : result.status ≡ 11 → IsWaitMemory gives words before after old new
+  pub statuses : Contains (0 ∷ 2 ∷ 5 ∷ 6 ∷ 9 ∷ 11 ∷ []) result.status
+  pub unlawful : (place : ℕ) → bad_wait_place words ≡ Some place → Contains (2 ∷ 5 ∷ 11 ∷ []) result.status
+  pub complete : bad_wait_place words ≡ None → ¬ (Rose before.faults after.faults) → ¬ (Rose old.faults new.faults) → Contains (0 ∷ 9 ∷ 11 ∷ []) result.status

@@ -1,12 +1,10 @@
 //! The top call of the programs that wait for others: words, a sink, a net and a clock to a status.
-ghost use Rattle.std.specs.Prelude.{Contains, None, Some, [], map, ℕ, ◌∷◌, ◌≡◌, ◌≤◌};
-ghost use Rattle.links.specs.Causes.{Rose};
+ghost use Rattle.std.specs.Prelude.{map, ◌≡◌};
 ghost use Rattle.links.specs.Views.{sink_view, source_view};
 ghost use Rattle.serve_run.specs.NetViews.{net_view};
 ghost use Rattle.waiting_call.specs.Endings.{TellsEnd};
 ghost use Rattle.waiting_call.specs.Servings.{HasServedWords, HasWaited};
-ghost use Rattle.waiting_call.specs.Statuses.{IsBadWaitWord, IsFullHistory, IsLinkFault, IsServed, IsWaitMemory, IsWaitWriteFault};
-ghost use Rattle.waiting_call.specs.Words.{bad_wait_place};
+ghost use Rattle.waiting_call.specs.Statuses.{IsWaitingEnd};
 
 use crate::ending::WaitEnd;
 use crate::words::{address_in, bad_word, connections_in, turns_in};
@@ -43,28 +41,9 @@ pub fn run_wait<S: Source, K: Sink, N: Net, C: Clock>(
         (net_view N.closed N.faults net.old) (net_view N.closed N.faults net.new)
         (sink_view K.taken K.write_faults out.old) (sink_view K.taken K.write_faults out.new) result }
     ensures unread { source_view S.left S.read_faults S.ends src.new ≡ source_view S.left S.read_faults S.ends src.old }
-    ensures served { result.status ≡ 0 → IsServed (C.gives clock.now) (map (λ w. w.now) words.now)
+    ensures each { IsWaitingEnd (C.gives clock.now) (map (λ w. w.now) words.now)
         (net_view N.closed N.faults net.old) (net_view N.closed N.faults net.new)
-        (sink_view K.taken K.write_faults out.old) (sink_view K.taken K.write_faults out.new) }
-    ensures bad_word { result.status ≡ 2 → IsBadWaitWord (map (λ w. w.now) words.now)
-        (net_view N.closed N.faults net.old) (net_view N.closed N.faults net.new)
-        (sink_view K.taken K.write_faults out.old) (sink_view K.taken K.write_faults out.new) result.place }
-    ensures write_fault { result.status ≡ 5 → IsWaitWriteFault (C.gives clock.now) (map (λ w. w.now) words.now)
-        (net_view N.closed N.faults net.old) (net_view N.closed N.faults net.new)
-        (sink_view K.taken K.write_faults out.old) (sink_view K.taken K.write_faults out.new) }
-    ensures link_fault { result.status ≡ 6 → IsLinkFault (C.gives clock.now) (map (λ w. w.now) words.now)
-        (net_view N.closed N.faults net.old) (net_view N.closed N.faults net.new)
-        (sink_view K.taken K.write_faults out.old) (sink_view K.taken K.write_faults out.new) }
-    ensures history_full { result.status ≡ 9 → IsFullHistory (C.gives clock.now) (map (λ w. w.now) words.now)
-        (net_view N.closed N.faults net.old) (net_view N.closed N.faults net.new)
-        (sink_view K.taken K.write_faults out.old) (sink_view K.taken K.write_faults out.new) }
-    ensures out_of_memory { result.status ≡ 11 → IsWaitMemory (C.gives clock.now) (map (λ w. w.now) words.now)
-        (net_view N.closed N.faults net.old) (net_view N.closed N.faults net.new)
-        (sink_view K.taken K.write_faults out.old) (sink_view K.taken K.write_faults out.new) }
-    ensures statuses { Contains (0 ∷ 2 ∷ 5 ∷ 6 ∷ 9 ∷ 11 ∷ []) result.status }
-    ensures unlawful { (place : ℕ) → bad_wait_place (map (λ w. w.now) words.now) ≡ Some place → Contains (2 ∷ 5 ∷ 11 ∷ []) result.status }
-    ensures complete { bad_wait_place (map (λ w. w.now) words.now) ≡ None → ¬ (Rose (N.faults net.old) (N.faults net.new))
-        → ¬ (Rose (K.write_faults out.old) (K.write_faults out.new)) → Contains (0 ∷ 9 ∷ 11 ∷ []) result.status }
+        (sink_view K.taken K.write_faults out.old) (sink_view K.taken K.write_faults out.new) result }
 {
     match bad_word(words) {
         Some(place) => finish(alloc, out, WaitEnd::BadWord(place)),
