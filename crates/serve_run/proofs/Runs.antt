@@ -1,7 +1,7 @@
 -- Serving goes on by one session, and ends.
 use Rattle.std.proofs.Common.{List, [], append-nil, append_assoc, ap, arith, inl, inr, length, length-append, refl, subst, sym, ℕ, false, ◌+◌, ◌++◌, ◌<◌, ◌∙◌, ◌∷◌, ◌≡◌, ◌≤◌, ◌⊎◌}
 use Rattle.std.specs.Io.KnownBytes.{Appends}
-use Rattle.std.specs.Prelude.{Err, None, Ok, Option, Some}
+use Rattle.std.specs.Prelude.{Err, None, Ok, Option, Some, ⊤}
 use Rattle.links.specs.Causes.{AppendsFront, Rose}
 use Rattle.links.specs.Views.{SinkView}
 use Rattle.net_links.specs.LinkViews.{LinkView}
@@ -20,7 +20,7 @@ use Rattle.serve_run.specs.Endings.{end_after, end_at, end_with, full_by}
 use Rattle.serve_run.specs.Lines.{session_line, session_lines}
 use Rattle.serve_run.specs.NetViews.{NetView}
 use Rattle.serve_run.specs.ServeRuns.{HasServedOn, IsAllServed, IsServingEnd, IsStop, TellsCut}
-use Rattle.serve_run.specs.Tellings.{InServing, TellsNext, WritesLine}
+use Rattle.serve_run.specs.Tellings.{InServing, TellsLine, TellsNext}
 use Rattle.serve_run.specs.declared.ending.ServingEnd.{ServingEnd}
 use Rattle.serve_run.specs.declared.ending.ServingEnd.TheVariants.{Full, Memory, Net, Served, WriteFault}
 
@@ -57,7 +57,7 @@ appends_nothing None = tt
 appends_nothing (Some l) = sym (append-nil l)
 
 -- sessions alone never make serving end by a fault
-IsOwnEnd : ServingEnd → Type 0
+abbrev IsOwnEnd : ServingEnd → Type 0
 IsOwnEnd Served = Unit {0}
 IsOwnEnd (Full entries bytes) = Unit {0}
 IsOwnEnd Net = ⊥
@@ -102,7 +102,7 @@ module _ (gives : ℕ → Type 0) (turns : ℕ) (s m t : StoreView) (a b d : Net
 
   -- one session more was had and told
   pub goes_on : (end : SessionEnd) → TellsNext gives turns k m t b d x y (Ok end) → InServing gives turns s t a d o y k (end_with so_far end.why)
-  goes_on end (one, no_fault, line, calm) = record {
+  goes_on end (one, no_fault, (line, calm)) = record {
     ends = amid.ends ++ end ∷ [];
     count = omega (arith, length-append amid.ends (end ∷ []), amid.count, is);
     served = serves_more gives turns 1 k s m t a.closed b.closed d.closed amid.ends (end ∷ []) next_number amid.served (t, d.closed, one, none_served gives turns t d.closed);
@@ -141,6 +141,19 @@ module _ (gives : ℕ → Type 0) (turns : ℕ) (s m t : StoreView) (a b d : Net
     cut = let here : k ≡ length amid.ends + 1 = omega (arith, next_number) in subst (λ (i : ℕ). TellsCut x y i untold stop) here cut;
     cause = stopped_so wanted untold stop within (stop_from untold stop it);
   }
+
+-- a session was had, and serving stops within its line
+module _ (gives : ℕ → Type 0) (turns k : ℕ) (m t : StoreView) (b d : NetView) (x y : SinkView) (end : SessionEnd) (one : HasServedOne gives turns k m t b.closed d.closed end) (same : d.faults ≡ b.faults) where
+  this_one : HasServedAll gives turns k m t b.closed d.closed (end ∷ [])
+  this_one = (t, d.closed, one, none_served gives turns t d.closed)
+
+  pub stops_in_line : (stop : ServingEnd) → TellsLine x y (session_line k end) (Err stop) → TellsNext gives turns k m t b d x y (Err stop)
+  stops_in_line WriteFault (front, later, rose) =
+      (end ∷ [], this_one, omega arith, (refl, same), (subst (λ l. AppendsFront x.taken y.taken l) (sym (append-nil (session_line k end))) front, later, rose))
+  stops_in_line Memory still = (end ∷ [], this_one, omega arith, (omega arith, same), still)
+  stops_in_line Served it = absurd it
+  stops_in_line (Full entries bytes) it = absurd it
+  stops_in_line Net it = absurd it
 
 module _ (gives : ℕ → Type 0) (turns wanted : ℕ) (s m : StoreView) (a b : NetView) (o x : SinkView) where
   nothing_cut : (n : ℕ) (end : ServingEnd) → IsOwnEnd end → TellsCut x x n [] end

@@ -1,11 +1,9 @@
 //! Serving connections, and telling of each session as it ends.
-ghost use Rattle.std.specs.Io.KnownBytes.{Appends};
-ghost use Rattle.std.specs.Prelude.{OnOk, ◌≡◌};
 ghost use Rattle.links.specs.Views.{sink_view};
 ghost use Rattle.serve_run.specs.Lines.{session_line};
 ghost use Rattle.serve_run.specs.NetViews.{net_view};
-ghost use Rattle.serve_run.specs.ServeRuns.{HasServedRun};
-ghost use Rattle.serve_run.specs.Tellings.{HasServedOn, TellsLine, TellsNext};
+ghost use Rattle.serve_run.specs.ServeRuns.{HasServedOn, HasServedRun};
+ghost use Rattle.serve_run.specs.Tellings.{TellsLine, TellsNext};
 
 use crate::ending::ServingEnd;
 use crate::lines::session_line;
@@ -94,12 +92,7 @@ fn serve_next<K: Sink, N: Net, C: Clock>(
 }
 
 /// Writes the line of a session.
-fn tell<K: Sink>(
-    alloc: Global,
-    out: &mut K,
-    number: u32,
-    end: SessionEnd,
-) -> Result<(), ServingEnd>
+fn tell<K: Sink>(alloc: Global, out: &mut K, number: u32, end: SessionEnd) -> Result<(), ServingEnd>
     ensures line { TellsLine (sink_view K.taken K.write_faults out.old) (sink_view K.taken K.write_faults out.new) (session_line number end) result }
 {
     let Ok(line) = session_line(alloc, number, end) else {

@@ -1,2 +1,1 @@
-mod BadWords
 mod Statuses

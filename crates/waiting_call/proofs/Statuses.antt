@@ -18,7 +18,7 @@ use Rattle.top_call.specs.declared.ending.Ended.{Ended}
 use Rattle.waiting_call.specs.Endings.{IsWaitTold, TellsEnd, TellsIf, WritesEnd, wait_ended, wait_text, waited_by}
 use Rattle.waiting_call.specs.Servings.{HasRefused, HasServedWords, HasWaited}
 use Rattle.waiting_call.specs.Statuses.{HasServedAsked, IsBadWaitWord, IsFullHistory, IsLinkFault, IsServed, IsWaitMemory, IsWaitWriteFault, IsWaitingEnd}
-use Rattle.waiting_call.specs.Words.{bad_wait_place, connections_in, turns_in}
+use Rattle.wait_words.specs.Words.{bad_wait_place, connections_in, turns_in}
 use Rattle.waiting_call.specs.declared.ending.WaitEnd.TheVariants.{BadWord, Done, Full, LinkFault, Memory}
 use Rattle.waiting_call.specs.declared.ending.WaitEnd.{WaitEnd}
 

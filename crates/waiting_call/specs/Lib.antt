@@ -2,4 +2,3 @@ pub mod Endings
 pub mod Processes
 pub mod Servings
 pub mod Statuses
-pub mod Words

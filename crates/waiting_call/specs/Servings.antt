@@ -6,7 +6,7 @@ use Rattle.serve_run.specs.ServeRuns.{HasServedRun}
 use Rattle.serve_run.specs.declared.ending.ServingEnd.{ServingEnd}
 use Rattle.top_call.specs.declared.ending.Ended.{Ended}
 use Rattle.waiting_call.specs.Endings.{TellsEnd, TellsIf, waited_by}
-use Rattle.waiting_call.specs.Words.{bad_wait_place, connections_in, turns_in}
+use Rattle.wait_words.specs.Words.{bad_wait_place, connections_in, turns_in}
 use Rattle.waiting_call.specs.declared.ending.WaitEnd.TheVariants.{BadWord}
 
 -- a word was bad, and nothing was done but to tell its place

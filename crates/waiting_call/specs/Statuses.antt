@@ -12,7 +12,7 @@ use Rattle.serve_run.specs.NetViews.{NetView}
 use Rattle.serve_run.specs.declared.ending.ServingEnd.TheVariants as serving
 use Rattle.top_call.specs.declared.ending.Ended.{Ended}
 use Rattle.waiting_call.specs.Endings.{IsWaitTold, wait_text}
-use Rattle.waiting_call.specs.Words.{bad_wait_place, connections_in, turns_in}
+use Rattle.wait_words.specs.Words.{bad_wait_place, connections_in, turns_in}
 use Rattle.waiting_call.specs.declared.ending.WaitEnd.TheVariants.{BadWord, Full, LinkFault, Memory}
 use Rattle.waiting_call.specs.declared.ending.WaitEnd.{WaitEnd}
 

@@ -4,7 +4,6 @@
 mod ending;
 mod node;
 mod process;
-mod words;
 
 pub use node::run_wait;
 pub use process::answer;

@@ -7,12 +7,12 @@ ghost use Rattle.waiting_call.specs.Servings.{HasServedWords, HasWaited};
 ghost use Rattle.waiting_call.specs.Statuses.{IsWaitingEnd};
 
 use crate::ending::WaitEnd;
-use crate::words::{address_in, bad_word, connections_in, turns_in};
 use links::{Sink, Source};
 use net_links::{Clock, Net};
 use serve_run::serve_told;
 use std::alloc::Global;
 use top_call::{Ended, out_of_memory, write_text};
+use wait_words::{address_in, bad_word, connections_in, turns_in};
 
 /// Runs the program that the words name, over a source, a sink, a net and a clock.
 ///

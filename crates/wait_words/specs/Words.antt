@@ -1,7 +1,7 @@
 -- The words of the command line: `serve`, an address, and options in any order, each at most once with its value.
 use Rattle.std.specs.List.{list_any}
 use Rattle.std.specs.Option.{is_some}
-use Rattle.std.specs.Prelude.{Bool, List, None, Option, Some, [], bytes_eq, codes, false, if◌then◌else◌, length, nat_eq, nat_le, not, true, unwrap_or, ℕ, ◌&&◌, ◌+◌, ◌++◌, ◌||◌, ◌∷◌}
+use Rattle.std.specs.Prelude.{Bool, List, None, Option, Some, [], bytes_eq, codes, false, if◌then◌else◌, length, nat_eq, nat_le, not, true, unwrap_or, ℕ, ◌&&◌, ◌++◌, ◌||◌, ◌∷◌}
 use Rattle.line_text.specs.Numbers.{number_in}
 
 -- the most connections that are served

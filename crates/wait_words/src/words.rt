@@ -1,6 +1,6 @@
-//! The words of the programs that wait for others: which are lawful, and what they ask for.
+//! The words of `serve`.
 ghost use Rattle.std.specs.Prelude.{map, ◌≡◌};
-ghost use Rattle.waiting_call.specs.Words.{address_in, bad_wait_place, can_end, can_stand, connections_in, is_address, is_dashed, is_other, is_value, second_value, turns_in, value_of};
+ghost use Rattle.wait_words.specs.Words.{address_in, bad_wait_place, can_end, can_stand, connections_in, is_address, is_dashed, is_other, is_value, second_value, turns_in, value_of};
 
 use line_text::number_in;
 
