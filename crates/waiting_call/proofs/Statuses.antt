@@ -71,7 +71,7 @@ module _ (gives : ℕ → Type 0) (words : List (List ℕ)) (a b : NetView) (o x
     out_of_memory = λ is. absurd (omega (arith, st, is));
     statuses = rw st (2, lit< tt, refl);
     unlawful = λ _ _. rw st (1, lit< tt, refl);
-    complete = λ good calm_net calm_sink. absurd (calm_sink it.1.0);
+    complete = λ good calm_net calm_sink. absurd (calm_sink it.1);
   }
 
   by_link_fault : r.status ≡ 6 → bad_wait_place words ≡ None → IsLinkFault gives words a b o x → IsWaitingEnd gives words a b o x r
@@ -84,7 +84,7 @@ module _ (gives : ℕ → Type 0) (words : List (List ℕ)) (a b : NetView) (o x
     out_of_memory = λ is. absurd (omega (arith, st, is));
     statuses = rw st (3, lit< tt, refl);
     unlawful = λ place bad. absurd (none-some place (sym lawful ∙ bad));
-    complete = λ good calm_net calm_sink. absurd (calm_net it.1.0);
+    complete = λ good calm_net calm_sink. absurd (calm_net it.1);
   }
 
   by_full : r.status ≡ 9 → bad_wait_place words ≡ None → IsFullHistory gives words a b o x → IsWaitingEnd gives words a b o x r
@@ -121,11 +121,11 @@ module _ (gives : ℕ → Type 0) (words : List (List ℕ)) (a b : NetView) (o x
 
     told_bad_memory : WritesEnd o x Memory r → IsWaitingEnd gives words a b o x r
     told_bad_memory (inl (is, text, kept)) = by_memory (ap (λ v. v.status) is) (ap (λ v. v.faults) same, inl (place, bad, same, text))
-    told_bad_memory (inr (is, front, later, rose)) = by_write_fault (ap (λ v. v.status) is) (later, rose, inl (place, bad, same, (Memory, inr refl, front)))
+    told_bad_memory (inr (is, front, later, rose)) = by_write_fault (ap (λ v. v.status) is) (later, rose, inl (place, bad, same, (Memory, inr (refl, λ e. cc e), front)))
 
     told_refused : TellsEnd (BadWord place) o x r → IsWaitingEnd gives words a b o x r
     told_refused (told, inl which, w) = told_bad (subst (λ (t : WaitEnd). WritesEnd o x t r) which w)
-    told_refused (told, inr which, w) = told_bad_memory (subst (λ (t : WaitEnd). WritesEnd o x t r) which w)
+    told_refused (told, inr (which, other), w) = told_bad_memory (subst (λ (t : WaitEnd). WritesEnd o x t r) which w)
 
   module _ (lawful : bad_wait_place words ≡ None) (left : StoreView) (m : SinkView) (end : ServingEnd) (run : HasServedOn gives (turns_in words) (connections_in words) (record { state = empty_state; spent = false }) left a b o m end) where
     asked : HasServedAsked gives words a b (run.ends ++ run.untold)
@@ -151,7 +151,7 @@ module _ (gives : ℕ → Type 0) (words : List (List ℕ)) (a b : NetView) (o x
 
   module _ (lawful : bad_wait_place words ≡ None) (left : StoreView) (m : SinkView) where
     -- the runs of serving by their end
-    Runs : ServingEnd → Type 0
+    abbrev Runs : ServingEnd → Type 0
     Runs end = HasServedOn gives (turns_in words) (connections_in words) (record { state = empty_state; spent = false }) left a b o m end
 
     all_told : (run : Runs Served) → WritesEnd m x Done r → IsWaitingEnd gives words a b o x r
@@ -233,15 +233,25 @@ module _ (gives : ℕ → Type 0) (words : List (List ℕ)) (a b : NetView) (o x
         )
 
     told_run : (end : ServingEnd) → Runs end → TellsIf (waited_by end) m x r → IsWaitingEnd gives words a b o x r
-    told_run Served run (told, which, w) = all_told run (subst (λ (t : WaitEnd). WritesEnd m x t r) which w)
+    told_run Served run (told, inl which, w) = all_told run (subst (λ (t : WaitEnd). WritesEnd m x t r) which w)
+    told_run Served run (told, inr (which, other), w) = memory_so Served run (none_few run.untold run.cause.all_told) run.cause.no_fault run.cut (subst (λ (t : WaitEnd). WritesEnd m x t r) which w)
     told_run (serving.Full entries bytes) run (told, inl which, w) = full_told entries bytes run (subst (λ (t : WaitEnd). WritesEnd m x t r) which w)
-    told_run (serving.Full entries bytes) run (told, inr which, w) =
+    told_run (serving.Full entries bytes) run (told, inr (which, other), w) =
         memory_so (serving.Full entries bytes) run (none_few run.untold run.cause.all_told) run.cause.no_fault run.cut (subst (λ (t : WaitEnd). WritesEnd m x t r) which w)
-    told_run Net run (told, which, w) = link_told run (subst (λ (t : WaitEnd). WritesEnd m x t r) which w)
+    told_run Net run (told, inl which, w) = link_told run (subst (λ (t : WaitEnd). WritesEnd m x t r) which w)
+    told_run Net run (told, inr (which, other), w) = absurd (other refl)
     told_run WriteFault run (is, same) = cut_in_line run is same
-    told_run serving.Memory run (told, which, w) = memory_so serving.Memory run run.cause.0 run.cause.1 run.cut (subst (λ (t : WaitEnd). WritesEnd m x t r) which w)
+    told_run serving.Memory run (told, inl which, w) = memory_so serving.Memory run run.cause.0 run.cause.1 run.cut (subst (λ (t : WaitEnd). WritesEnd m x t r) which w)
+    told_run serving.Memory run (told, inr (which, other), w) = memory_so serving.Memory run run.cause.0 run.cause.1 run.cut (subst (λ (t : WaitEnd). WritesEnd m x t r) which w)
 
   -- what each status says of a run
   pub waiting_end : HasWaited gives words a b o x r → IsWaitingEnd gives words a b o x r
   waiting_end (inl (place, bad, same, tells)) = told_refused place bad same tells
   waiting_end (inr (lawful, (end, shown, (left, run), tells))) = told_run lawful left shown end run tells
+
+-- what is told of how serving ended
+pub told_some : (o x : SinkView) (r : Ended) (w : Option WaitEnd) (end : WaitEnd) → w ≡ Some end → TellsEnd end o x r → TellsIf w o x r
+told_some o x r w end is tells = subst (λ (v : Option WaitEnd). TellsIf v o x r) (sym is) tells
+
+pub told_none : (o : SinkView) (w : Option WaitEnd) → w ≡ None → TellsIf w o o (record { status = 5; place = 0; left = 0 })
+told_none o w is = subst (λ (v : Option WaitEnd). TellsIf v o o (record { status = 5; place = 0; left = 0 })) (sym is) (refl, refl)

@@ -29,13 +29,9 @@ wait_ended Memory = record { status = 11; place = 0; left = 0 }
 abbrev pub WritesEnd : SinkView → SinkView → WaitEnd → Ended → Type 0
 WritesEnd old new end result = WritesText old new (wait_text end) (wait_ended end) result
 
--- which ending is told of one: itself, or want of memory where its text has numbers
+-- which ending is told of one: itself, or want of memory, but that the net failed is told as it is
 abbrev pub IsWaitTold : WaitEnd → WaitEnd → Type 0
-IsWaitTold Done told = told ≡ Done
-IsWaitTold (BadWord place) told = (told ≡ BadWord place) ⊎ (told ≡ Memory)
-IsWaitTold LinkFault told = told ≡ LinkFault
-IsWaitTold (Full entries bytes) told = (told ≡ Full entries bytes) ⊎ (told ≡ Memory)
-IsWaitTold Memory told = told ≡ Memory
+IsWaitTold end told = (told ≡ end) ⊎ ((told ≡ Memory) × (end ≡ LinkFault → ⊥))
 
 -- the text of the ending that is told was written, or the sink failed within it
 abbrev pub TellsEnd : WaitEnd → SinkView → SinkView → Ended → Type 0

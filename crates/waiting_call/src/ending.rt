@@ -1,9 +1,11 @@
 //! How a run of a program that waits for others ends: each way with its text and its status.
-ghost use Rattle.std.specs.Prelude.{◌≡◌};
-ghost use Rattle.waiting_call.specs.Endings.{wait_ended, waited_by};
+ghost use Rattle.std.specs.Prelude.{IfOk, ◌≡◌};
+ghost use Rattle.waiting_call.specs.Endings.{wait_ended, wait_text, waited_by};
 
 use serve_run::ServingEnd;
+use std::alloc::{AllocError, Global};
 use top_call::Ended;
+use wire_values::Bytes;
 
 /// The ways in which a run ends, but for a failure of the sink, which is status 5.
 #[derive(Clone, Copy, Drop)]
@@ -38,6 +40,22 @@ impl WaitEnd {
             place,
             left: 0,
         }
+    }
+
+    /// The text that is written.
+    pub fn text(&self, alloc: Global) -> Result<Bytes, AllocError>
+        ensures { IfOk result (λ text. text ≡ wait_text self.now) }
+    {
+        let text = match self {
+            WaitEnd::Done => String::new(alloc),
+            WaitEnd::BadWord(place) => format!(in alloc; "bad word {place}\n")?,
+            WaitEnd::LinkFault => String::from_str(alloc, "link fault\n")?,
+            WaitEnd::Full { entries, bytes } => {
+                format!(in alloc; "history full {entries} {bytes}\n")?
+            }
+            WaitEnd::Memory => String::from_str(alloc, "out of memory\n")?,
+        };
+        Ok(Bytes::from_vec(text.into_bytes()))
     }
 
     /// The end of a run by that of its serving; none where the sink failed, so that nothing more is told.

@@ -77,21 +77,17 @@ fn serve_words<K: Sink, N: Net, C: Clock>(
     }
 }
 
-/// Writes the text of an end. Where its numbers want memory that isn't there, that is told in its place; the other texts
-/// want none.
+/// Writes the text of an end, or of want of memory where there is none for that text; that the net failed is written
+/// without memory.
 fn finish<K: Sink>(alloc: Global, out: &mut K, end: WaitEnd) -> Ended
-    ensures told { TellsEnd end (sink_view K.taken K.write_faults out.old) (sink_view K.taken K.write_faults out.new) result }
+    ensures { TellsEnd end (sink_view K.taken K.write_faults out.old) (sink_view K.taken K.write_faults out.new) result }
 {
     let ended = end.ended();
-    let text = match end {
-        WaitEnd::Done => return write_text(out, ended, b""),
-        WaitEnd::LinkFault => return write_text(out, ended, b"link fault\n"),
-        WaitEnd::Memory => return out_of_memory(out),
-        WaitEnd::BadWord(place) => format!(in alloc; "bad word {place}\n"),
-        WaitEnd::Full { entries, bytes } => format!(in alloc; "history full {entries} {bytes}\n"),
-    };
-    match text {
-        Ok(text) => write_text(out, ended, text.as_bytes()),
+    if let WaitEnd::LinkFault = end {
+        return write_text(out, ended, b"link fault\n");
+    }
+    match end.text(alloc) {
+        Ok(text) => write_text(out, ended, text.as_slice()),
         Err(_) => out_of_memory(out),
     }
 }

@@ -1,10 +1,10 @@
 //! A process' run: its words, its streams, its net and its status.
-ghost use Rattle.std.specs.Prelude.{List, map, ℕ, ◌×◌, ◌≡◌, ◌⊎◌};
+ghost use Rattle.std.specs.Prelude.{List, map, ℕ, ◌≡◌, ◌⊎◌};
 ghost use Rattle.links.specs.Views.{sink_view, source_view};
 ghost use Rattle.serve_run.specs.NetViews.{net_view};
-ghost use Rattle.top_call.specs.Endings.{Took, Written};
+ghost use Rattle.top_call.specs.Endings.{Written};
 ghost use Rattle.top_call.specs.declared.ending.End.TheVariants.{Memory};
-ghost use Rattle.waiting_call.specs.Processes.{HasAnsweredWords, IsUntouched, names_run};
+ghost use Rattle.waiting_call.specs.Processes.{HasAnsweredWords, names_run};
 
 use crate::node::run_wait;
 use links::{Sink, Source};

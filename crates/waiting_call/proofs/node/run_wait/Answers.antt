@@ -11,7 +11,7 @@ returns-in-Some g c =
     let a = net_view g.N.Net.closed g.N.Net.faults c.args.net.now in
     let o = sink_view g.K.Sink.taken g.K.Sink.write_faults c.args.out.now in
     let x = sink_view g.K.Sink.taken g.K.Sink.write_faults c.finish.new.out in
-    let ended : HasWaited (g.C.Clock.gives c.args.clock.now) words a a o x c.finish.result = inl (c.in-Some.place, sym c.bad_word.ensures ∙ c.in-Some.is, refl, c.finish.ensures.told) in
+    let ended : HasWaited (g.C.Clock.gives c.args.clock.now) words a a o x c.finish.result = inl (c.in-Some.place, sym c.bad_word.ensures ∙ c.in-Some.is, refl, c.finish.ensures) in
     record { ended = ended; unread = refl; each = waiting_end (g.C.Clock.gives c.args.clock.now) words a a o x c.finish.result ended }
 
 pub returns-in-None : goal.returns-in-None
