@@ -2,7 +2,9 @@
 ghost use Rattle.std.specs.Prelude.{IfOk};
 ghost use Rattle.net_links.specs.MemoryForms.{IsUnusedLink};
 
-use crate::rows::{Incoming, Row, bad_words, refused, rows_of_nets, rows_of_sessions, rows_of_sinks};
+use crate::rows::{
+    Incoming, Row, bad_words, refused, rows_of_nets, rows_of_sessions, rows_of_sinks,
+};
 use links::{MemorySink, MemorySource};
 use net_links::{MemoryLink, MemoryNet, StepClock};
 use std::alloc::{AllocError, Global};
@@ -58,12 +60,22 @@ fn expect_run<R: Abort>(rt: &R, alloc: Global, row: &Row) -> Result<(), AllocErr
     let mut net = net(alloc, row)?;
     let clock = StepClock::new(5_000_000, 1_000_000);
     let words = words_of(alloc, row.words)?;
-    let end = run_wait(alloc, words.as_slice(), &mut src, &mut out, &mut net, &clock);
+    let end = run_wait(
+        alloc,
+        words.as_slice(),
+        &mut src,
+        &mut out,
+        &mut net,
+        &clock,
+    );
     let sent = closed(alloc, &net)?;
     let words = row.words;
     assert!(rt; out.taken() == row.text.as_bytes(), "text: {words}");
     assert!(rt; sent.as_slice() == row.sent.as_bytes(), "sent: {words}");
-    assert!(rt; end.status == row.status && end.place == row.place && end.left == 0, "status: {words}");
+    assert!(rt;
+        end.status == row.status && end.place == row.place && end.left == 0,
+        "status: {words}"
+    );
     Ok(())
 }
 
