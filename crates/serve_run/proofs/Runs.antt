@@ -1,5 +1,5 @@
 -- Serving goes on by one session, and ends.
-use Rattle.std.proofs.Common.{List, [], append-nil, append_assoc, ap, arith, inl, inr, length, length-append, refl, subst, sym, ℕ, false, ◌+◌, ◌++◌, ◌<◌, ◌∙◌, ◌∷◌, ◌≡◌, ◌≤◌, ◌⊎◌}
+use Rattle.std.proofs.Common.{List, [], append-nil, append_assoc, ap, arith, inl, inr, length, length-append, refl, subst, sym, ℕ, ◌+◌, ◌++◌, ◌∙◌, ◌∷◌, ◌≡◌, ◌≤◌}
 use Rattle.std.specs.Io.KnownBytes.{Appends}
 use Rattle.std.specs.Prelude.{Err, None, Ok, Option, Some, ⊤}
 use Rattle.links.specs.Causes.{AppendsFront, Rose}

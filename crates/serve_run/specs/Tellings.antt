@@ -1,6 +1,6 @@
 -- What is known of one session amid serving. This serves the proofs of code.
 use Rattle.std.specs.Io.KnownBytes.{Appends}
-use Rattle.std.specs.Prelude.{Err, List, Ok, Result, [], length, ⊤, ℕ, ◌≡◌, ◌≤◌}
+use Rattle.std.specs.Prelude.{Err, List, Ok, Result, length, ⊤, ℕ, ◌≡◌, ◌≤◌}
 use Rattle.links.specs.Causes.{AppendsFront, Rose}
 use Rattle.links.specs.Views.{SinkView}
 use Rattle.store_model.specs.Store.{StoreView}
