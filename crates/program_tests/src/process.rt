@@ -4,11 +4,13 @@ ghost use Rattle.std.specs.Io.{WritesAtMost};
 use crate::played::{NEVER, end_of, sink};
 use crate::rows::reports::{one_message, published};
 use links::MemorySource;
+use net_links::{MemoryNet, StepClock};
 use std::alloc::{AllocError, Global};
 use std::env::{Env, FillError};
 use std::process::Abort;
 use std::test::Fail;
-use top_call::{Ended, answer};
+use top_call::Ended;
+use waiting_call::answer;
 use wire_values::Bytes;
 
 /// A process with these words after its name.
@@ -60,7 +62,16 @@ fn expect_answer<R: Abort>(
     let schedule = Bytes::from_slice(alloc, one_message().as_bytes())?;
     let mut src = MemorySource::new(schedule, 1, Vec::new(alloc));
     let mut out = sink(alloc, NEVER)?;
-    let found = answer(&Process { words }, alloc, &mut src, &mut out);
+    let mut net = MemoryNet::new(Vec::new(alloc), Vec::new(alloc));
+    let clock = StepClock::new(0, 1);
+    let found = answer(
+        &Process { words },
+        alloc,
+        &mut src,
+        &mut out,
+        &mut net,
+        &clock,
+    );
     assert!(rt; found == want, "{text}");
     assert!(rt; out.taken() == text.as_bytes(), "{text}");
     Ok(())
@@ -71,6 +82,7 @@ fn the_words_of_a_process_name_its_program(rt: HostRuntime) -> Result<(), Fail> 
     let alloc = rt.alloc();
     expect_answer(&rt, alloc, &[b"replay"], end_of(0, 0), published())?;
     expect_answer(&rt, alloc, &[], end_of(2, 0), "bad word 0\n")?;
+    expect_answer(&rt, alloc, &[b"serve"], end_of(2, 1), "bad word 1\n")?;
     expect_answer(
         &rt,
         alloc,

@@ -7,6 +7,5 @@ mod process;
 mod words;
 
 pub use ending::Ended;
-pub use node::{out_of_memory, run};
-pub use process::answer;
+pub use node::{out_of_memory, run, write_text};
 pub use words::{read_words, views};

@@ -178,7 +178,7 @@ fn end_of(fault: RunFault) -> End
 }
 
 /// Writes a text, and answers this end of a run, or status 5 where the sink failed.
-fn write_text<K: Sink>(out: &mut K, ended: Ended, text: &[u8]) -> Ended
+pub fn write_text<K: Sink>(out: &mut K, ended: Ended, text: &[u8]) -> Ended
     ensures { WritesText (sink_view K.taken K.write_faults out.old) (sink_view K.taken K.write_faults out.new) text.now ended result }
 {
     match write_all(out, text) {

@@ -1,0 +1,5 @@
+pub mod Endings
+pub mod Lines
+pub mod NetViews
+pub mod ServeRuns
+pub mod Tellings

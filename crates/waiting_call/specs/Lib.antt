@@ -1,0 +1,4 @@
+pub mod Endings
+pub mod Processes
+pub mod Servings
+pub mod Statuses
