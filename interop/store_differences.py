@@ -113,7 +113,7 @@ def shown(reply):
         return "[%s]" % ", ".join(map(shown, reply))
     if reply is NULL_BULK or reply is None:
         return "null"
-    return reply.decode() if isinstance(reply, bytes) else ":%d" % reply
+    return reply.split(b"\r\n")[0].decode() if isinstance(reply, bytes) else ":%d" % reply
 
 
 def last_reply(port, pieces):

@@ -6,7 +6,7 @@ whether they were contended.
 """
 
 from bindings import STEPS, bindings_key, is_name, is_reserved, lookup, queue_key, step_of
-from envelopes import (entry_of, items_of_entry, priority_of, read_entry, read_envelope, read_tag, redelivered, tag_text)
+from envelopes import entry_of, items_of_entry, priority_of, read_entry, read_envelope, read_tag, redelivered, tag_text
 from json_texts import read_json, write_json
 from replies import NULL_BULK, OK, QUEUED, Simple, is_bulk
 
@@ -60,6 +60,10 @@ def two_integers(answer):
     return is_array_of(is_integer, answer) and len(answer) == 2
 
 
+def is_pair_of_bulks(answer):
+    return is_array_of(is_bulk, answer) and len(answer) == 2
+
+
 def integers_or_null(answer):
     return answer is None or is_array_of(is_integer, answer)
 
@@ -69,17 +73,23 @@ def declare(name, exchange, member):
     yield from says([name, bindings_key(exchange), member], is_integer)
 
 
+def looked_up(exchange, routing_key):
+    """Reads the bindings of an exchange; gives the queues of a routing key."""
+    members = yield from says([b"SMEMBERS", bindings_key(exchange)], lambda answer: is_array_of(is_bulk, answer))
+    return lookup(members, routing_key)
+
+
 def publish(exchange, routing_key, priority, envelope):
     queues = [routing_key]
     if exchange:
-        queues = lookup((yield from says([b"SMEMBERS", bindings_key(exchange)], lambda it: is_array_of(is_bulk, it))), routing_key)
+        queues = yield from looked_up(exchange, routing_key)
     for queue in queues:
         yield from says([b"LPUSH", queue_key(queue, step_of(priority)), envelope], is_integer)
 
 
 def pop(queues):
     keys = [queue_key(queue, step) for step in STEPS for queue in queues]
-    popped = yield from says([b"BRPOP", *keys, b"1"], lambda it: it is None or (is_array_of(is_bulk, it) and len(it) == 2))
+    popped = yield from says([b"BRPOP", *keys, b"1"], lambda it: it is None or is_pair_of_bulks(it))
     found = popped and read_envelope(popped[1])
     if not found:
         return
@@ -123,8 +133,7 @@ def queues_of(exchange, routing_key):
     """The queues to which a message of an exchange and a routing key goes back."""
     if not exchange:
         return [routing_key] if is_name(routing_key) and not is_reserved(routing_key) else []
-    members = yield from says([b"SMEMBERS", bindings_key(exchange)], lambda answer: is_array_of(is_bulk, answer))
-    return lookup(members, routing_key)
+    return (yield from looked_up(exchange, routing_key))
 
 
 def sweep(visibility, token):

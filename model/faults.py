@@ -45,7 +45,8 @@ class Faults:
 
     def wrong_queue(self):
         queue = self.random.choice(BAD_QUEUES + QUEUES)
-        return b"begin %b publish - %b %b t %b" % (self.conn(), queue, self.random.choice((b"0", b"255", b"256")), self.args())
+        priority = self.random.choice((b"0", b"255", b"256"))
+        return b"begin %b publish - %b %b t %b" % (self.conn(), queue, priority, self.args())
 
     def wrong_exchange(self):
         """A publication to an exchange, whose names may be too long, and whose key isn't a queue's name."""
@@ -66,8 +67,8 @@ class Faults:
         stopped = [conn for conn, client in self.world.clients.items() if client.stopped] or [77]
         conn = self.random.choice(stopped)
         line = self.random.choice((
-            b"client %d seed 99", b"client %d seed 0", b"begin %d pop celery", b"begin %d pop unacked", b"step %d", b"run %d",
-            b"stop %d", b"begin %d pass 1", b"begin %d nothing",
+            b"client %d seed 99", b"client %d seed 0", b"begin %d pop celery", b"begin %d pop unacked", b"step %d",
+            b"run %d", b"stop %d", b"begin %d pass 1", b"begin %d nothing",
         ))
         return line % conn
 

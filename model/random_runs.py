@@ -53,9 +53,10 @@ def schedule_of(seed, full):
 
 def first_difference(wanted, given):
     """The first line in which two texts differ."""
-    pairs = list(zip(wanted.split(b"\n"), given.split(b"\n")))
-    place = next((place for place, (one, other) in enumerate(pairs) if one != other), len(pairs))
-    return b"\n".join(b"%d: model %b\n%d: program %b" % (n + 1, one[:300], n + 1, other[:300]) for n, (one, other) in enumerate(pairs) if n == place).decode("latin-1")
+    for number, (one, other) in enumerate(zip(wanted.split(b"\n"), given.split(b"\n")), 1):
+        if one != other:
+            return (b"line %d\nmodel   %b\nprogram %b" % (number, one[:300], other[:300])).decode("latin-1")
+    return "one text is a front of the other"
 
 
 def differs(program, seed, full, put_off):
@@ -104,7 +105,8 @@ def main():
                 print(endings.total(), "schedules so far", file=sys.stderr, flush=True)
             if time.monotonic() > end:
                 break
-    print(endings.total(), "schedules,", entries, "entries, no difference:", ", ".join("%s %d" % it for it in sorted(endings.items())))
+    ended = ", ".join("%s %d" % it for it in sorted(endings.items()))
+    print(endings.total(), "schedules,", entries, "entries, no difference:", ended)
     print("reached:", ", ".join("%s %d" % it for it in sorted(names.items())))
 
 

@@ -137,8 +137,8 @@ class Maker(Faults, JsonMaker):
 
     def dotted(self, letters):
         """A few words of few letters, parted by dots; a dash where there is none."""
-        words = [b"".join(self.random.choices(letters, k=self.random.choice((0, 1, 1, 1, 2)))) for _ in range(self.random.randint(1, 4))]
-        return b".".join(words) or b"-"
+        lengths = self.random.choices((0, 1, 1, 1, 2), k=self.random.randint(1, 4))
+        return b".".join(b"".join(self.random.choices(letters, k=length)) for length in lengths) or b"-"
 
     def routing_key(self):
         return self.random.choice((b"rk", b"a.b", b"a", self.dotted([b"a", b"b"]), self.queue()))
@@ -223,7 +223,8 @@ class Maker(Faults, JsonMaker):
         if not resting:
             return self.pop()
         conn, exchange, key, queue = resting[0], self.exchange(), self.routing_key(), self.queue()
-        for block in (b"declare %b %b - %b" % (exchange, key, queue), b"publish %b %b 6 t []" % (exchange, key), b"pop %b" % queue):
+        bound = b"declare %b %b - %b" % (exchange, key, queue)
+        for block in (bound, b"publish %b %b 6 t []" % (exchange, key), b"pop %b" % queue):
             self.says(b"begin %d %b", conn, block)
             self.says(b"run %d", conn)
         for _ in range(self.random.randint(0, 2)):
