@@ -22,7 +22,7 @@ use Rattle.schedule_model.specs.Programs.{are_arguments, program_craft}
 use Rattle.schedule_model.specs.Schedules.{publish_plan}
 use Rattle.schedule_model.specs.declared.line.Asked.TheVariants as asked
 use Rattle.client_blocks.specs.Blocks.{script_left}
-use Rattle.client_plans.specs.Plans.{IsPrepared, are_no_parts, asked_binding, asked_return, way_reason}
+use Rattle.client_plans.specs.Plans.{IsPrepared, are_no_parts, asked_binding, asked_return, is_no_binding, way_reason}
 use Rattle.client_plans.specs.Tasks.{Names}
 use Rattle.client_blocks.specs.declared.left.BlockLeft.{BlockLeft}
 use Rattle.client_plans.specs.declared.fault.PlanFault.{PlanFault}
@@ -162,23 +162,23 @@ publishable x k d way names direct = ap is_name names.routing_key_is ∙ by x wa
 
 -- ---- a declaration
 
-pub bad_part : (s n : ℕ) (change : Change) (x k p q : Bytes) → (are_no_parts x k p || is_no_name q) ≡ true → first_reason (asked_tests program_craft s n (asked_binding change x k p q)) ≡ Some Name
+pub bad_part : (s n : ℕ) (change : Change) (x k p q : Bytes) → is_no_binding x k p q ≡ true → first_reason (asked_tests program_craft s n (asked_binding change x k p q)) ≡ Some Name
 bad_part s n Add x k p q e = ap (λ y. first_reason (before_rest y (is_reserved q) [])) e
 bad_part s n Remove x k p q e = ap (λ y. first_reason (before_rest y (is_reserved q) [])) e
 
 two_known : (a b x y : Bool) → a ≡ x → b ≡ y → first_reason (before_rest a b []) ≡ first_reason (before_rest x y [])
 two_known a b x y e f = ap (λ z. first_reason (before_rest z b [])) e ∙ ap (λ z. first_reason (before_rest x z [])) f
 
-pub bad_queue : (s n : ℕ) (change : Change) (x k p q : Bytes) → (are_no_parts x k p || is_no_name q) ≡ false → is_reserved q ≡ true → first_reason (asked_tests program_craft s n (asked_binding change x k p q)) ≡ Some Reserved
-bad_queue s n Add x k p q e f = two_known (are_no_parts x k p || is_no_name q) (is_reserved q) false true e f
-bad_queue s n Remove x k p q e f = two_known (are_no_parts x k p || is_no_name q) (is_reserved q) false true e f
+pub bad_queue : (s n : ℕ) (change : Change) (x k p q : Bytes) → is_no_binding x k p q ≡ false → is_reserved q ≡ true → first_reason (asked_tests program_craft s n (asked_binding change x k p q)) ≡ Some Reserved
+bad_queue s n Add x k p q e f = two_known (is_no_binding x k p q) (is_reserved q) false true e f
+bad_queue s n Remove x k p q e f = two_known (is_no_binding x k p q) (is_reserved q) false true e f
 
 not_false : (b : Bool) → not b ≡ false → b ≡ true
 not_false true e = refl
 not_false false e = cc
 
 -- a binding that passed is one of parts and a lawful queue
-pub lawful_parts : (x k p q : Bytes) → (are_no_parts x k p || is_no_name q) ≡ false → is_reserved q ≡ false → (is_part x ≡ true) × (is_part k ≡ true) × (is_part p ≡ true) × (is_name q ≡ true)
+pub lawful_parts : (x k p q : Bytes) → is_no_binding x k p q ≡ false → is_reserved q ≡ false → (is_part x ≡ true) × (is_part k ≡ true) × (is_part p ≡ true) × (is_name q ≡ true)
 lawful_parts x k p q e f =
     let a = or_false (are_no_parts x k p) (is_no_name q) e in
     let b = or_false (not (is_part x) || not (is_part k)) (not (is_part p)) a.0 in
@@ -186,10 +186,10 @@ lawful_parts x k p q e f =
     (not_false (is_part x) c.0, not_false (is_part k) c.1, not_false (is_part p) b.1, lawful q a.1 f)
 
 -- what is begun of a lawful binding
-pub declared : (s n : ℕ) (change : Change) (x k p q : Bytes) (l : BlockLeft) (d : ℕ) → (are_no_parts x k p || is_no_name q) ≡ false → is_reserved q ≡ false
+pub declared : (s n : ℕ) (change : Change) (x k p q : Bytes) (l : BlockLeft) (d : ℕ) → is_no_binding x k p q ≡ false → is_reserved q ≡ false
     → script_left l ≡ script_of plain_setting s 0 (declared_plan change x k p q) → d ≡ n → IsPrepared s n (asked_binding change x k p q) (Ok (record { left = l; drawn = d }))
-declared s n Add x k p q l d e f left drawn = (two_known (are_no_parts x k p || is_no_name q) (is_reserved q) false false e f, (Declare x k p q, refl, (left, drawn)))
-declared s n Remove x k p q l d e f left drawn = (two_known (are_no_parts x k p || is_no_name q) (is_reserved q) false false e f, (Undeclare x k p q, refl, (left, drawn)))
+declared s n Add x k p q l d e f left drawn = (two_known (is_no_binding x k p q) (is_reserved q) false false e f, (Declare x k p q, refl, (left, drawn)))
+declared s n Remove x k p q l d e f left drawn = (two_known (is_no_binding x k p q) (is_reserved q) false false e f, (Undeclare x k p q, refl, (left, drawn)))
 
 -- ---- a return
 

@@ -54,6 +54,10 @@ way_reason x k = first_reason ((is_empty x && is_no_name k, Name) ∷ (is_empty 
 abbrev pub are_no_parts : Bytes → Bytes → Bytes → Bool
 are_no_parts x k p = not (is_part x) || not (is_part k) || not (is_part p)
 
+-- whether these aren't the parts of a binding, or no queue's name is spelled so
+abbrev pub is_no_binding : Bytes → Bytes → Bytes → Bytes → Bool
+is_no_binding x k p q = are_no_parts x k p || is_no_name q
+
 -- ---- answers
 
 -- what is begun by the plan of a client of this seed that drew n tags

@@ -3,7 +3,7 @@ ghost use Rattle.std.specs.Prelude.{◌≡◌, IfOk, true};
 ghost use Rattle.queue_keys.specs.Bindings.{is_part};
 ghost use Rattle.queue_keys.specs.Names.{is_name};
 ghost use Rattle.routes.specs.Declares.{declaration_plan, declared_plan};
-ghost use Rattle.client_plans.specs.Plans.{IsPrepared, are_no_parts, asked_binding};
+ghost use Rattle.client_plans.specs.Plans.{IsPrepared, are_no_parts, asked_binding, is_no_binding};
 
 use crate::PlanFault;
 use crate::names::{is_no_name, queue_name};
@@ -30,7 +30,7 @@ pub(crate) fn declaring(
     ensures { IsPrepared seed drawn
         (asked_binding change exchange.now routing_key.now pattern.now queue.now) result }
 {
-    if are_no_parts(exchange, routing_key, pattern) || is_no_name(queue) {
+    if is_no_binding(exchange, routing_key, pattern, queue) {
         return Err(PlanFault::Bad(Reason::Name));
     }
     if is_reserved(queue.as_slice()) {
@@ -39,6 +39,18 @@ pub(crate) fn declaring(
     let declaration = declaration_of(alloc, change, exchange, routing_key, pattern, queue)?;
     let left = BlockLeft::declaration(alloc, declaration)?;
     Ok(BegunBlock { left, drawn })
+}
+
+/// Whether these aren't the parts of a binding, or no queue's name is spelled so, reserved or not.
+fn is_no_binding(
+    exchange: &Bytes,
+    routing_key: &Bytes,
+    pattern: &Bytes,
+    queue: &Bytes,
+) -> bool
+    ensures { result ≡ is_no_binding exchange.now routing_key.now pattern.now queue.now }
+{
+    are_no_parts(exchange, routing_key, pattern) || is_no_name(queue)
 }
 
 /// Whether one of these isn't the exchange, the routing key or the pattern of a declaration.

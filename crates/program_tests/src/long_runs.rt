@@ -56,7 +56,8 @@ fn arguments_of_sixty_thousand_bytes_are_published(rt: HostRuntime) -> Result<()
 /// Asserts of a row where the message is after the stop, and that the client is gone.
 fn expect_stopped<R: Abort>(rt: &R, alloc: Global, row: stops::Row) -> Result<(), AllocError> {
     let (block, steps, places) = row;
-    let head = "celery-schedule 1\nclient 1 seed 7\nclient 2 seed 8\nbegin 1 publish - celery 0 tasks.add []\nrun 1\n";
+    let head =
+        "celery-schedule 1\nclient 1 seed 7\nclient 2 seed 8\nbegin 1 publish - celery 0 tasks.add []\nrun 1\n";
     let begun = format!(in alloc; "{head}{block}")?;
     let mut schedule = repeated(alloc, begun.as_str(), "step 2\n", steps)?;
     schedule.push_str("stop 2\n")?;

@@ -16,6 +16,5 @@ abbrev pub HasSameGoneBut : ℕ → Past → Past → Type 0
 HasSameGoneBut k p q = (c : ℕ) → (k == c) ≡ false → has_stopped c (history_of q.history).entries ≡ has_stopped c (history_of p.history).entries
 
 -- the table is as it was, and just those are gone who were
-pub record HasSameClients (p q : Past) : Type 0 where
-  pub table : HasSameTable p q
-  pub gone : HasSameGone p q
+abbrev pub HasSameClients : Past → Past → Type 0
+HasSameClients p q = HasSameTable p q × HasSameGone p q

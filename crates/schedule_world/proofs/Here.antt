@@ -34,7 +34,7 @@ pub same_here : (m n : Shelf) (es fs : List (Entry Heard)) → n ≡ m → ((c :
 same_here m n es fs e same here c h = same c ∙ here c (ap (λ t. says_stopped (get t c)) (sym e) ∙ h)
 
 pub still_here : (m : Shelf) (p q : Past) → HasSameClients p q → AreHere m p.history.entries → AreHere m q.history.entries
-still_here m p q same here c h = same.gone c ∙ here c h
+still_here m p q same here c h = same.1 c ∙ here c h
 
 -- a book less, of a client that isn't gone
 less_here : (m : Shelf) (es : List (Entry Heard)) (c : ℕ) → AreHere m es → has_stopped c es ≡ false → AreHere (remove m c) es

@@ -5,6 +5,7 @@ pub mod Here
 pub mod Known
 pub mod Lawful
 pub mod Numbered
+pub mod Presence
 pub mod Shelved
 pub mod Spoken
 pub mod Stops

@@ -20,7 +20,4 @@ invariant_of-self-2 c =
 pub returns-clause-clients : goal.returns-clause-clients
 returns-clause-clients c =
     let grown : c.add.new.self.entries ≡ c.args.self.now.history.entries ++ Call c.args.client c.args.self.now.moment c.args.words c.args.reply ∷ [] = ap (λ h. h.entries) c.in_ok-add.ensures.ok in
-    record {
-      table = ap (λ h. h.clients) c.in_ok-add.ensures.ok;
-      gone = λ k. gone_as_before k c.args.self.now.history.entries c.add.new.self.entries c.args.client c.args.self.now.moment c.args.words c.args.reply grown;
-    }
+    (ap (λ h. h.clients) c.in_ok-add.ensures.ok, λ k. gone_as_before k c.args.self.now.history.entries c.add.new.self.entries c.args.client c.args.self.now.moment c.args.words c.args.reply grown)

@@ -17,20 +17,20 @@ returns-in_err-book c =
     (ap (λ b. desk_with c.args.self.now.past (books_of b)) c.in_err-book.ensures.kept)
 
 pub invariant_of-self-in-Break-branch-2 : goal.invariant_of-self-in-Break-branch-2
-invariant_of-self-in-Break-branch-2 c = record { known = taken_known c.args.self.now.books c.take_busy.new.self c.args.self.now.past.history.clients c.say_one.new.self.history.clients c.args.client c.args.self.now.known c.in_ok-book.ensures.removed c.say_one.ensures.clients.table; here = still_here c.take_busy.new.self c.args.self.now.past c.say_one.new.self c.say_one.ensures.clients (taken_here c.args.self.now.books c.take_busy.new.self c.args.self.now.past.history.entries c.args.client c.in_ok-book.book c.args.self.now.here c.in_ok-book.ensures.taken.0 c.in_ok-book.ensures.taken.1 c.in_ok-book.ensures.removed) }
+invariant_of-self-in-Break-branch-2 c = record { known = taken_known c.args.self.now.books c.take_busy.new.self c.args.self.now.past.history.clients c.say_one.new.self.history.clients c.args.client c.args.self.now.known c.in_ok-book.ensures.removed c.say_one.ensures.clients.0; here = still_here c.take_busy.new.self c.args.self.now.past c.say_one.new.self c.say_one.ensures.clients (taken_here c.args.self.now.books c.take_busy.new.self c.args.self.now.past.history.entries c.args.client c.in_ok-book.book c.args.self.now.here c.in_ok-book.ensures.taken.0 c.in_ok-book.ensures.taken.1 c.in_ok-book.ensures.removed) }
 
 pub invariant_of-self-2 : goal.invariant_of-self-2
 invariant_of-self-2 c =
-    let there : has_number c.args.client c.say_one.new.self.history.clients ≡ true = ap (has_number c.args.client) c.say_one.ensures.clients.table ∙ c.args.self.now.known c.args.client (ap is_some c.in_ok-book.ensures.taken.0) in
+    let there : has_number c.args.client c.say_one.new.self.history.clients ≡ true = ap (has_number c.args.client) c.say_one.ensures.clients.0 ∙ c.args.self.now.known c.args.client (ap is_some c.in_ok-book.ensures.taken.0) in
     record {
       known =
           set_known c.take_busy.new.self c.set.new.self c.say_one.new.self.history.clients c.args.client _ c.set.result
-          (taken_known c.args.self.now.books c.take_busy.new.self c.args.self.now.past.history.clients c.say_one.new.self.history.clients c.args.client c.args.self.now.known c.in_ok-book.ensures.removed c.say_one.ensures.clients.table)
+          (taken_known c.args.self.now.books c.take_busy.new.self c.args.self.now.past.history.clients c.say_one.new.self.history.clients c.args.client c.args.self.now.known c.in_ok-book.ensures.removed c.say_one.ensures.clients.0)
           there c.set.ensures.ok c.set.ensures.err;
       here =
           set_here c.take_busy.new.self c.set.new.self c.say_one.new.self.history.entries c.args.client _ c.set.result
           (still_here c.take_busy.new.self c.args.self.now.past c.say_one.new.self c.say_one.ensures.clients (taken_here c.args.self.now.books c.take_busy.new.self c.args.self.now.past.history.entries c.args.client c.in_ok-book.book c.args.self.now.here c.in_ok-book.ensures.taken.0 c.in_ok-book.ensures.taken.1 c.in_ok-book.ensures.removed))
-          (c.say_one.ensures.clients.gone c.args.client ∙ book_here c.args.self.now.books c.args.self.now.past.history.entries c.args.client c.in_ok-book.book c.args.self.now.here c.in_ok-book.ensures.taken.0 c.in_ok-book.ensures.taken.1)
+          (c.say_one.ensures.clients.1 c.args.client ∙ book_here c.args.self.now.books c.args.self.now.past.history.entries c.args.client c.in_ok-book.book c.args.self.now.here c.in_ok-book.ensures.taken.0 c.in_ok-book.ensures.taken.1)
           c.set.ensures.ok c.set.ensures.err;
     }
 
