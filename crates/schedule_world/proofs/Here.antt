@@ -60,6 +60,13 @@ pub set_here : (n t : Shelf) (es : List (Entry Heard)) (c : ℕ) (k : ClientBook
 set_here n t es c k (Ok u) here on ok err = same_here (insert n c k) t es es ok (λ q i. has_stopped q es) (more_here n es c k here on)
 set_here n t es c k (Err e) here on ok err = same_here n t es es err (λ q i. has_stopped q es) here
 
+-- a book that says so from now on, if there was the memory for it
+pub stopped_here : (m t : Shelf) (es : List (Entry Heard)) (c : ℕ) (k : ClientBook) (r : Result (Unit {0}) AllocError) → AreHere m es → get m c ≡ Some k → k.is_stopped ≡ false → OnOk r ((j : ClientBook) → get m c ≡ Some j → t ≡ insert (remove m c) c (record j { is_stopped = true })) → OnErr r (t ≡ remove m c) → AreHere t es
+stopped_here m t es c k (Ok u) here found on ok err =
+    let there = book_here m es c k here found on in
+    same_here (insert (remove m c) c (record k { is_stopped = true })) t es es (ok k found) (λ q i. has_stopped q es) (more_here (remove m c) es c (record k { is_stopped = true }) (less_here m es c here there) there)
+stopped_here m t es c k (Err e) here found on ok err = taken_here m t es c k here found on err
+
 unlike : (c d : ℕ) → d ≢ c → (c == d) ≡ false
 unlike c d n = grind (arith, common_steps, n)
 

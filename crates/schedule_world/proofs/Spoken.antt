@@ -86,3 +86,8 @@ taken_known m n cs ds c known e f = known_same (remove m c) n cs ds e f (one_les
 pub set_known : (n t : Shelf) (ds : List (ℕ × ℕ)) (c : ℕ) (k : ClientBook) (r : Result (Unit {0}) AllocError) → AreKnown n ds → has_number c ds ≡ true → OnOk r (t ≡ insert n c k) → OnErr r (t ≡ n) → AreKnown t ds
 set_known n t ds c k (Ok u) known h ok err = known_same (insert n c k) t ds ds ok refl (one_more_known n ds c k known h)
 set_known n t ds c k (Err e) known h ok err = known_same n t ds ds err refl known
+
+-- and after it was noted in it that its client is gone, if there was the memory
+pub stopped_known : (m t : Shelf) (cs : List (ℕ × ℕ)) (c : ℕ) (k : ClientBook) (r : Result (Unit {0}) AllocError) → AreKnown m cs → has_number c cs ≡ true → get m c ≡ Some k → OnOk r ((j : ClientBook) → get m c ≡ Some j → t ≡ insert (remove m c) c (record j { is_stopped = true })) → OnErr r (t ≡ remove m c) → AreKnown t cs
+stopped_known m t cs c k (Ok u) known h found ok err = known_same (insert (remove m c) c (record k { is_stopped = true })) t cs cs (ok k found) refl (one_more_known (remove m c) cs c (record k { is_stopped = true }) (one_less_known m cs c known) h)
+stopped_known m t cs c k (Err e) known h found ok err = taken_known m t cs cs c known err refl
