@@ -1,5 +1,5 @@
 -- Lines that need not wait are built.
-use Rattle.std.proofs.Common.{◌≡◌, ℕ, ◌≤◌, List, [], ◌∷◌, length, codes, Bool, true, false, refl, ap, subst, Option, None, Some, arith}
+use Rattle.std.proofs.Common.{◌≡◌, ℕ, ◌≤◌, List, [], ◌∷◌, length, codes, Bool, true, false, refl, subst, Option, None, Some, arith}
 use Rattle.std.specs.Prelude.{if◌then◌else◌, ◌&&◌, IfSome, bytes_eq, nat_le}
 use Rattle.std.specs.List.{list_all}
 use Rattle.std.proofs.lemmas.Bool.{and_parts}

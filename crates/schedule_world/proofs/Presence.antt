@@ -3,7 +3,7 @@ use Rattle.std.proofs.Common.{◌≡◌, List, ◌∷◌, [], ◌++◌, Bool, tr
 use Rattle.std.specs.Prelude.{◌||◌, not, if◌then◌else◌}
 use Rattle.line_text.specs.declared.reason.Reason.TheVariants.{Idle, Stopped}
 use Rattle.client_blocks.specs.Blocks.{script_left}
-use Rattle.schedule_model.specs.Faults.{Test, first_reason, has_more, is_busy, is_script_off, present_tests}
+use Rattle.schedule_model.specs.Faults.{Test, first_reason, has_more, is_busy, present_tests}
 use Rattle.schedule_world.specs.Books.{book_of}
 use Rattle.schedule_world.specs.Rests.{is_book_gone}
 use Rattle.schedule_world.specs.declared.book.ClientBook.{ClientBook}
