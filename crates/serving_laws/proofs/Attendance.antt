@@ -1,34 +1,37 @@
 -- What a served connection asked, and what went back.
-use Rattle.std.proofs.Common.{List, [], ap, append-nil, append_assoc, false, subst, sym, ℕ, ◌++◌, ◌∙◌, ◌∷◌, ◌≡◌}
-use Rattle.std.specs.Prelude.{Bool, None, Option, Some}
+use Rattle.std.proofs.Common.{List, [], ap, append-nil, append_assoc, false, subst, sym, true, ℕ, ◌++◌, ◌∙◌, ◌∷◌, ◌≡◌}
+use Rattle.std.specs.Prelude.{None, Option, Some}
 use Rattle.std.specs.Io.KnownBytes.{Appends}
 use Rattle.store_model.specs.Store.{StoreView}
 use Rattle.desks.specs.Deeds.{Deed}
 use Rattle.desks.specs.declared.desk.DeskFault.{DeskFault}
 use Rattle.net_links.specs.LinkViews.{LinkView}
 use Rattle.net_links.specs.Traffics.{ClosesOne, IsFresh, KeepsClosed}
-use Rattle.sessions.specs.Hearings.{HasHeard, WritesAll, WritesFront}
+use Rattle.sessions.specs.Hearings.{HasHeard}
 use Rattle.sessions.specs.SessionEnds.{EndsSession, HasSession}
 use Rattle.sessions.specs.declared.conversing.SessionEnd.{SessionEnd}
 use Rattle.sessions.specs.declared.ends.Why.{Why}
 use Rattle.sessions.specs.declared.ends.Why.TheVariants.{Closed, Ended, Full, Link, Memory, NotWords, Turns, Wire}
 use Rattle.store_server.specs.Servings.{HasServedOne, store_goes}
-use Rattle.serving_laws.specs.ServedHistories.{Attended, ClosesAll, HasAttended, HasAttendedAll, TellsBoth}
+use Rattle.serving_laws.specs.ServedHistories.{Attended, ClosesAll, HasAttended, HasAttendedAll, IsLeftSo, TellsBoth}
 
-front_of : (deeds : List Deed) (sent : List ℕ) → WritesAll deeds sent → WritesFront deeds sent
-front_of deeds sent all = ([], sym (append-nil sent ∙ all))
+-- what was asked in a session at a desk that nobody shares, and what stands at its end
+abbrev AsksUntil : {D : Type 0} → (D → List Deed → D → Type 0) → (ℕ → Type 0) → D → D → List ℕ → List ℕ → ℕ → Why → Type 0
+AsksUntil goes gives first now stream sent count why = (h : HasHeard goes gives first now stream count) × IsLeftSo why h.deeds sent h.from h.rest
 
--- what was asked in a session, and a front of the answers is written, however it ended
-pub asked_in : {D : Type 0} (goes : D → List Deed → D → Type 0) (gives : ℕ → Type 0) (shared : Bool) (fault : Option DeskFault) (first now : D) (old new : LinkView) (turns receives : ℕ) (stream sent : List ℕ) (count : ℕ) (why : Why)
-    → EndsSession goes gives shared fault first now old new turns receives stream sent count why → (h : HasHeard goes gives first now stream count) × WritesFront h.deeds sent
-asked_in goes gives shared fault first now old new turns receives stream sent count Ended (h, w, r, e, k, f) = (h, front_of h.deeds sent w)
-asked_in goes gives shared fault first now old new turns receives stream sent count Turns (h, w, f, e, c) = (h, front_of h.deeds sent w)
-asked_in goes gives shared fault first now old new turns receives stream sent count Link (h, w, x) = (h, w)
-asked_in goes gives shared fault first now old new turns receives stream sent count (Wire kind place) ((h, w, x), calm) = (h, front_of h.deeds sent w)
-asked_in goes gives shared fault first now old new turns receives stream sent count NotWords ((h, w, x), calm) = (h, front_of h.deeds sent w)
-asked_in goes gives shared fault first now old new turns receives stream sent count (Full entries bytes) ((h, w, b, i), calm) = (h, front_of h.deeds sent w)
-asked_in goes gives shared fault first now old new turns receives stream sent count Closed ((h, w, b, i), calm) = (h, front_of h.deeds sent w)
-asked_in goes gives shared fault first now old new turns receives stream sent count Memory (h, w) = (h, w)
+unshared : false ≡ true → ⊥
+unshared e = absurd cc
+
+pub asked_in : {D : Type 0} (goes : D → List Deed → D → Type 0) (gives : ℕ → Type 0) (fault : Option DeskFault) (first now : D) (old new : LinkView) (turns receives : ℕ) (stream sent : List ℕ) (count : ℕ) (why : Why)
+    → EndsSession goes gives false fault first now old new turns receives stream sent count why → AsksUntil goes gives first now stream sent count why
+asked_in goes gives fault first now old new turns receives stream sent count Ended (h, w, none, rose, kept, few) = (h, (w, none))
+asked_in goes gives fault first now old new turns receives stream sent count Turns (h, w, front, over, calm) = (h, (w, front))
+asked_in goes gives fault first now old new turns receives stream sent count Link (h, w, cause) = (h, w)
+asked_in goes gives fault first now old new turns receives stream sent count (Wire kind place) ((h, w, wrong), calm) = (h, (w, wrong))
+asked_in goes gives fault first now old new turns receives stream sent count NotWords ((h, w, none), calm) = (h, (w, none))
+asked_in goes gives fault first now old new turns receives stream sent count (Full entries bytes) ((h, w, b, refused), calm) = absurd (unshared refused.0)
+asked_in goes gives fault first now old new turns receives stream sent count Closed ((h, w, b, refused), calm) = absurd (unshared refused.0)
+asked_in goes gives fault first now old new turns receives stream sent count Memory (h, w) = (h, w)
 
 -- what a link carried that carried nothing before
 carried_from : (was now : Option (List ℕ)) (bytes : List ℕ) → was ≡ Some [] → Appends was now bytes → now ≡ Some bytes
@@ -46,8 +49,8 @@ module _ (gives : ℕ → Type 0) (turns c : ℕ) (s t : StoreView) (closed clos
   abbrev its : HasSession (store_goes c) gives false o.visited.fault s o.visited.left o.link o.link2 turns end.commands end.why
   its = o.visited.session
 
-  abbrev asked : (h : HasHeard (store_goes c) gives s o.visited.left its.stream end.commands) × WritesFront h.deeds its.sent
-  asked = asked_in (store_goes c) gives false o.visited.fault s o.visited.left o.link o.link2 turns its.receives its.stream its.sent end.commands end.why its.ends
+  abbrev asked : AsksUntil (store_goes c) gives s o.visited.left its.stream its.sent end.commands end.why
+  asked = asked_in (store_goes c) gives o.visited.fault s o.visited.left o.link o.link2 turns its.receives its.stream its.sent end.commands end.why its.ends
 
   abbrev pub attended : Attended
   attended = record { link = o.link2; end = end; deeds = asked.0.deeds }
@@ -66,7 +69,7 @@ module _ (gives : ℕ → Type 0) (turns c : ℕ) (s t : StoreView) (closed clos
     leads = asked.0.leads;
     calls = asked.0.calls;
     counted = asked.0.counted;
-    answered = asked.1;
+    left = asked.1;
   }
 
 -- ---- a net that told of its links goes on to
@@ -87,7 +90,7 @@ one_as gives a b l x p h = record {
   leads = h.leads;
   calls = h.calls;
   counted = h.counted;
-  answered = h.answered;
+  left = h.left;
 }
 
 pub all_as : (gives : ℕ → Type 0) (a b : Option (List LinkView)) (l : LinkView) (xs : List Attended) → ClosesOne a b l → HasAttendedAll gives b xs → HasAttendedAll gives a xs

@@ -2,8 +2,9 @@
 use Rattle.std.specs.Prelude.{List, None, Option, Some, [], false, length, map, suc, true, zero, ⊤, ℕ, ◌+◌, ◌++◌, ◌∷◌, ◌≡◌}
 use Rattle.std.specs.FinMap.{empty}
 use Rattle.wire_values.specs.declared.value.Value.{Value}
+use Rattle.wire_grammar.specs.Spells.{IsFront}
 use Rattle.wire_grammar.specs.Streams.{Leads}
-use Rattle.resp_wire.specs.Stands.{held_to}
+use Rattle.resp_wire.specs.Stands.{IsFault, held_to}
 use Rattle.store_model.specs.Keys.{Keys}
 use Rattle.store_model.specs.Store.{StoreView}
 use Rattle.store_laws.specs.StoreLimits.{AreLimited, ReplyFits, has_counts}
@@ -14,8 +15,10 @@ use Rattle.place_model.specs.declared.history.Entry.TheVariants as entry
 use Rattle.desks.specs.Deeds.{Deed, DidStop, entries_by}
 use Rattle.net_links.specs.LinkViews.{LinkView}
 use Rattle.sessions.specs.Calls.{AreCalls}
-use Rattle.sessions.specs.Hearings.{WritesFront}
+use Rattle.sessions.specs.Hearings.{BeginsNoCommand, WritesAll, WritesFront}
 use Rattle.sessions.specs.declared.conversing.SessionEnd.{SessionEnd}
+use Rattle.sessions.specs.declared.ends.Why.{Why}
+use Rattle.sessions.specs.declared.ends.Why.TheVariants.{Closed, Ended, Full, Link, Memory, NotWords, Turns, Wire}
 
 -- a served connection: its link as it was closed, how its session ended, and what it did at the store
 pub record Attended : Type 0 where
@@ -50,7 +53,18 @@ abbrev pub TellsBoth : Option (List LinkView) → LinkView → List ℕ → List
 TellsBoth None link received sent = ⊤
 TellsBoth (Some closed) link received sent = (link.received ≡ Some received) × (link.sent ≡ Some sent)
 
--- what was asked are the commands of whole values that came over the link, each once and in order, and what went back are their answers, not all of them perhaps
+-- what stands where a session ended so, after the values that were asked: where the other side ended, all was asked and answered; after the last turn, at a fault and at a value that is no command, all before it was; where the link failed or memory was wanting, a front of the answers was sent; a store that nobody shares is never full nor closed
+abbrev pub IsLeftSo : Why → List Deed → List ℕ → ℕ → List ℕ → Type 0
+IsLeftSo Ended deeds sent from rest = WritesAll deeds sent × (rest ≡ [])
+IsLeftSo Turns deeds sent from rest = WritesAll deeds sent × IsFront rest
+IsLeftSo (Wire kind place) deeds sent from rest = WritesAll deeds sent × IsFault from rest kind place
+IsLeftSo NotWords deeds sent from rest = WritesAll deeds sent × BeginsNoCommand rest
+IsLeftSo Link deeds sent from rest = WritesFront deeds sent
+IsLeftSo Memory deeds sent from rest = WritesFront deeds sent
+IsLeftSo (Full entries bytes) deeds sent from rest = ⊥
+IsLeftSo Closed deeds sent from rest = ⊥
+
+-- what was asked are the commands of whole values that came over the link, each once and in order, what went back are their answers, and what is left unasked and unanswered is as the session's end says
 pub record HasAttended (gives : ℕ → Type 0) (closed : Option (List LinkView)) (a : Attended) : Type 0 where
   pub received : List ℕ
   pub sent : List ℕ
@@ -61,7 +75,7 @@ pub record HasAttended (gives : ℕ → Type 0) (closed : Option (List LinkView)
   pub leads : Leads 0 received values from rest
   pub calls : AreCalls gives values a.deeds
   pub counted : a.end.commands ≡ held_to (length a.deeds)
-  pub answered : WritesFront a.deeds sent
+  pub left : IsLeftSo a.end.why a.deeds sent from rest
 
 -- so of each
 abbrev pub HasAttendedAll : (ℕ → Type 0) → Option (List LinkView) → List Attended → Type 0
