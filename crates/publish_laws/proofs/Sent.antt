@@ -1,10 +1,9 @@
 -- What is sealed of a publish line carries its task.
-use Rattle.std.proofs.Common.{◌≡◌, ◌≤◌, ◌<◌, ◌^◌, ℕ, length, true, Some, None, Ok, if◌then◌else◌, refl, sym, ap, subst, ◌∙◌, arith}
-use Rattle.std.specs.Str.{is_utf8}
+use Rattle.std.proofs.Common.{◌≡◌, ◌≤◌, ℕ, length, true, Some, None, if◌then◌else◌, refl, sym, ap, subst, ◌∙◌, arith}
 use Rattle.std.proofs.lemmas.Str.{is_utf8-from_IsUtf8}
 use Rattle.serde_json.specs.Data.{Data, depth}
 use Rattle.serde_json.specs.Read.{max_depth, read}
-use Rattle.serde_json.specs.Written.{compact_text, has_float}
+use Rattle.serde_json.specs.Written.{compact_text}
 use Rattle.envelope.specs.Envelopes.{envelope_at, json_at, parts_in, parts_or_none}
 use Rattle.envelope_trees.proofs.TextsBack.{read-compact_text}
 use Rattle.delivery_tags.specs.Tags.{tag, tag_number}
@@ -12,8 +11,8 @@ use Rattle.queue_keys.specs.Names.{Bytes}
 use Rattle.schedule_model.specs.Drafts.{arguments_of, content_tree, sealed_task, task_tree}
 use Rattle.message_schedules.proofs.Seals.{IsSealed, sealed_known}
 use Rattle.message_schedules.proofs.TaskTrees.{content_text, sorted_content}
-use Rattle.task_message.specs.Drafted.{can_draft, drafted_content, drafted_headers}
-use Rattle.task_message.specs.Tasks.{TaskParts, headers_in, task_of}
+use Rattle.task_message.specs.Drafted.{can_draft}
+use Rattle.task_message.specs.Tasks.{TaskParts}
 use Rattle.task_message.proofs.Draftable.{content_shallow, content_whole, draftable}
 use Rattle.task_laws.proofs.DraftsBack.{told_back}
 use Rattle.client_plans.specs.Tasks.{published_task}
@@ -55,4 +54,4 @@ pub sent : (s n : ℕ) (x k : Bytes) (p : ℕ) (task j v : Bytes) → 1 ≤ leng
     → (args : Data) × (arguments_of j ≡ Some args) × CarriesTask (published_task (tag s n) task args) v
 sent s n x k p task j v some e =
     let i = sealed_known s n x k p task j v e in
-    (i.args, (i.spelled, carries s n x k p task j v some i))
+    (i.args, i.spelled, carries s n x k p task j v some i)
