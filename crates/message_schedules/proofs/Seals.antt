@@ -18,7 +18,7 @@ use Rattle.command_blocks.specs.EnvelopeTexts.{tag_as_written, texts, way_of, wa
 use Rattle.queue_keys.specs.Names.{Bytes}
 use Rattle.command_blocks.specs.Setting.{Way}
 use Rattle.queue_keys.proofs.Basics.{same-refl}
-use Rattle.schedule_model.specs.Drafts.{are_told, are_texts, are_within, arguments_of, if_sealed, sealed_task, task_tree}
+use Rattle.schedule_model.specs.Drafts.{are_told, are_texts, are_within, arguments_of, content_tree, if_sealed, sealed_task, task_tree}
 use Rattle.schedule_model.specs.Programs.{program_craft}
 use Rattle.schedule_model.proofs.ArgumentTrees.{IsArguments, arguments_known}
 use Rattle.schedule_laws.specs.Sound.{SealsTell}
@@ -57,6 +57,16 @@ told s n d p text reads says =
     way : Way → Option Way
     way w = Some w
 
+-- what was sealed of a task that was asked for: the text of an envelope, which says the task's content, tag, exchange and routing key
+pub record IsSealed (s n : ℕ) (x k : Bytes) (p : ℕ) (task j v : Bytes) : Type 0 where
+  pub args : Data
+  pub spelled : arguments_of j ≡ Some args
+  pub drafted : IsDrafted (tag s n) x k p task args
+  pub tag_is : tag s n ≡ tag_text (tag_number s n)
+  pub text : v ≡ compact_text (task_tree (tag s n) x k p task args)
+  pub says : said_by (task_tree (tag s n) x k p task args) ≡ Ok (record { content = compact_text (content_tree args); tag = tag_number s n; exchange = x; routing_key = k })
+  pub reads : envelope_at (compact_text (task_tree (tag s n) x k p task args)) ≡ Ok (task_tree (tag s n) x k p task args)
+
 -- what was sealed
 module _ (s n : ℕ) (x k : Bytes) (p : ℕ) (task j : Bytes) where
   abbrev Tells : Bytes → Type 0
@@ -65,8 +75,8 @@ module _ (s n : ℕ) (x k : Bytes) (p : ℕ) (task j : Bytes) where
   abbrev tree : Data → Data
   tree args = task_tree (tag s n) x k p task args
 
-  fits : (args : Data) → IsArguments j args → are_told (tag s n) x k p task ≡ true → are_within x k (tree args) ≡ true → Tells (compact_text (tree args))
-  fits args known may within =
+  fits : (args : Data) → arguments_of j ≡ Some args → IsArguments j args → are_told (tag s n) x k p task ≡ true → are_within x k (tree args) ≡ true → IsSealed s n x k p task j (compact_text (tree args))
+  fits args spelled known may within =
       let a = and_parts (are_texts x k task && is_tag (tag s n)) (nat_le p 255) may in
       let b = and_parts (are_texts x k task) (is_tag (tag s n)) a.0 in
       let c = and_parts (is_utf8 x && is_utf8 k) (is_utf8 task) b.0 in
@@ -87,28 +97,33 @@ module _ (s n : ℕ) (x k : Bytes) (p : ℕ) (task j : Bytes) where
         byte = byte;
       } in
       let h = is_envelope (tag s n) x k p task args drafted (tag_number s n) tagged.tells g.0 plain marks in
-      told s n (tree args) _ tagged.text h.1 h.0
+      record { args = args; spelled = spelled; drafted = drafted; tag_is = tagged.text; text = refl; says = h.0; reads = h.1 }
     where
       le_from : (m l : ℕ) → nat_le m l ≡ true → m ≤ l
       le_from m l h = grind (arith, nat_tests)
 
-  of_arguments : (args : Data) (v : Bytes) → IsArguments j args → if_sealed (tag s n) x k p task args ≡ Some v → Tells v
-  of_arguments args v known e = go (are_told (tag s n) x k p task && are_within x k (tree args)) refl e
+  of_arguments : (args : Data) (v : Bytes) → arguments_of j ≡ Some args → IsArguments j args → if_sealed (tag s n) x k p task args ≡ Some v → IsSealed s n x k p task j v
+  of_arguments args v spelled known e = go (are_told (tag s n) x k p task && are_within x k (tree args)) refl e
     where
-      go : (b : Bool) → (are_told (tag s n) x k p task && are_within x k (tree args)) ≡ b → (if b then Some (compact_text (tree args)) else None) ≡ Some v → Tells v
+      go : (b : Bool) → (are_told (tag s n) x k p task && are_within x k (tree args)) ≡ b → (if b then Some (compact_text (tree args)) else None) ≡ Some v → IsSealed s n x k p task j v
       go true t f =
           let q = and_parts (are_told (tag s n) x k p task) (are_within x k (tree args)) t in
           let same : compact_text (tree args) ≡ v = cc in
-          subst Tells same (fits args known q.0 q.1)
+          subst (IsSealed s n x k p task j) same (fits args spelled known q.0 q.1)
       go false t f = cc
 
-  pub tells : (v : Bytes) → sealed_task s n x k p task j ≡ Some v → Tells v
+  pub sealed_known : (v : Bytes) → sealed_task s n x k p task j ≡ Some v → IsSealed s n x k p task j v
   unfolding sealed_task
-  tells v e = go (arguments_of j) refl e
+  sealed_known v e = go (arguments_of j) refl e
     where
-      go : (o : Option Data) → arguments_of j ≡ o → option_and_then (if_sealed (tag s n) x k p task) o ≡ Some v → Tells v
+      go : (o : Option Data) → arguments_of j ≡ o → option_and_then (if_sealed (tag s n) x k p task) o ≡ Some v → IsSealed s n x k p task j v
       go None i f = cc
-      go (Some args) i f = of_arguments args v (arguments_known j args i) f
+      go (Some args) i f = of_arguments args v i (arguments_known j args i) f
+
+  pub tells : (v : Bytes) → sealed_task s n x k p task j ≡ Some v → Tells v
+  tells v e =
+      let i = sealed_known v e in
+      subst Tells (sym i.text) (told s n (tree i.args) _ i.tag_is i.reads i.says)
 
 pub seals_tell : SealsTell texts program_craft
 seals_tell s n x k p task j v e = tells s n x k p task j v e

@@ -111,7 +111,7 @@ module _ (t exchange routing_key : Bytes) (priority : ℕ) (task : Bytes) (args 
   sorted_embed : Sorted no_embed
   sorted_embed = sorted_from (members_in no_embed) refl (tt, (tt, (tt, (tt, tt))))
 
-  sorted_content : Sorted (content_tree args)
+  pub sorted_content : Sorted (content_tree args)
   sorted_content = (is.sorted, (tt, (sorted_embed, tt)))
 
   sorted_headers : Sorted (headers_tree t task args)
@@ -134,7 +134,7 @@ module _ (t exchange routing_key : Bytes) (priority : ℕ) (task : Bytes) (args 
   texts_content : HasTexts (content_tree args)
   texts_content = (is.texts, (tt, (texts_embed, tt)))
 
-  content_text : IsUtf8 content
+  pub content_text : IsUtf8 content
   content_text = compact_utf8 (content_tree args) texts_content sorted_content
 
   texts_headers : HasTexts (headers_tree t task args)

@@ -80,13 +80,19 @@ content_told : (b : List ℕ) (c : Data) → json_at b ≡ Some c → depth c �
 unfolding content_in
 content_told b c e shallow whole = let t : nat_le (depth c) max_levels ≡ true = grind (arith, nat_tests) in rw (e, t, whole) refl
 
+-- an envelope of a drafted content and drafted headers carries the task
+pub told_back : (t : TaskParts) (d : Data) (b : List ℕ) → can_draft t ≡ true → t.settings.retries < 2 ^ 32
+    → (parts_in d).content ≡ b → json_at b ≡ Some (drafted_content t) → headers_in d ≡ drafted_headers t → task_of d ≡ Ok t
+unfolding task_of
+told_back t d b can small content reads headers =
+    let i = draftable t can in
+    let tree = ap content_in content ∙ content_told b (drafted_content t) reads (content_shallow t i) (content_whole t i) in
+    ap (λ r. r >>= task_in (headers_in d)) tree ∙ ap (λ h. task_in h (drafted_content t)) headers ∙ both_told t i small
+
 pub drafts_back : (t : TaskParts) (exchange routing_key : List ℕ) (priority : ℤ) (draft : Draft) (n : ℕ) (d : Data)
     → can_draft t ≡ true → t.settings.retries < 2 ^ 32 → n < 2 ^ 128 → IsDrafted t exchange routing_key priority draft → seal_of draft n ≡ Ok d → task_of d ≡ Ok t
-unfolding task_of
 drafts_back t x k p draft n d can small fits made sealed_to =
-    let i = draftable t can in
     let say = seals_say draft n d fits sealed_to in
     let content : (parts_in d).content ≡ draft.content = ap (λ r. (parts_or_none r).content) say.1 in
     let headers : headers_in d ≡ drafted_headers t = ap headers_in say.0 ∙ made.headers in
-    let reads = ap content_in content ∙ content_told draft.content (drafted_content t) made.reads (content_shallow t i) (content_whole t i) in
-    ap (λ r. r >>= task_in (headers_in d)) reads ∙ ap (λ h. task_in h (drafted_content t)) headers ∙ both_told t i small
+    told_back t d draft.content can small content made.reads headers

@@ -1,0 +1,21 @@
+-- What a publish line of a schedule sends.
+use Rattle.std.specs.Prelude.{◌≡◌, ◌≤◌, ℕ, length, Some, Ok}
+use Rattle.serde_json.specs.Data.{Data}
+use Rattle.envelope.specs.Envelopes.{envelope_at}
+use Rattle.delivery_tags.specs.Tags.{tag}
+use Rattle.queue_keys.specs.Names.{Bytes}
+use Rattle.schedule_model.specs.Drafts.{arguments_of, sealed_task}
+use Rattle.task_message.specs.Tasks.{TaskParts, task_of}
+use Rattle.client_plans.specs.Tasks.{published_task}
+
+-- the bytes are an envelope that carries the task
+pub record CarriesTask (t : TaskParts) (v : Bytes) : Type 0 where
+  pub tree : Data
+  pub envelope : envelope_at v ≡ Ok tree
+  pub task : task_of tree ≡ Ok t
+
+-- what a line sends, by its tag's seed and counter, its exchange, routing key, priority, task and the text of its arguments, carries the published task of these arguments, whose id is the tag's text
+abbrev pub PublishLinesSendTasks : Type 0
+PublishLinesSendTasks = (s n : ℕ) (exchange routing_key : Bytes) (priority : ℕ) (task j v : Bytes)
+    → 1 ≤ length task → sealed_task s n exchange routing_key priority task j ≡ Some v
+    → (args : Data) × (arguments_of j ≡ Some args) × CarriesTask (published_task (tag s n) task args) v
