@@ -1,10 +1,11 @@
 //! What is left of a client's block.
-ghost use Rattle.std.specs.Prelude.{◌≡◌, ◌<◌, ◌≤◌, IfOk, IfSome, OnOk, length, true};
+ghost use Rattle.std.specs.Prelude.{◌≡◌, ◌<◌, ◌≤◌, ℕ, IfOk, IfSome, OnOk, length, true};
 ghost use Rattle.command_blocks.specs.EnvelopeTexts.{plain_setting};
-ghost use Rattle.command_blocks.specs.Scripts.{Over, end_script, next_words, pop_script, publish_script};
+ghost use Rattle.command_blocks.specs.Scripts.{Over, end_script, next_words, pop_script, publish_script, return_script, script_of};
 ghost use Rattle.store_model.specs.Limits.{moment_limit};
 ghost use Rattle.delivery_tags.specs.Tags.{tag_text};
-ghost use Rattle.routes.specs.Publishes.{GoesDirectly};
+ghost use Rattle.routes.specs.Declares.{declaration_plan};
+ghost use Rattle.routes.specs.Publishes.{IsPublishable};
 ghost use Rattle.schedule_model.specs.Faults.{has_more, is_script_off};
 ghost use Rattle.client_blocks.specs.Blocks.{script_left};
 ghost use Rattle.client_blocks.specs.Lefts.{after_answer, heard_by};
@@ -13,9 +14,11 @@ ghost use Rattle.serde_json.specs.Written.{compact_text};
 ghost use Rattle.wire_grammar.specs.Fits.{IsWithinLimits};
 
 use block_core::ReplyFault;
+use command_blocks::Side;
 use envelope::{Envelope, Tag};
 use queue_keys::QueueName;
-use routes::{PublishCore, publish_core};
+use returns::{ReturnCore, return_core};
+use routes::{Declaration, DeclareCore, PublishCore, declare_core, publish_core};
 use std::alloc::{AllocError, Global};
 use store_model::Reply;
 use unacked::{EndCore, PopCore, end_core, pop_core};
@@ -26,9 +29,11 @@ use wire_values::{List, Words};
 #[derive(Drop)]
 pub enum BlockLeft {
     Over,
+    Declare(Box<DeclareCore>),
     Publish(Box<PublishCore>),
     Pop(Box<PopCore>),
     End(Box<EndCore>),
+    Return(Box<ReturnCore>),
 }
 
 impl BlockLeft {
@@ -39,9 +44,16 @@ impl BlockLeft {
         BlockLeft::Over
     }
 
-    /// A publication of an envelope that goes to its queue directly.
+    /// A declaration of a binding.
+    pub fn declaration(alloc: Global, declaration: Declaration) -> Result<BlockLeft, AllocError>
+        ensures { IfOk result (λ left. (s p : ℕ) → script_left left ≡ script_of plain_setting s p (declaration_plan declaration)) }
+    {
+        Ok(BlockLeft::Declare(Box::new(alloc, declare_core(declaration))?))
+    }
+
+    /// A publication of an envelope. On the empty exchange its routing key is the lawful name of a queue.
     pub fn publication(alloc: Global, envelope: Envelope) -> Result<BlockLeft, AllocError>
-        requires { GoesDirectly (data_of envelope) }
+        requires { IsPublishable (data_of envelope) }
         ensures { IfOk result (λ left. script_left left ≡ publish_script plain_setting (compact_text (data_of envelope))) }
     {
         Ok(BlockLeft::Publish(Box::new(alloc, publish_core(envelope))?))
@@ -63,15 +75,24 @@ impl BlockLeft {
         Ok(BlockLeft::End(Box::new(alloc, end_core(tag))?))
     }
 
+    /// A return of a tag's message to its queues, at this side of them.
+    pub fn returning(alloc: Global, tag: Tag, side: Side) -> Result<BlockLeft, AllocError>
+        ensures { IfOk result (λ left. script_left left ≡ return_script plain_setting side (tag_text tag.0)) }
+    {
+        Ok(BlockLeft::Return(Box::new(alloc, return_core(tag, side))?))
+    }
+
     /// Whether an answer wasn't listed.
     pub fn is_off(&self) -> bool
         ensures { result ≡ is_script_off (script_left self.now) }
     {
         match self {
             BlockLeft::Over => false,
+            BlockLeft::Declare(core) => core.is_off(),
             BlockLeft::Publish(core) => core.is_off(),
             BlockLeft::Pop(core) => core.is_off(),
             BlockLeft::End(core) => core.is_off(),
+            BlockLeft::Return(core) => core.is_off(),
         }
     }
 
@@ -81,9 +102,11 @@ impl BlockLeft {
     {
         match self {
             BlockLeft::Over => false,
+            BlockLeft::Declare(core) => core.is_busy(),
             BlockLeft::Publish(core) => core.is_busy(),
             BlockLeft::Pop(core) => core.is_busy(),
             BlockLeft::End(core) => core.is_busy(),
+            BlockLeft::Return(core) => core.is_busy(),
         }
     }
 
@@ -94,9 +117,11 @@ impl BlockLeft {
     {
         match self {
             BlockLeft::Over => Ok(None),
+            BlockLeft::Declare(core) => core.next(alloc, at),
             BlockLeft::Publish(core) => core.next(alloc, at),
             BlockLeft::Pop(core) => core.next(alloc, at),
             BlockLeft::End(core) => core.next(alloc, at),
+            BlockLeft::Return(core) => core.next(alloc, at),
         }
     }
 
@@ -108,9 +133,11 @@ impl BlockLeft {
     {
         match self {
             BlockLeft::Over => unreachable!(),
+            BlockLeft::Declare(core) => heard(core.took(alloc, at, reply)),
             BlockLeft::Publish(core) => heard(core.took(alloc, at, reply)),
             BlockLeft::Pop(core) => heard(core.took(alloc, at, reply)),
             BlockLeft::End(core) => heard(core.took(alloc, at, reply)),
+            BlockLeft::Return(core) => heard(core.took(alloc, at, reply)),
         }
     }
 }

@@ -3,18 +3,27 @@ use Rattle.std.proofs.Common.{◌≡◌, ℕ, suc, ◌<◌, ◌^◌, List, [], �
 use Rattle.std.specs.Prelude.{not, if◌then◌else◌}
 use Rattle.std.specs.List.{list_all, list_any}
 use Rattle.serde_json.specs.Data.{Data}
+use Rattle.line_text.specs.declared.reason.Reason.{Reason}
 use Rattle.line_text.specs.declared.reason.Reason.TheVariants.{Name, Reserved, Json, Task}
 use Rattle.delivery_tags.specs.Tags.{tag, tag_number, tag_text}
 use Rattle.command_blocks.specs.EnvelopeTexts.{plain_setting}
+use Rattle.queue_keys.specs.Bindings.{is_part}
 use Rattle.queue_keys.specs.Names.{Bytes, all_free, has_length, is_name, is_reserved}
-use Rattle.command_blocks.specs.Scripts.{End, Publish, Pop, end_script, pop_script, publish_script}
+use Rattle.command_blocks.specs.Scripts.{Declare, End, Publish, Pop, Return, Undeclare, end_script, pop_script, publish_script, return_script, script_of}
+use Rattle.command_blocks.specs.declared.side.Side.{Side}
+use Rattle.command_blocks.specs.declared.side.Side.TheVariants.{Left, Right}
+use Rattle.routes.specs.Declares.{declared_plan}
+use Rattle.routes.specs.Publishes.{IsPublishable}
+use Rattle.routes.specs.declared.declaration.Change.{Change}
+use Rattle.routes.specs.declared.declaration.Change.TheVariants.{Add, Remove}
 use Rattle.schedule_model.specs.Drafts.{arguments_of, sealed_task}
 use Rattle.schedule_model.specs.Faults.{Test, asked_tests, first_reason, is_empty, is_no_name}
 use Rattle.schedule_model.specs.Programs.{are_arguments, program_craft}
 use Rattle.schedule_model.specs.Schedules.{publish_plan}
 use Rattle.schedule_model.specs.declared.line.Asked.TheVariants as asked
 use Rattle.client_blocks.specs.Blocks.{script_left}
-use Rattle.client_plans.specs.Plans.{IsPrepared}
+use Rattle.client_plans.specs.Plans.{IsPrepared, are_no_parts, asked_binding, asked_return, is_no_binding, way_reason}
+use Rattle.client_plans.specs.Tasks.{Names}
 use Rattle.client_blocks.specs.declared.left.BlockLeft.{BlockLeft}
 use Rattle.client_plans.specs.declared.fault.PlanFault.{PlanFault}
 use Rattle.client_plans.specs.declared.plan.BegunBlock.{BegunBlock}
@@ -23,52 +32,56 @@ use Rattle.client_plans.proofs.Drafted.{text_of_tag}
 
 -- ---- a publication
 
--- its tests, by what they find
-abbrev four : Bool → Bool → Bool → Bool → List Test
-four a b c d = (a, Name) ∷ (b, Reserved) ∷ (c, Json) ∷ (d, Task) ∷ []
+none_some : {A : Type 0} {x : A} → None ≡ Some x → ⊥
+none_some e = cc
 
-module _ (s n : ℕ) (x k : Bytes) (p : ℕ) (t j : Bytes) (direct : x ≡ []) where
+-- two tests and what comes after them
+abbrev before_rest : Bool → Bool → List Test → List Test
+before_rest a b rest = (a, Name) ∷ (b, Reserved) ∷ rest
+
+one_holds : (a b : Bool) (rest : List Test) (r : Reason) → first_reason (before_rest a b []) ≡ Some r → first_reason (before_rest a b rest) ≡ Some r
+one_holds true b rest r e = e
+one_holds false true rest r e = e
+one_holds false false rest r e = absurd (none_some e)
+
+none_holds : (a b : Bool) (rest : List Test) → first_reason (before_rest a b []) ≡ None → first_reason (before_rest a b rest) ≡ first_reason rest
+none_holds true b rest e = absurd (none_some (sym e))
+none_holds false true rest e = absurd (none_some (sym e))
+none_holds false false rest e = refl
+
+module _ (s n : ℕ) (x k : Bytes) (p : ℕ) (t j : Bytes) where
   abbrev tests : List Test
   tests = asked_tests program_craft s n (asked.Publish x k p t j)
 
-  -- of one on the empty exchange the routing key is looked at
-  tests_are : tests ≡ four (is_no_name k) (is_reserved k) (not (are_arguments j)) (is_none (sealed_task s n x k p t j))
-  tests_are = ap (λ y. four (is_empty y && is_no_name k) (is_empty y && is_reserved k) (not (are_arguments j)) (is_none (sealed_task s n x k p t j))) direct
+  -- the tests of the arguments and of the envelope
+  abbrev more : Bool → Bool → List Test
+  more a b = (a, Json) ∷ (b, Task) ∷ []
 
-  pub bad_name : is_no_name k ≡ true → first_reason tests ≡ Some Name
-  bad_name a = ap first_reason tests_are ∙ ap (λ y. first_reason (four y (is_reserved k) (not (are_arguments j)) (is_none (sealed_task s n x k p t j)))) a
+  pub bad_way : (r : Reason) → way_reason x k ≡ Some r → first_reason tests ≡ Some r
+  bad_way r e = one_holds (is_empty x && is_no_name k) (is_empty x && is_reserved k) (more (not (are_arguments j)) (is_none (sealed_task s n x k p t j))) r e
 
-  pub bad_reserved : is_no_name k ≡ false → is_reserved k ≡ true → first_reason tests ≡ Some Reserved
-  bad_reserved a b =
-      ap first_reason tests_are
-      ∙ ap (λ y. first_reason (four y (is_reserved k) (not (are_arguments j)) (is_none (sealed_task s n x k p t j)))) a
-      ∙ ap (λ y. first_reason (four false y (not (are_arguments j)) (is_none (sealed_task s n x k p t j)))) b
+  -- a way that passed
+  passed : way_reason x k ≡ None → first_reason tests ≡ first_reason (more (not (are_arguments j)) (is_none (sealed_task s n x k p t j)))
+  passed e = none_holds (is_empty x && is_no_name k) (is_empty x && is_reserved k) (more (not (are_arguments j)) (is_none (sealed_task s n x k p t j))) e
 
-  -- a name that passed
-  passed : is_no_name k ≡ false → is_reserved k ≡ false → first_reason tests ≡ first_reason (four false false (not (are_arguments j)) (is_none (sealed_task s n x k p t j)))
-  passed a b =
-      ap first_reason tests_are
-      ∙ ap (λ y. first_reason (four y (is_reserved k) (not (are_arguments j)) (is_none (sealed_task s n x k p t j)))) a
-      ∙ ap (λ y. first_reason (four false y (not (are_arguments j)) (is_none (sealed_task s n x k p t j)))) b
-
-  pub bad_json : is_no_name k ≡ false → is_reserved k ≡ false → None ≡ arguments_of j → first_reason tests ≡ Some Json
-  bad_json a b e = passed a b ∙ ap (λ o. first_reason (four false false (not (is_some o)) (is_none (sealed_task s n x k p t j)))) (sym e)
+  pub bad_json : way_reason x k ≡ None → None ≡ arguments_of j → first_reason tests ≡ Some Json
+  bad_json a e = passed a ∙ ap (λ o. first_reason (more (not (is_some o)) (is_none (sealed_task s n x k p t j)))) (sym e)
 
   -- arguments that passed
-  spelled : (d : Data) → is_no_name k ≡ false → is_reserved k ≡ false → Some d ≡ arguments_of j → first_reason tests ≡ first_reason (four false false false (is_none (sealed_task s n x k p t j)))
-  spelled d a b e = passed a b ∙ ap (λ o. first_reason (four false false (not (is_some o)) (is_none (sealed_task s n x k p t j)))) (sym e)
+  spelled : (d : Data) → way_reason x k ≡ None → Some d ≡ arguments_of j → first_reason tests ≡ first_reason (more false (is_none (sealed_task s n x k p t j)))
+  spelled d a e = passed a ∙ ap (λ o. first_reason (more (not (is_some o)) (is_none (sealed_task s n x k p t j)))) (sym e)
 
-  pub bad_task : (d : Data) → is_no_name k ≡ false → is_reserved k ≡ false → Some d ≡ arguments_of j → None ≡ sealed_task s n x k p t j → first_reason tests ≡ Some Task
-  bad_task d a b e f = spelled d a b e ∙ ap (λ o. first_reason (four false false false (is_none o))) (sym f)
+  pub bad_task : (d : Data) → way_reason x k ≡ None → Some d ≡ arguments_of j → None ≡ sealed_task s n x k p t j → first_reason tests ≡ Some Task
+  bad_task d a e f = spelled d a e ∙ ap (λ o. first_reason (more false (is_none o))) (sym f)
 
-  pub no_fault : (d : Data) (v : Bytes) → is_no_name k ≡ false → is_reserved k ≡ false → Some d ≡ arguments_of j → Some v ≡ sealed_task s n x k p t j → first_reason tests ≡ None
-  no_fault d v a b e f = spelled d a b e ∙ ap (λ o. first_reason (four false false false (is_none o))) (sym f)
+  pub no_fault : (d : Data) (v : Bytes) → way_reason x k ≡ None → Some d ≡ arguments_of j → Some v ≡ sealed_task s n x k p t j → first_reason tests ≡ None
+  no_fault d v a e f = spelled d a e ∙ ap (λ o. first_reason (more false (is_none o))) (sym f)
 
 -- what is begun of a sealed envelope
-pub published : (s n : ℕ) (x k : Bytes) (p : ℕ) (t j : Bytes) (args : Data) (v : Bytes) (l : BlockLeft) (d : ℕ) → x ≡ [] → is_no_name k ≡ false → is_reserved k ≡ false
+pub published : (s n : ℕ) (x k : Bytes) (p : ℕ) (t j : Bytes) (args : Data) (v : Bytes) (l : BlockLeft) (d : ℕ) → way_reason x k ≡ None
     → Some args ≡ arguments_of j → Some v ≡ sealed_task s (suc n) x k p t j → script_left l ≡ publish_script plain_setting v → d ≡ suc n → IsPrepared s n (asked.Publish x k p t j) (Ok (record { left = l; drawn = d }))
-published s n x k p t j args v l d direct a c e f left drawn =
-    (no_fault s (suc n) x k p t j direct args v a c e f, (Publish v, ap publish_plan (sym f), (left, drawn)))
+published s n x k p t j args v l d way e f left drawn =
+    (no_fault s (suc n) x k p t j args v way e f, (Publish v, ap publish_plan (sym f), (left, drawn)))
 
 -- an answer to a publication by names that are the same
 pub same_prepared : (s n : ℕ) (x y k l : Bytes) (p : ℕ) (t u j : Bytes) (r : Result BegunBlock PlanFault) → x ≡ y → k ≡ l → t ≡ u → IsPrepared s n (asked.Publish x k p t j) r → IsPrepared s n (asked.Publish y l p u j) r
@@ -133,3 +146,57 @@ each_lawful qs i q m all below at same = go (is_name (get_or qs i q)) refl
     go : (b : Bool) → is_name (get_or qs i q) ≡ b → is_name m ≡ true
     go true e = ap is_name (same ∙ at) ∙ e
     go false e = let f : false ≡ true = sym (list_all_at is_name qs i q below e) ∙ all in cc
+
+neither : (a b : Bool) → first_reason (before_rest a b []) ≡ None → (a ≡ false) × (b ≡ false)
+neither true b e = absurd (none_some (sym e))
+neither false true e = absurd (none_some (sym e))
+neither false false e = (refl, refl)
+
+-- an envelope that goes a way that passed may be published
+pub publishable : (x k : Bytes) (d : Data) → way_reason x k ≡ None → Names x k d → IsPublishable d
+publishable x k d way names direct = ap is_name names.routing_key_is ∙ by x way (sym names.exchange_is ∙ direct)
+  where
+    by : (y : Bytes) → way_reason y k ≡ None → y ≡ [] → is_name k ≡ true
+    by [] e f = let two = neither (is_no_name k) (is_reserved k) e in lawful k two.0 two.1
+    by (b ∷ bs) e f = cc
+
+-- ---- a declaration
+
+pub bad_part : (s n : ℕ) (change : Change) (x k p q : Bytes) → is_no_binding x k p q ≡ true → first_reason (asked_tests program_craft s n (asked_binding change x k p q)) ≡ Some Name
+bad_part s n Add x k p q e = ap (λ y. first_reason (before_rest y (is_reserved q) [])) e
+bad_part s n Remove x k p q e = ap (λ y. first_reason (before_rest y (is_reserved q) [])) e
+
+two_known : (a b x y : Bool) → a ≡ x → b ≡ y → first_reason (before_rest a b []) ≡ first_reason (before_rest x y [])
+two_known a b x y e f = ap (λ z. first_reason (before_rest z b [])) e ∙ ap (λ z. first_reason (before_rest x z [])) f
+
+pub bad_queue : (s n : ℕ) (change : Change) (x k p q : Bytes) → is_no_binding x k p q ≡ false → is_reserved q ≡ true → first_reason (asked_tests program_craft s n (asked_binding change x k p q)) ≡ Some Reserved
+bad_queue s n Add x k p q e f = two_known (is_no_binding x k p q) (is_reserved q) false true e f
+bad_queue s n Remove x k p q e f = two_known (is_no_binding x k p q) (is_reserved q) false true e f
+
+not_false : (b : Bool) → not b ≡ false → b ≡ true
+not_false true e = refl
+not_false false e = cc
+
+-- a binding that passed is one of parts and a lawful queue
+pub lawful_parts : (x k p q : Bytes) → is_no_binding x k p q ≡ false → is_reserved q ≡ false → (is_part x ≡ true) × (is_part k ≡ true) × (is_part p ≡ true) × (is_name q ≡ true)
+lawful_parts x k p q e f =
+    let a = or_false (are_no_parts x k p) (is_no_name q) e in
+    let b = or_false (not (is_part x) || not (is_part k)) (not (is_part p)) a.0 in
+    let c = or_false (not (is_part x)) (not (is_part k)) b.0 in
+    (not_false (is_part x) c.0, not_false (is_part k) c.1, not_false (is_part p) b.1, lawful q a.1 f)
+
+-- what is begun of a lawful binding
+pub declared : (s n : ℕ) (change : Change) (x k p q : Bytes) (l : BlockLeft) (d : ℕ) → is_no_binding x k p q ≡ false → is_reserved q ≡ false
+    → script_left l ≡ script_of plain_setting s 0 (declared_plan change x k p q) → d ≡ n → IsPrepared s n (asked_binding change x k p q) (Ok (record { left = l; drawn = d }))
+declared s n Add x k p q l d e f left drawn = (two_known (is_no_binding x k p q) (is_reserved q) false false e f, (Declare x k p q, refl, (left, drawn)))
+declared s n Remove x k p q l d e f left drawn = (two_known (is_no_binding x k p q) (is_reserved q) false false e f, (Undeclare x k p q, refl, (left, drawn)))
+
+-- ---- a return
+
+-- what is begun of a tag
+pub returned : (s n : ℕ) (side : Side) (of counter m : ℕ) (l : BlockLeft) (d : ℕ) → of < 2 ^ 64 → counter < 2 ^ 64 → m ≡ tag_number of counter
+    → script_left l ≡ return_script plain_setting side (tag_text m) → d ≡ n → IsPrepared s n (asked_return side of counter) (Ok (record { left = l; drawn = d }))
+returned s n Left of counter m l d h i e left drawn =
+    (refl, (Return Left (tag of counter), refl, (left ∙ ap (λ t. return_script plain_setting Left t) (ap tag_text e ∙ text_of_tag of counter h i), drawn)))
+returned s n Right of counter m l d h i e left drawn =
+    (refl, (Return Right (tag of counter), refl, (left ∙ ap (λ t. return_script plain_setting Right t) (ap tag_text e ∙ text_of_tag of counter h i), drawn)))

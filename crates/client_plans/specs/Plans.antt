@@ -1,9 +1,17 @@
 -- What preparing a plan answers, and what may be begun.
-use Rattle.std.specs.Prelude.{◌≡◌, ◌≤◌, ℕ, suc, length, [], Result, Ok, Err, None, Some}
+use Rattle.std.specs.Prelude.{◌≡◌, ◌≤◌, ℕ, suc, Bool, not, ◌&&◌, ◌||◌, if◌then◌else◌, length, [], ◌∷◌, Option, Result, Ok, Err, None, Some}
 use Rattle.command_blocks.specs.Blocks.{drawn}
 use Rattle.command_blocks.specs.EnvelopeTexts.{plain_setting}
 use Rattle.command_blocks.specs.Scripts.{Plan, counter_use, script_of}
-use Rattle.schedule_model.specs.Faults.{asked_tests, first_reason}
+use Rattle.command_blocks.specs.declared.side.Side.{Side}
+use Rattle.command_blocks.specs.declared.side.Side.TheVariants.{Left, Right}
+use Rattle.line_text.specs.declared.reason.Reason.{Reason}
+use Rattle.line_text.specs.declared.reason.Reason.TheVariants.{Name, Reserved}
+use Rattle.queue_keys.specs.Bindings.{is_part}
+use Rattle.queue_keys.specs.Names.{Bytes, is_reserved}
+use Rattle.routes.specs.declared.declaration.Change.{Change}
+use Rattle.routes.specs.declared.declaration.Change.TheVariants.{Add, Remove}
+use Rattle.schedule_model.specs.Faults.{asked_tests, first_reason, is_empty, is_no_name}
 use Rattle.schedule_model.specs.Programs.{program_craft}
 use Rattle.schedule_model.specs.Schedules.{plan_of}
 use Rattle.schedule_model.specs.declared.line.Asked.{Asked}
@@ -13,12 +21,44 @@ use Rattle.client_plans.specs.declared.fault.PlanFault.{PlanFault}
 use Rattle.client_plans.specs.declared.fault.PlanFault.TheVariants.{Bad, Memory}
 use Rattle.client_plans.specs.declared.plan.BegunBlock.{BegunBlock}
 
--- what is begun is built: a publication of a named task to no exchange, a pop over 1 to 1,023 queues, or an acknowledgement
+-- what is begun is built, and spelled by a line: a published task has a name, a pop goes over 1 to 1,023 queues; a pass is no such block
 abbrev pub IsBuiltBlock : Asked → Type 0
-IsBuiltBlock (asked.Publish x k p t j) = (x ≡ []) × (1 ≤ length t)
+IsBuiltBlock (asked.Publish x k p t j) = 1 ≤ length t
 IsBuiltBlock (asked.Pop qs) = (1 ≤ length qs) × (length qs ≤ 1023)
-IsBuiltBlock (asked.Ack a b) = Unit {0}
-IsBuiltBlock other = ⊥
+IsBuiltBlock (asked.Pass v) = ⊥
+IsBuiltBlock other = Unit {0}
+
+-- ---- what is asked
+
+-- a binding goes into its exchange's set, or out of it
+abbrev pub asked_binding : Change → Bytes → Bytes → Bytes → Bytes → Asked
+asked_binding Add x k p q = asked.Declare x k p q
+asked_binding Remove x k p q = asked.Undeclare x k p q
+
+-- a tag's message is returned, at this side of its queues
+abbrev pub asked_return : Side → ℕ → ℕ → Asked
+asked_return Right a b = asked.Restore a b
+asked_return Left a b = asked.Requeue a b
+
+-- ---- tests
+
+-- why no queue has this name
+abbrev pub name_reason : Bytes → Option Reason
+name_reason q = first_reason ((is_no_name q, Name) ∷ (is_reserved q, Reserved) ∷ [])
+
+-- why a message doesn't go this way, by its exchange and its routing key
+abbrev pub way_reason : Bytes → Bytes → Option Reason
+way_reason x k = first_reason ((is_empty x && is_no_name k, Name) ∷ (is_empty x && is_reserved k, Reserved) ∷ [])
+
+-- whether one of these is no exchange, routing key or pattern of a declaration
+abbrev pub are_no_parts : Bytes → Bytes → Bytes → Bool
+are_no_parts x k p = not (is_part x) || not (is_part k) || not (is_part p)
+
+-- whether these aren't the parts of a binding, or no queue's name is spelled so
+abbrev pub is_no_binding : Bytes → Bytes → Bytes → Bytes → Bool
+is_no_binding x k p q = are_no_parts x k p || is_no_name q
+
+-- ---- answers
 
 -- what is begun by the plan of a client of this seed that drew n tags
 abbrev pub IsBegun : ℕ → ℕ → Plan → BegunBlock → Type 0

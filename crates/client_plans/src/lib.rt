@@ -4,6 +4,7 @@
 #![tactic(auto)]
 
 mod arguments;
+mod binding;
 mod fault;
 mod names;
 mod plan;

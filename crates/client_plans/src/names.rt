@@ -3,7 +3,9 @@ ghost use Rattle.std.specs.Prelude.{◌≡◌, IfOk, true};
 ghost use Rattle.std.specs.List.{list_all, list_any};
 ghost use Rattle.queue_keys.specs.Names.{has_length, is_free, is_name, is_reserved};
 ghost use Rattle.schedule_model.specs.Faults.{is_no_name};
+ghost use Rattle.client_plans.specs.Plans.{name_reason, way_reason};
 
+use line_text::Reason;
 use queue_keys::{NameFault, QueueName, is_reserved};
 use std::alloc::{AllocError, Global};
 use wire_values::{Bytes, List};
@@ -14,6 +16,30 @@ pub(crate) fn is_no_name(name: &Bytes) -> bool
 {
     let bytes = name.as_slice();
     !(are_free(bytes) && has_length(bytes))
+}
+
+/// Why a message doesn't go this way: on the empty exchange its routing key isn't the lawful name of a queue.
+pub(crate) fn way_fault(exchange: &Bytes, routing_key: &Bytes) -> Option<Reason>
+    ensures { result ≡ way_reason exchange.now routing_key.now }
+{
+    if exchange.is_empty() {
+        name_fault(routing_key)
+    } else {
+        None
+    }
+}
+
+/// Why a queue can't have this name.
+fn name_fault(name: &Bytes) -> Option<Reason>
+    ensures { result ≡ name_reason name.now }
+{
+    if is_no_name(name) {
+        Some(Reason::Name)
+    } else if is_reserved(name.as_slice()) {
+        Some(Reason::Reserved)
+    } else {
+        None
+    }
 }
 
 /// Whether none of the bytes parts texts.
@@ -68,7 +94,7 @@ pub(crate) fn queue_names(alloc: Global, names: &[Bytes]) -> Result<List<QueueNa
 }
 
 /// The lawful name of a queue, as a name.
-fn queue_name(alloc: Global, name: &[u8]) -> Result<QueueName, AllocError>
+pub(crate) fn queue_name(alloc: Global, name: &[u8]) -> Result<QueueName, AllocError>
     requires { is_name name.now ≡ true }
     ensures { IfOk result (λ made. made ≡ name.now) }
 {

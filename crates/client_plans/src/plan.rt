@@ -1,26 +1,27 @@
 //! What a client begins, prepared: the tests of the line, and the block's first state.
-ghost use Rattle.std.specs.Prelude.{◌≡◌, ◌≤◌, [], IfOk, Some, false, length, true};
+ghost use Rattle.std.specs.Prelude.{◌≡◌, ◌≤◌, IfOk, None, Some, length};
 ghost use Rattle.serde_json.specs.View.{view as data_of};
-ghost use Rattle.envelope.specs.Envelopes.{parts_in};
 ghost use Rattle.command_blocks.specs.EnvelopeTexts.{plain_setting};
-ghost use Rattle.queue_keys.specs.Names.{Bytes, is_name, is_reserved};
+ghost use Rattle.queue_keys.specs.Names.{Bytes};
 ghost use Rattle.command_blocks.specs.Scripts.{publish_script};
 ghost use Rattle.schedule_model.specs.Drafts.{arguments_of, if_arguments};
-ghost use Rattle.schedule_model.specs.Faults.{is_no_name};
+ghost use Rattle.routes.specs.Publishes.{IsPublishable};
 ghost use Rattle.client_blocks.specs.Blocks.{script_left};
 ghost use Rattle.schedule_model.specs.declared.line.Asked.TheVariants.{Ack, Pop, Publish};
-ghost use Rattle.client_plans.specs.Plans.{IsBuiltBlock, IsPrepared};
+ghost use Rattle.client_plans.specs.Plans.{IsBuiltBlock, IsPrepared, asked_return, way_reason};
 ghost use Rattle.client_plans.specs.Tasks.{envelope_text};
 
 use crate::PlanFault;
 use crate::arguments::arguments_of;
-use crate::names::{has_no_name, has_reserved, is_no_name, queue_names};
+use crate::binding::declaring;
+use crate::names::{has_no_name, has_reserved, queue_names, way_fault};
 use crate::task::{Publication, sealed_task};
 use client_blocks::BlockLeft;
+use command_blocks::Side;
 use envelope::{Envelope, Tag, Tree};
 use letters::Letters;
 use line_text::Reason;
-use queue_keys::is_reserved;
+use routes::Change;
 use schedule_model::Asked;
 use std::alloc::{AllocError, Global};
 use wire_values::{Bytes, Words};
@@ -68,17 +69,63 @@ pub fn prepared(
                 arguments,
             )
         }
+        Asked::Declare {
+            exchange,
+            routing_key,
+            pattern,
+            queue,
+        } => {
+            declaring(
+                alloc,
+                seed,
+                drawn,
+                Change::Add,
+                exchange,
+                routing_key,
+                pattern,
+                queue,
+            )
+        }
+        Asked::Undeclare {
+            exchange,
+            routing_key,
+            pattern,
+            queue,
+        } => {
+            declaring(
+                alloc,
+                seed,
+                drawn,
+                Change::Remove,
+                exchange,
+                routing_key,
+                pattern,
+                queue,
+            )
+        }
         Asked::Pop { queues } => popping(alloc, seed, drawn, queues),
         Asked::Ack { seed: of, counter } => acknowledging(alloc, seed, drawn, *of, *counter),
-        Asked::Declare { .. }
-        | Asked::Undeclare { .. }
-        | Asked::Restore { .. }
-        | Asked::Requeue { .. }
-        | Asked::Pass { .. } => unreachable!(),
+        Asked::Restore { seed: of, counter } => returning(
+            alloc,
+            seed,
+            drawn,
+            Side::Right,
+            *of,
+            *counter,
+        ),
+        Asked::Requeue { seed: of, counter } => returning(
+            alloc,
+            seed,
+            drawn,
+            Side::Left,
+            *of,
+            *counter,
+        ),
+        Asked::Pass { .. } => unreachable!(),
     }
 }
 
-/// A publication on the empty exchange.
+/// A publication.
 fn publication(
     alloc: Global,
     letters: &mut Letters,
@@ -90,15 +137,11 @@ fn publication(
     task: &Bytes,
     text: &Bytes,
 ) -> Result<BegunBlock, PlanFault>
-    requires direct { exchange.now ≡ [] }
-    requires named { 1 ≤ length task.now }
+    requires { 1 ≤ length task.now }
     ensures { IsPrepared seed drawn (Publish exchange.now routing_key.now priority task.now text.now) result }
 {
-    if is_no_name(routing_key) {
-        return Err(PlanFault::Bad(Reason::Name));
-    }
-    if is_reserved(routing_key.as_slice()) {
-        return Err(PlanFault::Bad(Reason::Reserved));
+    if let Some(reason) = way_fault(exchange, routing_key) {
+        return Err(PlanFault::Bad(reason));
     }
     let Some(arguments) = arguments_of(alloc, text.as_slice())? else {
         return Err(PlanFault::Bad(Reason::Json));
@@ -112,7 +155,7 @@ fn publication(
     sealing(alloc, letters, seed, drawn, &asked, arguments)
 }
 
-/// A publication on the empty exchange by a lawful name, with these arguments.
+/// A publication with these arguments; on the empty exchange its routing key is the lawful name of a queue.
 fn sealing(
     alloc: Global,
     letters: &mut Letters,
@@ -121,9 +164,7 @@ fn sealing(
     asked: &Publication,
     arguments: Tree,
 ) -> Result<BegunBlock, PlanFault>
-    requires direct { asked.now.exchange.now ≡ [] }
-    requires named { is_no_name asked.now.routing_key.now ≡ false }
-    requires free { is_reserved asked.now.routing_key.now ≡ false }
+    requires way { way_reason asked.now.exchange.now asked.now.routing_key.now ≡ None }
     requires task { 1 ≤ length asked.now.task.now }
     requires lawful { if_arguments (data_of arguments) ≡ Some (data_of arguments) }
     // Whatever text spells the arguments.
@@ -144,10 +185,9 @@ fn sealing(
     })
 }
 
-/// An envelope on its way to its queue, which is noted.
+/// An envelope on its way to its queues, which is noted.
 fn sent(alloc: Global, letters: &mut Letters, envelope: Envelope) -> Result<BlockLeft, AllocError>
-    requires exchange { (parts_in (data_of envelope)).exchange ≡ [] }
-    requires queue { is_name (parts_in (data_of envelope)).routing_key ≡ true }
+    requires { IsPublishable (data_of envelope) }
     ensures { IfOk result (λ left. script_left left ≡ publish_script plain_setting (envelope_text envelope)) }
 {
     letters.note(alloc, &envelope)?;
@@ -183,5 +223,20 @@ fn acknowledging(
     ensures { IsPrepared seed drawn (Ack of counter) result }
 {
     let left = BlockLeft::acknowledgement(alloc, Tag::of(of, counter))?;
+    Ok(BegunBlock { left, drawn })
+}
+
+/// A return of a tag's message to its queues, at this side of them.
+fn returning(
+    alloc: Global,
+    seed: u64,
+    drawn: u64,
+    side: Side,
+    of: u64,
+    counter: u64,
+) -> Result<BegunBlock, PlanFault>
+    ensures { IsPrepared seed drawn (asked_return side of counter) result }
+{
+    let left = BlockLeft::returning(alloc, Tag::of(of, counter), side)?;
     Ok(BegunBlock { left, drawn })
 }

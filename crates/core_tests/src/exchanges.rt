@@ -1,7 +1,7 @@
 //! Declarations, publications on an exchange with a name, and the round of queues.
-use crate::cores::{is_sent, publication};
-use crate::rows::{bound_rows, declare_rows, exchange_message, unbound_rows};
-use crate::talk::{is_silent, refuses, says_all};
+use crate::cores::{publication, sends};
+use crate::rows::{DeclareRow, bound_rows, declare_rows, exchange_message, unbound_rows};
+use crate::talk::{ended, first_of, is_put_off};
 use envelope::Tag;
 use lookups::is_part;
 use mini_store::Store;
@@ -22,14 +22,11 @@ fn declaration(
     if !is_part(b"ex") || !is_part(routing_key.as_bytes()) || !is_part(pattern.as_bytes()) {
         return Err(Fail::from("no parts"));
     }
+    let exchange = Bytes::from_slice(alloc, b"ex")?;
+    let routing_key = Bytes::from_slice(alloc, routing_key.as_bytes())?;
+    let pattern = Bytes::from_slice(alloc, pattern.as_bytes())?;
     let queue = QueueName::new(alloc, queue.as_bytes())?;
-    Ok(declare_core(Declaration::new(
-        change,
-        Bytes::from_slice(alloc, b"ex")?,
-        Bytes::from_slice(alloc, routing_key.as_bytes())?,
-        Bytes::from_slice(alloc, pattern.as_bytes())?,
-        queue,
-    )))
+    Ok(declare_core(Declaration::new(change, exchange, routing_key, pattern, queue)))
 }
 
 /// What a row's declaration does.
@@ -41,68 +38,78 @@ fn change(is_added: bool) -> Change {
     }
 }
 
+/// Whether a declaration says its command and ends as its row has it.
+fn declares(alloc: Global, store: &mut Store, row: &DeclareRow) -> Result<bool, Fail> {
+    let (routing_key, pattern, queue, is_added, line, changed) = *row;
+    let core = declaration(alloc, change(is_added), routing_key, pattern, queue)?;
+    match ended(alloc, store, core, &[(98, line)])? {
+        Some(end) => Ok(end.changed == changed),
+        None => Ok(false),
+    }
+}
+
 /// Has the store hear the declarations, and tells whether each says its command and ends as its row has it.
 fn declares_all(alloc: Global, store: &mut Store) -> Result<bool, Fail> {
-    for (routing_key, pattern, queue, is_added, line, changed) in declare_rows() {
-        let mut core = declaration(alloc, change(*is_added), routing_key, pattern, queue)?;
-        if !says_all(alloc, store, &mut core, &[(98, *line)])? {
-            return Ok(false);
-        }
-        let Some(end) = core.end() else {
-            return Ok(false);
-        };
-        if end.changed != *changed || !is_silent(alloc, &mut core)? {
+    for row in declare_rows() {
+        if !declares(alloc, store, row)? {
             return Ok(false);
         }
     }
     Ok(true)
 }
 
+/// Whether a declaration refuses another reply.
+fn declaration_refuses(alloc: Global, store: &mut Store) -> Result<bool, Fail> {
+    let core = declaration(alloc, Change::Remove, "a", "", "q3")?;
+    Ok(is_put_off(alloc, store, core, &[])?)
+}
+
 #[test]
 fn bindings_are_declared(rt: HostRuntime) -> Result<(), Fail> {
     let alloc = rt.alloc();
     let mut store = Store::new(alloc);
-    assert!(rt; declares_all(alloc, &mut store)?);
-    let mut core = declaration(alloc, Change::Remove, "a", "", "q3")?;
-    assert!(rt; refuses(alloc, &mut core)?);
+    let is_declared = declares_all(alloc, &mut store)? && declaration_refuses(alloc, &mut store)?;
+    assert!(rt; is_declared);
     Ok(())
 }
 
-/// Whether a publication ended without a queue.
-fn has_no_queue(end: Option<PublishEnd>) -> bool {
-    match end {
-        Some(PublishEnd::NoQueue(tag)) => tag == Tag::of(7, 1),
-        Some(PublishEnd::Sent { .. }) | None => false,
+/// Whether the publication of the message on the exchange ends without a queue.
+fn finds_no_queue(alloc: Global, store: &mut Store) -> Result<bool, Fail> {
+    let core = publication(alloc, exchange_message())?;
+    match ended(alloc, store, core, unbound_rows())? {
+        Some(PublishEnd::NoQueue(tag)) => Ok(tag == Tag::of(7, 1)),
+        Some(PublishEnd::Sent { .. }) | None => Ok(false),
     }
+}
+
+/// Whether the message finds no queue before the declarations, and two after them.
+fn goes_by_bindings(alloc: Global, store: &mut Store) -> Result<bool, Fail> {
+    Ok(
+        finds_no_queue(alloc, store)?
+            && declares_all(alloc, store)?
+            && sends(alloc, store, exchange_message(), bound_rows(), 2)?,
+    )
 }
 
 #[test]
 fn a_message_goes_by_bindings(rt: HostRuntime) -> Result<(), Fail> {
     let alloc = rt.alloc();
     let mut store = Store::new(alloc);
-    let mut core = publication(alloc, exchange_message())?;
-    assert!(rt; says_all(alloc, &mut store, &mut core, unbound_rows())?);
-    assert!(rt; has_no_queue(core.end()) && is_silent(alloc, &mut core)?);
-    assert!(rt; declares_all(alloc, &mut store)?);
-    let mut core = publication(alloc, exchange_message())?;
-    assert!(rt; says_all(alloc, &mut store, &mut core, bound_rows())?);
-    assert!(rt; is_sent(core.end(), 2) && is_silent(alloc, &mut core)?);
+    let is_gone = goes_by_bindings(alloc, &mut store)?;
+    assert!(rt; is_gone);
     Ok(())
 }
 
 /// Whether a publication on the exchange that said so many commands refuses another reply.
 fn publication_refuses(alloc: Global, count: usize) -> Result<bool, Fail> {
     let mut store = Store::new(alloc);
-    if !declares_all(alloc, &mut store)? {
-        return Ok(false);
-    }
-    let mut core = publication(alloc, exchange_message())?;
-    let rows = bound_rows();
-    Ok(
-        count <= rows.len()
-            && says_all(alloc, &mut store, &mut core, &rows[..count])?
-            && refuses(alloc, &mut core)?,
-    )
+    Ok(declares_all(alloc, &mut store)? && is_refused(alloc, &mut store, count)?)
+}
+
+/// The same, where the bindings are declared.
+fn is_refused(alloc: Global, store: &mut Store, count: usize) -> Result<bool, Fail> {
+    let core = publication(alloc, exchange_message())?;
+    Ok(is_put_off(alloc, store, core, first_of(bound_rows(), count))?)
 }
 
 #[test]
@@ -127,17 +134,26 @@ fn has_order(cycle: &Cycle, names: &[&str]) -> bool {
             .all(|(queue, name)| queue.bytes() == name.as_bytes())
 }
 
-#[test]
-fn a_queue_that_gave_goes_to_the_end(rt: HostRuntime) -> Result<(), Fail> {
-    let alloc = rt.alloc();
+/// A round of two queues.
+fn round(alloc: Global) -> Result<Cycle, Fail> {
     let mut queues = Vec::new(alloc);
     queues.push(QueueName::new(alloc, b"a")?)?;
     queues.push(QueueName::new(alloc, b"b")?)?;
-    let mut cycle = Cycle::new(queues);
-    assert!(rt; has_order(&cycle, &["a", "b"]));
+    Ok(Cycle::new(queues))
+}
+
+/// Whether a queue that gave goes to the end of the round, and a queue that isn't in it changes nothing.
+fn rotates(cycle: &mut Cycle) -> bool {
+    let is_first = has_order(cycle, &["a", "b"]);
     cycle.rotate(b"a");
-    assert!(rt; has_order(&cycle, &["b", "a"]));
+    let is_last = has_order(cycle, &["b", "a"]);
     cycle.rotate(b"c");
-    assert!(rt; has_order(&cycle, &["b", "a"]));
+    is_first && is_last && has_order(cycle, &["b", "a"])
+}
+
+#[test]
+fn a_queue_that_gave_goes_to_the_end(rt: HostRuntime) -> Result<(), Fail> {
+    let mut cycle = round(rt.alloc())?;
+    assert!(rt; rotates(&mut cycle));
     Ok(())
 }

@@ -3,28 +3,13 @@ use crate::return_rows::{
     hset_line, leave_rows, lost_entry, named_entry, named_rows, other_entry, plain_entry,
     requeue_rows, restore_rows, tag_text, unbound_rows,
 };
-use crate::talk::{is_silent, refuses, says_all};
+use crate::talk::{Rows, ended, first_of, is_put_off, is_silent, said, says_all};
 use command_blocks::Side;
 use envelope::Tag;
 use mini_store::Store;
 use returns::{ReturnCore, Returned, return_core};
 use std::alloc::{AllocError, Global};
 use std::test::Fail;
-use wire_spelling::command_fits;
-use wire_values::{Bytes, Words};
-
-/// Has another client say a command of these words, parted by one space each.
-fn said(alloc: Global, store: &mut Store, line: &str, last: &str) -> Result<(), AllocError> {
-    let mut command = Words::new();
-    for word in line.split(' ') {
-        command.push(alloc, Bytes::from_slice(alloc, word.as_bytes())?)?;
-    }
-    command.push(alloc, Bytes::from_slice(alloc, last.as_bytes())?)?;
-    if command_fits(&command) {
-        store.apply(alloc, 150, 1, &command)?;
-    }
-    Ok(())
-}
 
 /// A store whose table has this entry under the message's tag, and its index the tag.
 fn store_with(alloc: Global, entry: &str) -> Result<Store, AllocError> {
@@ -39,33 +24,21 @@ fn return_at(side: Side) -> ReturnCore {
     return_core(Tag::of(7, 1), side)
 }
 
-/// How a return over a store ends that says just these commands.
-fn ended(
-    alloc: Global,
-    store: &mut Store,
-    side: Side,
-    rows: &[(u32, &str)],
-) -> Result<Option<Returned>, Fail> {
-    let mut core = return_at(side);
-    if !says_all(alloc, store, &mut core, rows)? {
-        return Ok(None);
-    }
-    let end = core.end();
-    if is_silent(alloc, &mut core)? {
-        return Ok(end);
-    }
-    Ok(None)
-}
-
 /// How a return of this entry ends that says just these commands.
 fn returned(
     alloc: Global,
     entry: &str,
     side: Side,
-    rows: &[(u32, &str)],
-) -> Result<Option<Returned>, Fail> {
+    rows: Rows,
+) -> Result<Option<Returned>, AllocError> {
     let mut store = store_with(alloc, entry)?;
-    ended(alloc, &mut store, side, rows)
+    ended(alloc, &mut store, return_at(side), rows)
+}
+
+/// Whether a return to the tail of the queue says just these commands, and the message goes there.
+fn is_moved(alloc: Global, store: &mut Store, rows: Rows) -> Result<bool, AllocError> {
+    let end = ended(alloc, store, return_at(Side::Right), rows)?;
+    Ok(matches!(end, Some(Returned::Moved)))
 }
 
 #[test]
@@ -78,67 +51,105 @@ fn a_message_returns_at_either_side(rt: HostRuntime) -> Result<(), Fail> {
     Ok(())
 }
 
+/// Whether the message returns, and is gone then.
+fn returns_once(alloc: Global, store: &mut Store) -> Result<bool, AllocError> {
+    let is_moved = is_moved(alloc, store, restore_rows())?;
+    let second = ended(alloc, store, return_at(Side::Right), leave_rows())?;
+    Ok(is_moved && matches!(second, Some(Returned::Gone)))
+}
+
 #[test]
 fn a_message_returns_once(rt: HostRuntime) -> Result<(), Fail> {
     let alloc = rt.alloc();
     let mut store = store_with(alloc, plain_entry())?;
-    let first = ended(alloc, &mut store, Side::Right, restore_rows())?;
-    assert!(rt; matches!(first, Some(Returned::Moved)));
-    let second = ended(alloc, &mut store, Side::Right, leave_rows())?;
-    assert!(rt; matches!(second, Some(Returned::Gone)));
+    let is_once = returns_once(alloc, &mut store)?;
+    assert!(rt; is_once);
     Ok(())
+}
+
+/// Whether the message stays as long as its entry's exchange has no binding, and then goes by that.
+fn returns_by_exchange(alloc: Global, store: &mut Store) -> Result<bool, AllocError> {
+    let unbound = ended(alloc, store, return_at(Side::Right), unbound_rows())?;
+    said(
+        alloc,
+        store,
+        "SADD _kombu.binding.ex",
+        "rk\x06\x16\x06\x16mail",
+    )?;
+    Ok(matches!(unbound, Some(Returned::Stayed)) && is_moved(alloc, store, named_rows())?)
 }
 
 #[test]
 fn a_message_returns_by_its_entrys_exchange(rt: HostRuntime) -> Result<(), Fail> {
     let alloc = rt.alloc();
     let mut store = store_with(alloc, named_entry())?;
-    let unbound = ended(alloc, &mut store, Side::Right, unbound_rows())?;
-    assert!(rt; matches!(unbound, Some(Returned::Stayed)));
-    said(
-        alloc,
-        &mut store,
-        "SADD _kombu.binding.ex",
-        "rk\x06\x16\x06\x16mail",
-    )?;
-    let bound = ended(alloc, &mut store, Side::Right, named_rows())?;
-    assert!(rt; matches!(bound, Some(Returned::Moved)));
+    let is_returned = returns_by_exchange(alloc, &mut store)?;
+    assert!(rt; is_returned);
     Ok(())
 }
 
 #[test]
 fn what_is_no_entry_of_the_tag_stays(rt: HostRuntime) -> Result<(), Fail> {
     let alloc = rt.alloc();
-    let other = returned(alloc, other_entry(), Side::Right, leave_rows())?;
-    assert!(rt; matches!(other, Some(Returned::Stayed)));
-    let lost = returned(alloc, lost_entry(), Side::Right, leave_rows())?;
-    assert!(rt; matches!(lost, Some(Returned::Stayed)));
-    let none = returned(alloc, "no entry", Side::Right, leave_rows())?;
-    assert!(rt; matches!(none, Some(Returned::Stayed)));
+    for entry in [other_entry(), lost_entry(), "no entry"] {
+        let end = returned(alloc, entry, Side::Right, leave_rows())?;
+        assert!(rt; matches!(end, Some(Returned::Stayed)), "{entry}");
+    }
     Ok(())
 }
 
 /// Whether a return says a try whose table another client alters before EXEC.
-fn is_disturbed(alloc: Global, store: &mut Store, core: &mut ReturnCore) -> Result<bool, Fail> {
+fn is_disturbed(
+    alloc: Global,
+    store: &mut Store,
+    core: &mut ReturnCore,
+) -> Result<bool, AllocError> {
     let rows = restore_rows();
-    if rows.len() != 7 || !says_all(alloc, store, core, &rows[..6])? {
-        return Ok(false);
-    }
+    let is_said = rows.len() == 7 && says_all(alloc, store, core, first_of(rows, 6))?;
     said(alloc, store, "HSET unacked other", "text")?;
-    says_all(alloc, store, core, &rows[6..])
+    match rows.get(6..) {
+        Some(last) => Ok(is_said && says_all(alloc, store, core, last)?),
+        None => Ok(false),
+    }
+}
+
+/// Whether a return says eight such tries.
+fn is_disturbed_often(
+    alloc: Global,
+    store: &mut Store,
+    core: &mut ReturnCore,
+) -> Result<bool, AllocError> {
+    for _ in 0..8 {
+        if !is_disturbed(alloc, store, core)? {
+            return Ok(false);
+        }
+    }
+    Ok(true)
+}
+
+/// Whether it is contended after them.
+fn is_contended(
+    alloc: Global,
+    store: &mut Store,
+    core: &mut ReturnCore,
+) -> Result<bool, AllocError> {
+    let is_tried = is_disturbed_often(alloc, store, core)?;
+    let is_told = matches!(core.end(), Some(Returned::Contended(tag)) if tag == Tag::of(7, 1));
+    Ok(is_tried && is_told && is_silent(alloc, core)?)
+}
+
+/// Whether a return of the message from this store is contended.
+fn contends(alloc: Global, store: &mut Store) -> Result<bool, AllocError> {
+    let mut core = return_at(Side::Right);
+    is_contended(alloc, store, &mut core)
 }
 
 #[test]
 fn a_return_is_contended_after_eight_tries(rt: HostRuntime) -> Result<(), Fail> {
     let alloc = rt.alloc();
     let mut store = store_with(alloc, plain_entry())?;
-    let mut core = return_at(Side::Right);
-    for count in 0..8 {
-        assert!(rt; is_disturbed(alloc, &mut store, &mut core)?, "try {count}");
-    }
-    let end = core.end();
-    assert!(rt; matches!(end, Some(Returned::Contended(tag)) if tag == Tag::of(7, 1)));
-    assert!(rt; is_silent(alloc, &mut core)?);
+    let is_contended = contends(alloc, &mut store)?;
+    assert!(rt; is_contended);
     Ok(())
 }
 
@@ -146,15 +157,15 @@ fn a_return_is_contended_after_eight_tries(rt: HostRuntime) -> Result<(), Fail> 
 fn return_refuses(
     alloc: Global,
     entry: &str,
-    rows: &[(u32, &str)],
+    rows: Rows,
     count: usize,
-) -> Result<bool, Fail> {
+) -> Result<bool, AllocError> {
     let mut store = store_with(alloc, entry)?;
-    let mut core = return_at(Side::Right);
-    Ok(
-        count <= rows.len()
-            && says_all(alloc, &mut store, &mut core, &rows[..count])?
-            && refuses(alloc, &mut core)?,
+    is_put_off(
+        alloc,
+        &mut store,
+        return_at(Side::Right),
+        first_of(rows, count),
     )
 }
 

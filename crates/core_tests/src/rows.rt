@@ -63,7 +63,7 @@ pub fn publish_rows() -> &'static [(u32, &'static str)] {
 
 /// A declaration on the exchange `ex`: the routing key, the pattern and the queue of its binding; whether it is added, or
 /// taken out; the command; and whether it changes the exchange's set.
-type DeclareRow = (
+pub type DeclareRow = (
     &'static str,
     &'static str,
     &'static str,

@@ -5,8 +5,8 @@ use envelope::Tag;
 /// How a pass ended.
 #[derive(Clone, Copy, Debug, Drop)]
 pub enum PassEnd {
-    /// Each message that was due was returned: so many were moved to their queues, were gone from the table before, or
-    /// stayed in it.
+    /// The return of each tag that was read ended: so many messages were moved to their queues, were gone from the table
+    /// before, or stayed in it.
     Done { moved: u64, gone: u64, stayed: u64 },
     /// Another pass has the mutex.
     Held,

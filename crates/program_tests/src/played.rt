@@ -1,5 +1,5 @@
 //! The rows, run by the top call.
-use crate::rows::{bad_lines, limits, reports};
+use crate::rows::{bad_lines, limits, reports, returns};
 use crate::spelled::spelled;
 use line_text::number_in;
 use links::{MemorySink, MemorySource};
@@ -132,16 +132,29 @@ fn a_schedule_at_the_limits_ends_so(rt: HostRuntime) -> Result<(), Fail> {
     Ok(())
 }
 
+/// Asserts that a schedule has this report.
+fn expect_report<R: Abort>(
+    rt: &R,
+    alloc: Global,
+    schedule: &str,
+    report: &str,
+) -> Result<(), AllocError> {
+    expect(
+        rt,
+        alloc,
+        schedule.as_bytes(),
+        end_of(0, 0),
+        report.as_bytes(),
+    )
+}
+
 #[test]
 fn a_schedule_has_its_report(rt: HostRuntime) -> Result<(), Fail> {
     for (schedule, report) in reports::reports() {
-        expect(
-            &rt,
-            rt.alloc(),
-            schedule.as_bytes(),
-            end_of(0, 0),
-            report.as_bytes(),
-        )?;
+        expect_report(&rt, rt.alloc(), schedule, report)?;
+    }
+    for (schedule, report) in returns::returns() {
+        expect_report(&rt, rt.alloc(), schedule, report)?;
     }
     Ok(())
 }

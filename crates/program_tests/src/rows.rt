@@ -2,4 +2,6 @@
 pub mod bad_lines;
 pub mod limits;
 pub mod reports;
+pub mod returns;
+pub mod stops;
 pub mod streams;

@@ -316,7 +316,7 @@ if_asks κ f false x y h k = k
 text_asks : (κ : Craft) (craft : IsCraft κ) (f : ℕ → List Asked) (d : ScheduleReader) (line : Bytes) → d.moment < 2 ^ 40 → Asks κ f d → (o : Option Reason) → LedAsks κ (and_line f (line_in (words_of line))) (text_led κ d line o)
 text_asks κ craft f d line soon h (Some r) = tt
 text_asks κ craft f d line soon h None =
-    if_asks κ (and_line f (line_in (words_of line))) (waits κ.built (words_of line)) (Bad Later) (led_by κ d (line_in (words_of line))) tt (by_asks κ craft f d soon h (line_in (words_of line)) (line_there (words_of line)))
+    if_asks κ (and_line f (line_in (words_of line))) (waits (words_of line)) (Bad Later) (led_by κ d (line_in (words_of line))) tt (by_asks κ craft f d soon h (line_in (words_of line)) (line_there (words_of line)))
 
 asked_later : (c : ℕ) (ls : List Bytes) (l : Bytes) → asks_in c (ls ++ l ∷ []) ≡ asks_in c ls ++ asked_at c (line_in (words_of l))
 asked_later c [] l = append-nil (asked_at c (line_in (words_of l)))

@@ -115,7 +115,7 @@ if_led σ false x y f g = g
 
 text_holds : (κ : Craft) (craft : IsCraft κ) (d : ScheduleReader) (line : Bytes) → Holds κ.setting d → (o : Option Reason) → LedHolds κ.setting (text_led κ d line o)
 text_holds κ craft d line h (Some r) = tt
-text_holds κ craft d line h None = if_led κ.setting (waits κ.built (words_of line)) (Bad Later) (led_by κ d (line_in (words_of line))) tt (by_holds κ craft d h (line_in (words_of line)) (line_there (words_of line)))
+text_holds κ craft d line h None = if_led κ.setting (waits (words_of line)) (Bad Later) (led_by κ d (line_in (words_of line))) tt (by_holds κ craft d h (line_in (words_of line)) (line_there (words_of line)))
 
 -- each line keeps a desk
 pub line_holds : (κ : Craft) (craft : IsCraft κ) (d : ScheduleReader) (line : Bytes) → Holds κ.setting d → LedHolds κ.setting (line_led κ d line)

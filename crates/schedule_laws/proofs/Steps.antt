@@ -72,7 +72,7 @@ first_line κ cut n d l (k ∷ ls) h =
 
 -- ---- a line
 
-spelled_led : (κ : Craft) (d : ScheduleReader) (l : Line) (bytes : Bytes) → SpellsLine κ l bytes → line_led κ d bytes ≡ led_unless κ d l (first_reason (tests κ d l))
+spelled_led : (κ : Craft) (d : ScheduleReader) (l : Line) (bytes : Bytes) → SpellsLine l bytes → line_led κ d bytes ≡ led_unless κ d l (first_reason (tests κ d l))
 spelled_led κ d l bytes h =
     ap (text_led κ d bytes) h.text
     ∙ (ap (λ b. if b then Bad Later else led_by κ d (line_in (words_of bytes))) h.built
@@ -105,7 +105,7 @@ written_after c b s t e f = ap (λ (p : ScheduleReader × Bool). if p.1 then Wen
 no_more : false ≡ true → ⊥
 no_more e = cc e
 
-module _ (κ : Craft) (c : ℕ) (step : Bytes) (spelled : SpellsLine κ (Step c) step) (cut : Bool) (ls : List Bytes) (on : GoesOn cut ls) where
+module _ (κ : Craft) (c : ℕ) (step : Bytes) (spelled : SpellsLine (Step c) step) (cut : Bool) (ls : List Bytes) (on : GoesOn cut ls) where
   abbrev rest : Led → Determined
   rest r = followed (led_through κ cut ls) r
 
@@ -177,7 +177,7 @@ holds : (b : Bool) → not b ≡ false → b ≡ true
 holds true e = refl
 holds false e = cc e
 
-module _ (κ : Craft) (c : ℕ) (run step : Bytes) (spells_run : SpellsLine κ (Run c) run) (spells_step : SpellsLine κ (Step c) step) (cut : Bool) (n : ℕ) (d : ScheduleReader) (ls : List Bytes) where
+module _ (κ : Craft) (c : ℕ) (run step : Bytes) (spells_run : SpellsLine (Run c) run) (spells_step : SpellsLine (Step c) step) (cut : Bool) (n : ℕ) (d : ScheduleReader) (ls : List Bytes) where
   abbrev Leads : Type 0
   Leads = (k : ℕ) × (unnumbered (lines_led κ cut n d (run ∷ ls)) ≡ unnumbered (lines_led κ cut n d (repeated (suc k) step ls)))
 

@@ -90,9 +90,9 @@ SchedulesSayBlocks = (κ : Craft) → IsCraft κ → (bytes : Bytes) → IsAsked
 -- ---- run and step
 
 -- the bytes are this line, and it is built
-pub record SpellsLine (κ : Craft) (l : Line) (bytes : Bytes) : Type 0 where
+pub record SpellsLine (l : Line) (bytes : Bytes) : Type 0 where
   pub text : text_fault max_line bytes ≡ None
-  pub built : waits κ.built (words_of bytes) ≡ false
+  pub built : waits (words_of bytes) ≡ false
   pub line : line_in (words_of bytes) ≡ Some l
 
 -- what is determined, whatever the number of a bad line
@@ -107,9 +107,9 @@ repeated (suc k) l ls = l ∷ repeated k l ls
 
 -- a `run` line leads to what so many `step` lines lead to, whatever lines come before and after it
 abbrev pub RunsAreSteps : Type 0
-RunsAreSteps = (κ : Craft) (c : ℕ) (run step : Bytes) → SpellsLine κ (Run c) run → SpellsLine κ (Step c) step → (cut : Bool) (n : ℕ) (d : ScheduleReader) (ls : List Bytes)
+RunsAreSteps = (κ : Craft) (c : ℕ) (run step : Bytes) → SpellsLine (Run c) run → SpellsLine (Step c) step → (cut : Bool) (n : ℕ) (d : ScheduleReader) (ls : List Bytes)
     → (k : ℕ) × (unnumbered (lines_led κ cut n d (run ∷ ls)) ≡ unnumbered (lines_led κ cut n d (repeated (suc k) step ls)))
 
 -- and it says the client's block to its end: where it leads to a desk, the client has nothing left to say there
 abbrev pub RunsEndBlocks : Type 0
-RunsEndBlocks = (κ : Craft) (c : ℕ) (run : Bytes) → SpellsLine κ (Run c) run → (d e : ScheduleReader) → line_led κ d run ≡ Went e → is_busy (get e.books c) ≡ false
+RunsEndBlocks = (κ : Craft) (c : ℕ) (run : Bytes) → SpellsLine (Run c) run → (d e : ScheduleReader) → line_led κ d run ≡ Went e → is_busy (get e.books c) ≡ false

@@ -1,4 +1,4 @@
-//! Lines of a schedule: what words spell, and which lines are built.
+//! Lines of a schedule: what words spell, and which lines are put off.
 //!
 //! A line is spelled by its words; `schedule_model` defines which line that is.
 #![tactic(auto)]

@@ -9,17 +9,15 @@ use Rattle.queue_keys.specs.Bindings.{is_part}
 use Rattle.queue_keys.specs.Names.{Bytes, all_free, has_length, is_reserved}
 use Rattle.command_blocks.specs.Scripts.{Script, Off, Say}
 use Rattle.command_blocks.specs.Setting.{Setting}
-use Rattle.schedule_model.specs.Built.{Built}
 use Rattle.schedule_model.specs.Desk.{ScheduleReader, ClientBook}
 use Rattle.schedule_model.specs.declared.line.Asked.{Asked}
 use Rattle.schedule_model.specs.declared.line.Asked.TheVariants as asked
 use Rattle.schedule_model.specs.declared.line.Line.{Line}
 use Rattle.schedule_model.specs.declared.line.Line.TheVariants.{Client, At, Begin, Step, Run, Stop}
 
--- how lines are read from here on: the names and texts, which lines are built, which texts are arguments, and the envelope of a publication
+-- how lines are read from here on: the names and texts, which texts are arguments, and the envelope of a publication
 pub record Craft : Type 0 where
   pub setting : Setting
-  pub built : Built
   pub are_arguments : Bytes → Bool  -- a JSON array without a float, nested at most 90 deep
   pub sealed : ℕ → ℕ → Bytes → Bytes → ℕ → Bytes → Bytes → Option Bytes  -- by seed, counter, exchange, routing key, priority, task and arguments; none where it is refused
 

@@ -2,7 +2,6 @@
 use Rattle.std.specs.Prelude.{Bool, is_some}
 use Rattle.command_blocks.specs.EnvelopeTexts.{plain_setting}
 use Rattle.queue_keys.specs.Names.{Bytes}
-use Rattle.schedule_model.specs.Built.{workers}
 use Rattle.schedule_model.specs.Drafts.{arguments_of, sealed_task}
 use Rattle.schedule_model.specs.Faults.{Craft}
 use Rattle.schedule_model.specs.Legends.{legend_of}
@@ -13,9 +12,9 @@ use Rattle.schedule_model.specs.Shapes.{shape_of}
 abbrev pub are_arguments : Bytes → Bool
 are_arguments j = is_some (arguments_of j)
 
--- Celery's envelopes under the keys without a prefix, publishers and workers
+-- Celery's envelopes under the keys without a prefix
 abbrev pub program_craft : Craft
-program_craft = record { setting = plain_setting; built = workers; are_arguments = are_arguments; sealed = sealed_task }
+program_craft = record { setting = plain_setting; are_arguments = are_arguments; sealed = sealed_task }
 
 -- the words that spell envelopes, entries and tags, under the same names
 abbrev pub program_legend : ReportLegend

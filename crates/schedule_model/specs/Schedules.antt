@@ -92,7 +92,7 @@ led_by κ d (Some l) = led_unless κ d l (first_reason (tests κ d l))
 
 -- what words lead to
 abbrev pub words_led : Craft → ScheduleReader → List Bytes → Led
-words_led κ d ws = if waits κ.built ws then Bad Later else led_by κ d (line_in ws)
+words_led κ d ws = if waits ws then Bad Later else led_by κ d (line_in ws)
 
 -- a line, by what is wrong with it as a text
 abbrev pub text_led : Craft → ScheduleReader → Bytes → Option Reason → Led

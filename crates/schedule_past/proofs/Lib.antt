@@ -1,3 +1,4 @@
+pub mod Companions
 pub mod Going
 pub mod Numbers
 pub mod Rooms

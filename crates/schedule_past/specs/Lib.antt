@@ -1,4 +1,4 @@
+pub mod Clients
 pub mod Counted
 pub mod Desks
 pub mod Rooms
-pub mod Running

@@ -1,12 +1,11 @@
 //! What happened so far: the present moment, the history with its running cost, and the store.
 ghost use Rattle.std.specs.Prelude.{◌≡◌, ◌<◌, ◌+◌, IfOk, OnOk, Some, true};
-ghost use Rattle.place_model.specs.Shown.{history_of};
+ghost use Rattle.place_model.specs.Shown.{has_stopped, history_of};
 ghost use Rattle.store_model.specs.Limits.{moment_limit};
 ghost use Rattle.schedule_model.specs.Costs.{reply_size, total_cost, words_size};
 ghost use Rattle.schedule_model.specs.Faults.{has_more, has_number, has_seed};
 ghost use Rattle.client_blocks.specs.Blocks.{script_left};
 ghost use Rattle.client_blocks.specs.Lefts.{after_answer};
-ghost use Rattle.schedule_past.specs.Running.{AreRunning};
 
 use crate::cost::call_cost;
 use client_blocks::BlockLeft;
@@ -22,6 +21,9 @@ const ENTRY_LIMIT: usize = 1_000_000;
 /// The greatest cost of a history in bytes.
 const COST_LIMIT: u64 = 1 << 30;
 
+/// What a stop costs in bytes.
+const STOP_COST: u64 = 64;
+
 /// The present moment in seconds, the history with what its entries cost, and the store that answered.
 #[derive(Drop)]
 pub struct Past {
@@ -34,7 +36,6 @@ pub struct Past {
     /// The store that answered its calls.
     pub store: Store,
     ghost early: { moment < moment_limit },
-    ghost running: { AreRunning (history_of history).entries },
     ghost costs: { cost ≡ total_cost (history_of history).entries },
 }
 
@@ -42,12 +43,13 @@ impl Past {
     ghost use Rattle.std.specs.FinMap.{FinMap, empty};
     ghost use Rattle.std.specs.Ordering.{nat_cmp};
     ghost use Rattle.std.specs.Prelude.{OnErr, ◌||◌, ◌∷◌, [], ◌++◌, length, false};
-    ghost use Rattle.place_model.specs.declared.history.Entry.TheVariants.{Call};
-    ghost use Rattle.store_model.specs.Store.{apply_of};
+    ghost use Rattle.place_model.specs.declared.history.Entry.TheVariants.{Call, Stop};
+    ghost use Rattle.store_model.specs.Store.{apply_of, gone_of};
     ghost use Rattle.wire_grammar.specs.Fits.{IsWithinLimits};
     ghost use Rattle.command_blocks.specs.Scripts.{next_words};
     ghost use Rattle.schedule_model.specs.Costs.{is_full};
     ghost use Rattle.schedule_model.specs.Desk.{ClientBook, first_desk, said_all, said_one, with_call};
+    ghost use Rattle.schedule_past.specs.Clients.{HasSameClients, HasSameGoneBut, HasSameTable};
     ghost use Rattle.schedule_past.specs.Desks.{desk_with};
     ghost use Rattle.schedule_past.specs.Rooms.{room_left};
 
@@ -97,7 +99,7 @@ impl Past {
         requires number { has_number client (history_of self.old.history).clients ≡ false }
         requires seed { has_seed seed (history_of self.old.history).clients ≡ false }
         ensures ok { OnOk result ((bs : FinMap nat_cmp ClientBook) → desk_with self.new bs ≡ record (desk_with self.old bs) { clients = (history_of self.old.history).clients ++ (client, seed) ∷ [] }) }
-        ensures err { OnErr result ((history_of self.new.history).clients ≡ (history_of self.old.history).clients) }
+        ensures err { OnErr result (HasSameClients self.old self.new) }
     {
         self.history.client(alloc, client, seed)
     }
@@ -111,11 +113,12 @@ impl Past {
         left: &mut BlockLeft,
     ) -> Result<(), AllocError>
         requires known { has_number client (history_of self.old.history).clients ≡ true }
+        requires running { has_stopped client (history_of self.old.history).entries ≡ false }
         requires limits { IsWithinLimits words }
         requires next { next_words (script_left left.old) self.old.moment ≡ Some words }
         ensures desk { OnOk result ((bs : FinMap nat_cmp ClientBook) → desk_with self.new bs ≡ with_call (desk_with self.old bs) client words (apply_of self.old.store.state self.old.moment client words)) }
         ensures left { OnOk result (script_left left.new ≡ after_answer (script_left left.old) (apply_of self.old.store.state self.old.moment client words).1.answer) }
-        ensures table { (history_of self.new.history).clients ≡ (history_of self.old.history).clients }
+        ensures clients { HasSameClients self.old self.new }
     {
         let reply = self.store.apply(alloc, self.moment, client, &words)?;
         self.hear(alloc, client, words, reply, left)
@@ -132,11 +135,12 @@ impl Past {
         left: &mut BlockLeft,
     ) -> Result<(), AllocError>
         requires known { has_number client (history_of self.old.history).clients ≡ true }
+        requires running { has_stopped client (history_of self.old.history).entries ≡ false }
         requires limits { IsWithinLimits words }
         requires asked { has_more (script_left left.old) ≡ true }
         ensures desk { OnOk result ((bs : FinMap nat_cmp ClientBook) → desk_with self.new bs ≡ record (desk_with self.old bs) { entries = (history_of self.old.history).entries ++ Call client self.old.moment words reply ∷ [] }) }
         ensures left { OnOk result (script_left left.new ≡ after_answer (script_left left.old) reply.answer) }
-        ensures table { (history_of self.new.history).clients ≡ (history_of self.old.history).clients }
+        ensures clients { HasSameClients self.old self.new }
     {
         let cost = answered(alloc, self.moment, self.cost, &words, &reply, left)?;
         self.note(alloc, client, words, reply, cost)
@@ -152,10 +156,11 @@ impl Past {
         cost: u64,
     ) -> Result<(), AllocError>
         requires known { has_number client (history_of self.old.history).clients ≡ true }
+        requires running { has_stopped client (history_of self.old.history).entries ≡ false }
         requires limits { IsWithinLimits words }
         requires cost { cost ≡ self.old.cost + (64 + words_size words + reply_size reply) }
         ensures desk { OnOk result ((bs : FinMap nat_cmp ClientBook) → desk_with self.new bs ≡ record (desk_with self.old bs) { entries = (history_of self.old.history).entries ++ Call client self.old.moment words reply ∷ [] }) }
-        ensures table { (history_of self.new.history).clients ≡ (history_of self.old.history).clients }
+        ensures clients { HasSameClients self.old self.new }
     {
         self.history.add(
             alloc,
@@ -170,6 +175,23 @@ impl Past {
         Ok(())
     }
 
+    /// A client is gone: the store drops what its connection had.
+    pub fn stop(&mut self, alloc: Global, client: u32) -> Result<(), AllocError>
+        requires known { has_number client (history_of self.old.history).clients ≡ true }
+        requires running { has_stopped client (history_of self.old.history).entries ≡ false }
+        ensures desk { OnOk result ((bs : FinMap nat_cmp ClientBook) → desk_with self.new bs ≡ record (desk_with self.old bs) { entries = (history_of self.old.history).entries ++ Stop client ∷ []; store = gone_of self.old.store.state client }) }
+        ensures table { HasSameTable self.old self.new }
+        ensures gone { HasSameGoneBut client self.old self.new }
+    {
+        let Some(cost) = self.cost.checked_add(STOP_COST) else {
+            return Err(AllocError);
+        };
+        self.history.add(alloc, Entry::Stop { conn: client })?;
+        self.cost = cost;
+        self.store.gone(client);
+        Ok(())
+    }
+
     /// A client says the next command of its block, if there is one. False where the history has no room for it.
     pub fn say_one(
         &mut self,
@@ -177,10 +199,11 @@ impl Past {
         client: u32,
         left: &mut BlockLeft,
     ) -> Result<bool, AllocError>
-        requires { has_number client (history_of self.old.history).clients ≡ true }
+        requires known { has_number client (history_of self.old.history).clients ≡ true }
+        requires running { has_stopped client (history_of self.old.history).entries ≡ false }
         ensures said { IfOk result (λ room. (bs : FinMap nat_cmp ClientBook) → said_one (desk_with self.old bs) client (script_left left.old) ≡ record { desk = desk_with self.new bs; left = script_left left.new; room = room }) }
         ensures fewer { IfOk result (λ room. room ≡ true → has_more (script_left left.old) ≡ true → room_left self.new < room_left self.old) }
-        ensures table { (history_of self.new.history).clients ≡ (history_of self.old.history).clients }
+        ensures clients { HasSameClients self.old self.new }
     {
         let Some(words) = left.next(alloc, self.moment)? else {
             return Ok(true);
@@ -199,9 +222,10 @@ impl Past {
         client: u32,
         left: &mut BlockLeft,
     ) -> Result<bool, AllocError>
-        requires { has_number client (history_of self.old.history).clients ≡ true }
+        requires known { has_number client (history_of self.old.history).clients ≡ true }
+        requires running { has_stopped client (history_of self.old.history).entries ≡ false }
         ensures said { IfOk result (λ room. (bs : FinMap nat_cmp ClientBook) → said_all (desk_with self.old bs) client (script_left left.old) ≡ record { desk = desk_with self.new bs; left = script_left left.new; room = room }) }
-        ensures table { (history_of self.new.history).clients ≡ (history_of self.old.history).clients }
+        ensures clients { HasSameClients self.old self.new }
     {
         while left.has_more() {
             let has_room = self.say_one(alloc, client, left)?;

@@ -8,7 +8,8 @@ use Rattle.line_text.specs.declared.reason.Reason.TheVariants.{Busy, Stopped}
 use Rattle.command_blocks.specs.Blocks.{drawn, passes_after}
 use Rattle.command_blocks.specs.EnvelopeTexts.{plain_setting}
 use Rattle.queue_keys.specs.Names.{Bytes}
-use Rattle.command_blocks.specs.Scripts.{End, Plan, Pop, Publish, Script, counter_use, script_of}
+use Rattle.command_blocks.specs.Scripts.{Declare, End, Plan, Pop, Publish, Return, Script, Undeclare, counter_use, script_of}
+use Rattle.command_blocks.specs.declared.side.Side.TheVariants.{Left, Right}
 use Rattle.schedule_model.specs.Desk as desk
 use Rattle.schedule_model.specs.Desk.{ScheduleReader, begun}
 use Rattle.schedule_model.specs.Faults.{asked_tests, counter_of, first_reason, has_more, is_busy, is_script_off, present_tests, client_seed}
@@ -55,10 +56,10 @@ passing : (x y : Bool) (o : Option Reason) → x ≡ false → y ≡ false → (
 passing x y o e f = ap (λ t. if t then Some Stopped else if y then Some Busy else o) e ∙ ap (λ t. if t then Some Busy else o) f
 
 -- a book by its seed and how many tags were drawn
-pub found_so : (o : Option ClientBook) (k : ClientBook) (s n : ℕ) → o ≡ Some k → ◌≡◌ {A = ℕ × ℕ} (s, n) (k.seed, k.drawn) → o ≡ Some (record { seed = s; drawn = n; left = k.left })
-found_so o k s n e f =
-    let again : ℕ × ℕ → Option ClientBook = λ q. Some (record { seed = q.0; drawn = q.1; left = k.left }) in
-    e ∙ sym (ap again f)
+pub found_so : (o : Option ClientBook) (k : ClientBook) (s n : ℕ) → o ≡ Some k → ◌≡◌ {A = ℕ × ℕ} (s, n) (k.seed, k.drawn) → k.is_stopped ≡ false → o ≡ Some (record { seed = s; drawn = n; left = k.left; is_stopped = false })
+found_so o k s n e f on =
+    let again : ℕ × ℕ → Option ClientBook = λ q. Some (record { seed = q.0; drawn = q.1; left = k.left; is_stopped = k.is_stopped }) in
+    e ∙ sym (ap again f) ∙ ap (λ b. Some (record { seed = s; drawn = n; left = k.left; is_stopped = b })) on
 
 -- a publication makes no pass
 publishing : (o : Option Bytes) (p : Plan) → publish_plan o ≡ Some p → passes_after (counter_use p) 0 ≡ 0
@@ -68,15 +69,15 @@ publishing (Some v) p e = let same : p ≡ Publish v = cc in ap (λ q. passes_af
 -- nor does what is built
 passes_kept : (s n : ℕ) (a : Asked) (p : Plan) → IsBuiltBlock a → plan_of program_craft s n a ≡ Some p → passes_after (counter_use p) 0 ≡ 0
 passes_kept s n (asked.Publish x k q t j) p h e = publishing (program_craft.sealed s n x k q t j) p e
-passes_kept s n (asked.Declare x k q t) p h e = absurd h
-passes_kept s n (asked.Undeclare x k q t) p h e = absurd h
+passes_kept s n (asked.Declare x k q t) p h e = let same : p ≡ Declare x k q t = cc in ap (λ q. passes_after (counter_use q) 0) same
+passes_kept s n (asked.Undeclare x k q t) p h e = let same : p ≡ Undeclare x k q t = cc in ap (λ q. passes_after (counter_use q) 0) same
 passes_kept s n (asked.Pop qs) p h e = let same : p ≡ Pop qs = cc in ap (λ q. passes_after (counter_use q) 0) same
 passes_kept s n (asked.Ack a b) p h e = let same : p ≡ End (plain_setting.tag a b) = cc in ap (λ q. passes_after (counter_use q) 0) same
-passes_kept s n (asked.Restore a b) p h e = absurd h
-passes_kept s n (asked.Requeue a b) p h e = absurd h
+passes_kept s n (asked.Restore a b) p h e = let same : p ≡ Return Right (plain_setting.tag a b) = cc in ap (λ q. passes_after (counter_use q) 0) same
+passes_kept s n (asked.Requeue a b) p h e = let same : p ≡ Return Left (plain_setting.tag a b) = cc in ap (λ q. passes_after (counter_use q) 0) same
 passes_kept s n (asked.Pass v) p h e = absurd h
 
-module _ (past : Past) (m t : Shelf) (c s n : ℕ) (l : BlockLeft) (a : Asked) (found : get m c ≡ Some (record { seed = s; drawn = n; left = l })) (on : is_script_off (script_left l) ≡ false) (free : has_more (script_left l) ≡ false) where
+module _ (past : Past) (m t : Shelf) (c s n : ℕ) (l : BlockLeft) (a : Asked) (found : get m c ≡ Some (record { seed = s; drawn = n; left = l; is_stopped = false })) (on : is_script_off (script_left l) ≡ false) (free : has_more (script_left l) ≡ false) where
   abbrev before : ScheduleReader
   before = desk_with past (books_of m)
 
@@ -103,7 +104,7 @@ module _ (past : Past) (m t : Shelf) (c s n : ℕ) (l : BlockLeft) (a : Asked) (
   unprepared f (Err g) e h p = subst (λ x. IsTold (begin_led before c a (get (books_of m) c)) before before (Err x)) (sym h) (prepared_told f p)
 
   -- the book of a client that begins a plan
-  book_begun : (b : BegunBlock) (p : Plan) → passes_after (counter_use p) 0 ≡ 0 → IsBegun s n p b → begun plain_setting there p ≡ book_of (record { seed = s; drawn = b.drawn; left = b.left })
+  book_begun : (b : BegunBlock) (p : Plan) → passes_after (counter_use p) 0 ≡ 0 → IsBegun s n p b → begun plain_setting there p ≡ book_of (record { seed = s; drawn = b.drawn; left = b.left; is_stopped = false })
   book_begun b p e h =
       let x : desk.ClientBook = record { seed = s; drawn = b.drawn; passes = 0; left = script_left b.left; stopped = false } in
       ap (λ (q : ℕ). record x { drawn = drawn (counter_use p) n; passes = q; left = script_of plain_setting s 0 p }) e
@@ -112,9 +113,9 @@ module _ (past : Past) (m t : Shelf) (c s n : ℕ) (l : BlockLeft) (a : Asked) (
 
   -- a block that is begun
   pub asked_went : (b : BegunBlock) (p : Plan) → IsBuiltBlock a → first_reason (asked_tests program_craft s (suc n) a) ≡ None → plan_of program_craft s (suc n) a ≡ Some p → IsBegun s n p b
-      → t ≡ insert m c (record { seed = s; drawn = b.drawn; left = b.left }) → begin_led before c a (get (books_of m) c) ≡ Went (desk_with past (books_of t))
+      → t ≡ insert m c (record { seed = s; drawn = b.drawn; left = b.left; is_stopped = false }) → begin_led before c a (get (books_of m) c) ≡ Went (desk_with past (books_of t))
   asked_went b p built none plan h grown =
-      let k : ClientBook = record { seed = s; drawn = b.drawn; left = b.left } in
+      let k : ClientBook = record { seed = s; drawn = b.drawn; left = b.left; is_stopped = false } in
       let books : insert (books_of m) c (begun plain_setting there p) ≡ books_of t =
       ap (insert (books_of m) c) (book_begun b p (passes_kept s (suc n) a p built plan) h) ∙ sym (ap books_of grown ∙ books_of-insert m c k) in
       ap (led_unless program_craft before (Begin c a)) (reason_is ∙ none)

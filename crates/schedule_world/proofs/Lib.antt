@@ -1,9 +1,12 @@
 pub mod Begins
 pub mod BuiltLines
 pub mod Clients
+pub mod Here
 pub mod Known
 pub mod Lawful
 pub mod Numbered
+pub mod Presence
 pub mod Shelved
 pub mod Spoken
+pub mod Stops
 pub mod Taken

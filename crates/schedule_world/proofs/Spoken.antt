@@ -51,7 +51,7 @@ told_room l d e room (Err (Bad w)) h q = absurd q
 told_room l d e room (Err (Full n k)) h q = (h ∙ ap (λ b. if b then Went e else Filled e) q.0, q.1, q.2)
 told_room l d e room (Err Memory) h q = absurd q
 
-module _ (p p' : Past) (m n : Shelf) (c : ℕ) (k : ClientBook) (l : BlockLeft) (room : Bool) (found : get m c ≡ Some k) (free : idle_reason (option_map book_of (get m c)) ≡ None) (grown : n ≡ insert (remove m c) c (record { seed = k.seed; drawn = k.drawn; left = l })) where
+module _ (p p' : Past) (m n : Shelf) (c : ℕ) (k : ClientBook) (l : BlockLeft) (room : Bool) (found : get m c ≡ Some k) (free : idle_reason (option_map book_of (get m c)) ≡ None) (grown : n ≡ insert (remove m c) c (record { seed = k.seed; drawn = k.drawn; left = l; is_stopped = k.is_stopped })) where
   abbrev before : ScheduleReader
   before = desk_with p (books_of m)
 
@@ -64,8 +64,8 @@ module _ (p p' : Past) (m n : Shelf) (c : ℕ) (k : ClientBook) (l : BlockLeft) 
   unfaulted : idle_reason (get (books_of m) c) ≡ None
   unfaulted = ap idle_reason (get-books_of m c) ∙ free
 
-  books_grown : insert (books_of m) c (book_of (record { seed = k.seed; drawn = k.drawn; left = l })) ≡ books_of n
-  books_grown = sym (ap books_of grown ∙ books_of_again m c (record { seed = k.seed; drawn = k.drawn; left = l }))
+  books_grown : insert (books_of m) c (book_of (record { seed = k.seed; drawn = k.drawn; left = l; is_stopped = k.is_stopped })) ≡ books_of n
+  books_grown = sym (ap books_of grown ∙ books_of_again m c (record { seed = k.seed; drawn = k.drawn; left = l; is_stopped = k.is_stopped }))
 
   heard_so : (s : desk.Said) → s ≡ record { desk = desk_with p' (books_of m); left = script_left l; room = room } → reader_after c (book_of k) s ≡ (if room then Went after else Filled after)
   heard_so s said = ap (reader_after c (book_of k)) said ∙ ap (λ b. if room then Went (desk_with p' b) else Filled (desk_with p' b)) books_grown
@@ -86,3 +86,8 @@ taken_known m n cs ds c known e f = known_same (remove m c) n cs ds e f (one_les
 pub set_known : (n t : Shelf) (ds : List (ℕ × ℕ)) (c : ℕ) (k : ClientBook) (r : Result (Unit {0}) AllocError) → AreKnown n ds → has_number c ds ≡ true → OnOk r (t ≡ insert n c k) → OnErr r (t ≡ n) → AreKnown t ds
 set_known n t ds c k (Ok u) known h ok err = known_same (insert n c k) t ds ds ok refl (one_more_known n ds c k known h)
 set_known n t ds c k (Err e) known h ok err = known_same n t ds ds err refl known
+
+-- and after it was noted in it that its client is gone, if there was the memory
+pub stopped_known : (m t : Shelf) (cs : List (ℕ × ℕ)) (c : ℕ) (k : ClientBook) (r : Result (Unit {0}) AllocError) → AreKnown m cs → has_number c cs ≡ true → get m c ≡ Some k → OnOk r ((j : ClientBook) → get m c ≡ Some j → t ≡ insert (remove m c) c (record j { is_stopped = true })) → OnErr r (t ≡ remove m c) → AreKnown t cs
+stopped_known m t cs c k (Ok u) known h found ok err = known_same (insert (remove m c) c (record k { is_stopped = true })) t cs cs (ok k found) refl (one_more_known (remove m c) cs c (record k { is_stopped = true }) (one_less_known m cs c known) h)
+stopped_known m t cs c k (Err e) known h found ok err = taken_known m t cs cs c known err refl

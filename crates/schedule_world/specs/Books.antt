@@ -1,5 +1,5 @@
 -- The books of clients, as a reader of schedules has them. Serves the proofs of code.
-use Rattle.std.specs.Prelude.{false, map}
+use Rattle.std.specs.Prelude.{map}
 use Rattle.std.specs.FinMap.{FinMap, entries, from_entries}
 use Rattle.std.specs.Ordering.{nat_cmp}
 use Rattle.schedule_model.specs.Desk as desk
@@ -7,9 +7,9 @@ use Rattle.client_blocks.specs.Blocks.{script_left}
 use Rattle.schedule_world.specs.Shelves.{Shelf}
 use Rattle.schedule_world.specs.declared.book.ClientBook.{ClientBook}
 
--- a client's book: it made no passes, and isn't stopped
+-- a client's book: it made no passes
 abbrev pub book_of : ClientBook → desk.ClientBook
-book_of b = record { seed = b.seed; drawn = b.drawn; passes = 0; left = script_left b.left; stopped = false }
+book_of b = record { seed = b.seed; drawn = b.drawn; passes = 0; left = script_left b.left; stopped = b.is_stopped }
 
 -- the books of all clients
 unfoldable pub books_of : Shelf → FinMap nat_cmp desk.ClientBook

@@ -6,5 +6,4 @@ use Rattle.schedule_model.specs.declared.line.Line.TheVariants as line
 -- the line is built
 abbrev pub IsBuiltLine : Line → Type 0
 IsBuiltLine (line.Begin c a) = IsBuiltBlock a
-IsBuiltLine (line.Stop c) = ⊥
 IsBuiltLine other = Unit {0}

@@ -1,8 +1,8 @@
 //! What is kept of each client.
 ghost use Rattle.std.specs.FinMap as map;
 ghost use Rattle.std.specs.Option.{option_copied};
-ghost use Rattle.std.specs.Prelude.{◌≡◌, OnErr, OnOk};
-ghost use Rattle.schedule_world.specs.Rests.{IsBusy, IsResting};
+ghost use Rattle.std.specs.Prelude.{◌≡◌, OnErr, OnOk, Some, true};
+ghost use Rattle.schedule_world.specs.Rests.{IsBusy, IsPresent, IsResting, is_book_gone};
 
 use client_blocks::BlockLeft;
 use line_text::Reason;
@@ -10,12 +10,22 @@ use std::alloc::{AllocError, Global};
 use std::collections::BTreeMap;
 use std::marker::Model;
 
-/// What is kept of a client: its seed, how many tags it drew, and what is left of its block.
+/// What is kept of a client: its seed, how many tags it drew, what is left of its block, and whether it is stopped.
 #[derive(Drop)]
 pub(crate) struct ClientBook {
     pub(crate) seed: u64,
     pub(crate) drawn: u64,
     pub(crate) left: BlockLeft,
+    pub(crate) is_stopped: bool,
+}
+
+impl ClientBook {
+    /// Whether the client says nothing more: it is stopped, or an answer to it wasn't listed.
+    pub(crate) fn is_gone(&self) -> bool
+        ensures { result ≡ is_book_gone self.now }
+    {
+        self.is_stopped || self.left.is_off()
+    }
 }
 
 /// The clients' books by their numbers, seen by contracts as a finite map.
@@ -36,6 +46,8 @@ impl Model for Books {
 }
 
 impl Books {
+    ghost use Rattle.schedule_world.specs.declared.book.ClientBook.{ClientBook as Kept};
+
     /// No books; takes no memory.
     pub(crate) fn new(alloc: Global) -> Self
         ensures { result ≡ map.empty }
@@ -55,12 +67,12 @@ impl Books {
     /// The seed of a client that has no block to go on with, and how many tags it drew.
     ///
     /// # Errors
-    /// `UnknownClient`, `Stopped` since an answer wasn't listed, or `Busy`.
+    /// `UnknownClient`, `Stopped`, also since an answer wasn't listed, or `Busy`.
     pub(crate) fn resting(&self, client: u32) -> Result<(u64, u64), Reason>
         ensures { IsResting (map.get self.now client) result }
     {
         let book = self.get(client).ok_or(Reason::UnknownClient)?;
-        if book.left.is_off() {
+        if book.is_gone() {
             return Err(Reason::Stopped);
         }
         if book.left.has_more() {
@@ -72,20 +84,47 @@ impl Books {
     /// Takes the book of a client out that has a block to go on with.
     ///
     /// # Errors
-    /// `UnknownClient`, `Stopped` since an answer wasn't listed, or `Idle`; then nothing changed.
+    /// `UnknownClient`, `Stopped`, also since an answer wasn't listed, or `Idle`; then nothing changed.
     pub(crate) fn take_busy(&mut self, client: u32) -> Result<ClientBook, Reason>
         ensures taken { IsBusy (map.get self.old client) result }
         ensures kept { OnErr result (self.new ≡ self.old) }
         ensures removed { OnOk result (self.new ≡ map.remove self.old client) }
     {
         let book = self.get(client).ok_or(Reason::UnknownClient)?;
-        if book.left.is_off() {
+        if book.is_gone() {
             return Err(Reason::Stopped);
         }
         if !book.left.has_more() {
             return Err(Reason::Idle);
         }
         self.take(client).ok_or(Reason::UnknownClient)
+    }
+
+    /// Whether a client is there.
+    ///
+    /// # Errors
+    /// `UnknownClient`, or `Stopped`, also since an answer wasn't listed.
+    pub(crate) fn present(&self, client: u32) -> Result<(), Reason>
+        ensures { IsPresent (map.get self.now client) result }
+    {
+        let book = self.get(client).ok_or(Reason::UnknownClient)?;
+        if book.is_gone() {
+            return Err(Reason::Stopped);
+        }
+        Ok(())
+    }
+
+    /// Notes that a client is stopped; without memory its book is gone.
+    pub(crate) fn stop(&mut self, client: u32) -> Result<(), AllocError>
+        ensures ok { OnOk result ((k : Kept) → map.get self.old client ≡ Some k
+            → self.new ≡ map.insert (map.remove self.old client) client (record k { is_stopped = true })) }
+        ensures err { OnErr result (self.new ≡ map.remove self.old client) }
+    {
+        let Some(mut book) = self.take(client) else {
+            return Ok(());
+        };
+        book.is_stopped = true;
+        self.set(client, book)
     }
 
     /// Takes a client's book out.

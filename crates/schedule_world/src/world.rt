@@ -1,6 +1,6 @@
 //! The world of a schedule: its clients, their blocks, and what happened so far.
 ghost use Rattle.place_model.specs.Shown.{history_of};
-ghost use Rattle.schedule_world.specs.Shelves.{AreKnown};
+ghost use Rattle.schedule_world.specs.Shelves.{AreHere, AreKnown};
 
 use crate::LineFault;
 use crate::book::{Books, ClientBook};
@@ -26,6 +26,7 @@ pub struct World {
     letters: Letters,
     spent: bool,
     ghost known: { AreKnown books (history_of past.history).clients },
+    ghost here: { AreHere books (history_of past.history).entries },
 }
 
 impl World {
@@ -37,7 +38,7 @@ impl World {
     ghost use Rattle.schedule_model.specs.Programs.{program_craft};
     ghost use Rattle.schedule_model.specs.Schedules.{led_by, line_led, words_led};
     ghost use Rattle.schedule_model.specs.Schedules as schedules;
-    ghost use Rattle.schedule_model.specs.declared.line.Line.TheVariants.{At, Begin, Client, Run, Step};
+    ghost use Rattle.schedule_model.specs.declared.line.Line.TheVariants.{At, Begin, Client, Run, Step, Stop};
     ghost use Rattle.schedule_world.specs.Books.{book_of};
     ghost use Rattle.schedule_world.specs.Desks.{desk_of, is_world_spent};
     ghost use Rattle.schedule_world.specs.declared.fault.LineFault.TheVariants.{Memory};
@@ -129,7 +130,7 @@ impl World {
         }
     }
 
-    /// Takes a line that is built.
+    /// Takes a line that is not put off.
     fn built_line(&mut self, alloc: Global, line: &Line) -> Result<(), LineFault>
         requires { IsBuiltLine line.now }
         ensures { IsTold (led_by program_craft (desk_of self.old) (Some line.now)) (desk_of self.old) (desk_of self.new) result }
@@ -140,7 +141,7 @@ impl World {
             Line::Begin { client, asked } => self.begin_line(alloc, *client, asked),
             Line::Step { client } => self.step_line(alloc, *client),
             Line::Run { client } => self.run_line(alloc, *client),
-            Line::Stop { .. } => unreachable!(),
+            Line::Stop { client } => self.stop_line(alloc, *client),
         }
     }
 
@@ -161,17 +162,18 @@ impl World {
                 seed,
                 drawn: 0,
                 left: BlockLeft::over(),
+                is_stopped: false,
             },
         )?;
         Ok(())
     }
 
-    /// Whether a client has to stop, since an answer to it wasn't listed.
+    /// Whether a client is stopped, or an answer to it wasn't listed.
     fn is_stopped(&self, client: u32) -> bool
         ensures { result ≡ is_gone (option_map book_of (get self.now.books client)) }
     {
         match self.books.get(client) {
-            Some(book) => book.left.is_off(),
+            Some(book) => book.is_gone(),
             None => false,
         }
     }
@@ -200,6 +202,7 @@ impl World {
                 seed,
                 drawn: begun.drawn,
                 left: begun.left,
+                is_stopped: false,
             },
         )?;
         Ok(())
@@ -223,6 +226,19 @@ impl World {
         let has_room = self.past.say_all(alloc, client, &mut book.left)?;
         self.books.set(client, book)?;
         self.room_or_full(has_room)
+    }
+
+    /// A client is gone.
+    fn stop_line(&mut self, alloc: Global, client: u32) -> Result<(), LineFault>
+        ensures { IsTold (led_by program_craft (desk_of self.old) (Some (Stop client))) (desk_of self.old) (desk_of self.new) result }
+    {
+        self.books.present(client)?;
+        if self.past.is_full() {
+            return self.room_or_full(false);
+        }
+        self.books.stop(client)?;
+        self.past.stop(alloc, client)?;
+        Ok(())
     }
 
     /// Nothing, or that the history is full.

@@ -5,6 +5,8 @@
 #[cfg(test)]
 mod answers;
 #[cfg(test)]
+mod command_rows;
+#[cfg(test)]
 mod commands;
 #[cfg(test)]
 mod compared;

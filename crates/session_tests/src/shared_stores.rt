@@ -1,4 +1,5 @@
 //! Sessions of connections at one store, one after the other, while it keeps what others said before.
+use crate::command_rows::{rows_of_commands, rows_of_errors, rows_of_kinds};
 use crate::commands::{incoming, words_of};
 use crate::compared::same;
 use mini_store::Store;
@@ -12,12 +13,12 @@ use std::test::Fail;
 use wire_spelling::command_fits;
 
 /// A connection by its number, the commands of its session, and the bytes that answer them.
-type Talk = (u32, &'static [&'static str], &'static [u8]);
+pub type Talk = (u32, &'static [&'static str], &'static [u8]);
 
 /// What connections said to the store at second 5, and then their sessions, whose clock begins there and goes on by a
 /// step of so many microseconds after each command.
 #[derive(Drop)]
-struct Row {
+pub struct Row {
     name: &'static str,
     before: &'static [(u32, &'static str)],
     step: u64,
@@ -68,7 +69,8 @@ fn play<R: Abort>(rt: &R, alloc: Global, row: &Row) -> Result<(), AllocError> {
     Ok(())
 }
 
-fn at_once(
+/// All at one moment.
+pub fn at_once(
     name: &'static str,
     before: &'static [(u32, &'static str)],
     talks: &'static [Talk],
@@ -82,8 +84,46 @@ fn at_once(
 }
 
 /// All at one moment: transactions by their marks, and messages that are pushed before an answer.
-fn rows_at_once() -> [Row; 5] {
+fn rows_at_once() -> [Row; 7] {
     [
+        at_once(
+            "a connection's own command marks it, until EXEC, DISCARD or UNWATCH",
+            &[],
+            &[(
+                1,
+                &[
+                    "WATCH k", "SET k v", "MULTI", "PING", "EXEC", "MULTI", "PING", "EXEC",
+                    "WATCH k", "SET k v", "MULTI", "DISCARD", "MULTI", "PING", "EXEC", "WATCH k",
+                    "DEL k", "UNWATCH", "MULTI", "PING", "EXEC",
+                ],
+                b"+OK\r\n+OK\r\n+OK\r\n+QUEUED\r\n*-1\r\n+OK\r\n+QUEUED\r\n*1\r\n+PONG\r\n+OK\r\n\
+                  +OK\r\n+OK\r\n+OK\r\n+OK\r\n+QUEUED\r\n*1\r\n+PONG\r\n+OK\r\n:1\r\n+OK\r\n\
+                  +OK\r\n+QUEUED\r\n*1\r\n+PONG\r\n",
+            )],
+        ),
+        at_once(
+            "an answer that alters nothing marks nobody",
+            &[(1, "SADD s a"), (1, "WATCH s none")],
+            &[
+                (
+                    2,
+                    &[
+                        "SADD s a",
+                        "SREM s b",
+                        "DEL none",
+                        "RPOP none",
+                        "SET s v NX",
+                        "LPUSH s x",
+                    ],
+                    b":0\r\n:0\r\n:0\r\n$-1\r\n$-1\r\n-WRONGTYPE\r\n",
+                ),
+                (
+                    1,
+                    &["MULTI", "SADD s b", "EXEC"],
+                    b"+OK\r\n+QUEUED\r\n*1\r\n:1\r\n",
+                ),
+            ],
+        ),
         at_once(
             "a watched key was altered",
             &[(1, "SET k v"), (1, "WATCH k")],
@@ -156,8 +196,45 @@ fn rows_at_once() -> [Row; 5] {
 }
 
 /// Keys that expire, at their second and not before.
-fn rows_in_time() -> [Row; 4] {
+fn rows_in_time() -> [Row; 7] {
     [
+        Row {
+            name: "EXPIRE counts from its own second",
+            before: &[],
+            step: 500_000,
+            talks: &[(
+                1,
+                &[
+                    "SET k v",
+                    "EXPIRE k 2",
+                    "GET k",
+                    "GET k",
+                    "GET k",
+                    "EXPIRE k 2",
+                ],
+                b"+OK\r\n:1\r\n$1\r\nv\r\n$1\r\nv\r\n$-1\r\n:0\r\n",
+            )],
+        },
+        Row {
+            name: "a push keeps the expiry",
+            before: &[],
+            step: 500_000,
+            talks: &[(
+                1,
+                &["LPUSH q a", "EXPIRE q 2", "RPUSH q b", "LLEN q", "LLEN q"],
+                b":1\r\n:1\r\n:2\r\n:2\r\n:0\r\n",
+            )],
+        },
+        Row {
+            name: "SET without EX ends the expiry",
+            before: &[],
+            step: 500_000,
+            talks: &[(
+                1,
+                &["SET k v EX 1", "SET k w", "GET k"],
+                b"+OK\r\n+OK\r\n$1\r\nw\r\n",
+            )],
+        },
         Row {
             name: "half a second a command",
             before: &[],
@@ -207,130 +284,6 @@ fn rows_in_time() -> [Row; 4] {
     ]
 }
 
-/// Errors, of which the earlier one is answered, and each command of the table.
-fn rows_of_commands() -> [Row; 6] {
-    [
-        at_once(
-            "faulty commands",
-            &[],
-            &[(
-                1,
-                &[
-                    "NOSUCH a b c",
-                    "GET",
-                    "GET a b",
-                    "SET k v NX EX 5 6",
-                    "SET k v ex 5",
-                    "SET k v EX NX 0",
-                    "SET k v EX 0",
-                    "EXPIRE k 05",
-                    "SELECT -0",
-                    "SELECT 1",
-                    "EXEC",
-                    "DISCARD",
-                ],
-                b"-ERR command\r\n-ERR arity\r\n-ERR arity\r\n-ERR arity\r\n-ERR syntax\r\n-ERR syntax\r\n\
-                  -ERR integer\r\n-ERR integer\r\n-ERR integer\r\n-ERR database\r\n-ERR outside\r\n-ERR outside\r\n",
-            )],
-        ),
-        at_once(
-            "another kind of value, after what is wrong with the words",
-            &[(2, "LPUSH q a")],
-            &[(
-                1,
-                &[
-                    "ZADD q 1",
-                    "ZADD q x a",
-                    "ZADD q 1 a",
-                    "GET q",
-                    "HGET q f",
-                    "SADD q a",
-                    "LLEN q",
-                ],
-                b"-ERR arity\r\n-ERR integer\r\n-WRONGTYPE\r\n-WRONGTYPE\r\n-WRONGTYPE\r\n-WRONGTYPE\r\n:1\r\n",
-            )],
-        ),
-        at_once(
-            "a broken transaction",
-            &[],
-            &[(
-                1,
-                &[
-                    "MULTI", "FOO", "EXEC", "MULTI", "SET k v", "GET k", "EXEC", "GET k",
-                ],
-                b"+OK\r\n-ERR command\r\n-EXECABORT\r\n+OK\r\n+QUEUED\r\n-ERR inside\r\n-EXECABORT\r\n$-1\r\n",
-            )],
-        ),
-        at_once(
-            "texts, keys and transactions",
-            &[],
-            &[(
-                1,
-                &[
-                    "PING",
-                    "SELECT 0",
-                    "SET k v",
-                    "GET k",
-                    "EXPIRE k 9",
-                    "DEL k other",
-                    "WATCH k",
-                    "UNWATCH",
-                    "MULTI",
-                    "DISCARD",
-                    "MULTI",
-                    "PUBLISH c x",
-                    "EXEC",
-                ],
-                b"+PONG\r\n+OK\r\n+OK\r\n$1\r\nv\r\n:1\r\n:1\r\n+OK\r\n+OK\r\n+OK\r\n+OK\r\n+OK\r\n+QUEUED\r\n*1\r\n:0\r\n",
-            )],
-        ),
-        at_once(
-            "lists and sets",
-            &[],
-            &[(
-                1,
-                &[
-                    "LPUSH q b a",
-                    "RPUSH q c",
-                    "LLEN q",
-                    "RPOP q",
-                    "BRPOP none q 1",
-                    "BRPOP none 1",
-                    "SADD s y x x",
-                    "SMEMBERS s",
-                    "SREM s x z",
-                    "SMEMBERS none",
-                ],
-                b":2\r\n:3\r\n:3\r\n$1\r\nc\r\n*2\r\n$1\r\nq\r\n$1\r\nb\r\n*-1\r\n\
-                  :2\r\n*2\r\n$1\r\nx\r\n$1\r\ny\r\n:1\r\n*0\r\n",
-            )],
-        ),
-        at_once(
-            "hashes and sorted sets",
-            &[],
-            &[(
-                1,
-                &[
-                    "HSET h f v",
-                    "HSET h f w",
-                    "HGET h f",
-                    "HGET h g",
-                    "HLEN h",
-                    "HDEL h f g",
-                    "ZADD z 2 b",
-                    "ZADD z 1 a",
-                    "ZCARD z",
-                    "ZREVRANGEBYSCORE z 2 1 LIMIT 0 10",
-                    "ZREM z a c",
-                    "ZREVRANGEBYSCORE z 1 0 LIMIT 0 10",
-                ],
-                b":1\r\n:0\r\n$1\r\nw\r\n$-1\r\n:1\r\n:1\r\n:1\r\n:1\r\n:2\r\n\
-                  *2\r\n$1\r\nb\r\n$1\r\na\r\n:1\r\n*0\r\n",
-            )],
-        ),
-    ]
-}
-
 #[test]
 fn connections_share_a_store(rt: HostRuntime) -> Result<(), Fail> {
     for row in &rows_at_once() {
@@ -340,6 +293,12 @@ fn connections_share_a_store(rt: HostRuntime) -> Result<(), Fail> {
         play(&rt, rt.alloc(), row)?;
     }
     for row in &rows_of_commands() {
+        play(&rt, rt.alloc(), row)?;
+    }
+    for row in &rows_of_errors() {
+        play(&rt, rt.alloc(), row)?;
+    }
+    for row in &rows_of_kinds() {
         play(&rt, rt.alloc(), row)?;
     }
     Ok(())

@@ -57,7 +57,7 @@ module _ {D : Type 0} (goes : D → List Deed → D → Type 0) (stays : (s : D)
     few = omega arith;
     later_faults = omega arith;
     later_ends = omega arith;
-    ends = (nothing_heard 0 refl, ([], refl));
+    ends = ((nothing_heard 0 refl, ([], refl)), record { no_fault = refl; no_end = refl });
   }
 
 -- the turns are over

@@ -1,5 +1,5 @@
 -- A session goes on by one receive.
-use Rattle.std.proofs.Common.{List, [], append-nil, append_assoc, ap, arith, inl, inr, subst, suc, sym, take, zero, ℕ, ◌++◌, ◌<◌, ◌∙◌, ◌≡◌, ◌≤◌}
+use Rattle.std.proofs.Common.{List, [], append-nil, append_assoc, ap, arith, inl, inr, refl, subst, suc, sym, take, zero, ℕ, ◌++◌, ◌<◌, ◌∙◌, ◌≡◌, ◌≤◌}
 use Rattle.std.specs.Prelude.{Bool, Err, None, Ok, Option, Result, Some, ⊤}
 use Rattle.std.specs.Io.KnownBytes.{Appends, Keeps}
 use Rattle.std.proofs.KnownBytes.{Appends-kept, Appends-nil, Appends-trans}
@@ -12,11 +12,11 @@ use Rattle.resp_wire.specs.Stands.{Stands}
 use Rattle.resp_wire.specs.declared.decoder.Decoder.{Decoder}
 use Rattle.desks.specs.Deeds.{Deed}
 use Rattle.desks.specs.declared.desk.DeskFault.{DeskFault}
-use Rattle.sessions.specs.Hearings.{EndsTalk, HasHeard, WritesAll, WritesFront}
+use Rattle.sessions.specs.Hearings.{HasHeard, WritesAll, WritesFront}
 use Rattle.net_links.specs.LinkViews.{LinkView, raised_by}
 use Rattle.sessions.specs.Sendings.{SendsFront}
 use Rattle.sessions.specs.SessionEnds.{EndsSession, HasSession, IsCalmLink}
-use Rattle.sessions.specs.Talkings.{AnswersAll, HasFlushed, HasTakenPiece, HasTurned, InSession, IsCut, IsEndWhy, Talks}
+use Rattle.sessions.specs.Talkings.{AnswersAll, EndsTaken, HasFlushed, HasTakenPiece, HasTurned, InSession, IsCut, IsEndWhy, Talks}
 use Rattle.sessions.specs.declared.ends.Why.{Why}
 use Rattle.sessions.specs.declared.ends.Why.TheVariants.{Closed, Ended, Full, Link, Memory, NotWords, Turns, Wire}
 use Rattle.sessions.specs.declared.talking.Talking.{Talking}
@@ -58,8 +58,9 @@ module _ {D : Type 0} (goes : D → List Deed → D → Type 0) (gives : ℕ →
   fed d2 on = record { heard = heard_fed; stands = on s.heard.from s.heard.rest s.stands; answered = s.answered }
 
   -- and there was no memory for them
-  pub unfed : (shared : Bool) (fault : Option DeskFault) (was : Option (List ℕ)) → (more : List ℕ) × Appends was was more × EndsTalk goes gives shared fault first now (stream ++ piece) (sent ++ more) t.commands Memory
-  unfed shared fault was = ([], Appends-nil was, (heard_fed, (t.out.items, sym s.answered ∙ ap (λ l. l ++ t.out.items) (sym (append-nil sent)))))
+  pub unfed : (shared : Bool) (fault : Option DeskFault) (was : Option (List ℕ)) (faults : ℕ)
+      → (more : List ℕ) × Appends was was more × EndsTaken goes gives shared fault first now (stream ++ piece) (sent ++ more) t.commands faults faults Memory
+  unfed shared fault was faults = ([], Appends-nil was, ((heard_fed, (t.out.items, sym s.answered ∙ ap (λ l. l ++ t.out.items) (sym (append-nil sent)))), refl))
 
 module _ {D : Type 0} (goes : D → List Deed → D → Type 0) (gives : ℕ → Type 0) (shared : Bool) (fault : Option DeskFault) (first now : D) (stream sent : List ℕ) (t : Talking) where
   -- what was asked, whatever the answer is
@@ -80,8 +81,8 @@ module _ {D : Type 0} (goes : D → List Deed → D → Type 0) (gives : ℕ →
     cut_at (Ok done) a b never = absurd never
     cut_at (Err Link) (h, (more, e)) (front, rest, split, some, sends) rose =
         (front, sends, (h, (rest ++ more, e ∙ ap (λ l. (sent ++ l) ++ more) split ∙ ap (λ l. l ++ more) (sym (append_assoc sent front rest)) ∙ append_assoc (sent ++ front) rest more), rose))
-    cut_at (Err Memory) (h, (more, e)) (front, rest, split, some, sends) free =
-        (front, sends, (h, (rest ++ more, e ∙ ap (λ l. (sent ++ l) ++ more) split ∙ ap (λ l. l ++ more) (sym (append_assoc sent front rest)) ∙ append_assoc (sent ++ front) rest more)))
+    cut_at (Err Memory) (h, (more, e)) (front, rest, split, some, sends) same =
+        (front, sends, ((h, (rest ++ more, e ∙ ap (λ l. (sent ++ l) ++ more) split ∙ ap (λ l. l ++ more) (sym (append_assoc sent front rest)) ∙ append_assoc (sent ++ front) rest more)), same))
     cut_at (Err Ended) a b never = absurd never
     cut_at (Err Turns) a b never = absurd never
     cut_at (Err (Wire kind place)) a b never = absurd never
@@ -105,7 +106,7 @@ module _ {D : Type 0} (goes : D → List Deed → D → Type 0) (gives : ℕ →
     sent_all (Err NotWords) a sends none same = (t.out.items, sends, (a, same))
     sent_all (Err (Full entries bytes)) a sends none same = (t.out.items, sends, (a, same))
     sent_all (Err Closed) a sends none same = (t.out.items, sends, (a, same))
-    sent_all (Err Memory) a sends none same = (t.out.items, sends, a)
+    sent_all (Err Memory) a sends none same = (t.out.items, sends, (a, same))
     sent_all (Err Ended) a sends none same = absurd a
     sent_all (Err Turns) a sends none same = absurd a
     sent_all (Err Link) a sends none same = absurd a
@@ -155,7 +156,7 @@ module _ {D : Type 0} (goes : D → List Deed → D → Type 0) (gives : ℕ →
 
     pub none_received : (why : Why) → IsEndWhy s.talks.talks.heard.rest why → (turns : ℕ) → suc n ≤ turns → HasSession goes gives shared fault first now old new turns t.commands why
     none_received Ended none turns few = ended_so Ended turns few (s.talks.talks.heard, whole, none, risen, faults ∙ s.same_faults, few)
-    none_received Link some turns few = ended_so Link turns few (s.talks.talks.heard, ([], sym (append-nil s.sent ∙ whole)), inr (risen, faults ∙ s.same_faults, s.talks.front, some))
+    none_received Link some turns few = ended_so Link turns few (s.talks.talks.heard, ([], sym (append-nil s.sent ∙ whole)), inr (risen, faults ∙ s.same_faults, s.talks.front, some, few))
     none_received Turns never turns few = absurd never
     none_received (Wire kind place) never turns few = absurd never
     none_received NotWords never turns few = absurd never
@@ -210,6 +211,6 @@ module _ {D : Type 0} (goes : D → List Deed → D → Type 0) (gives : ℕ →
   taken (Err NotWords) (more, sends, (ends, same)) = λ turns few. ended_taken NotWords turns few more sends (ends, calm same)
   taken (Err (Full entries bytes)) (more, sends, (ends, same)) = λ turns few. ended_taken (Full entries bytes) turns few more sends (ends, calm same)
   taken (Err Closed) (more, sends, (ends, same)) = λ turns few. ended_taken Closed turns few more sends (ends, calm same)
-  taken (Err Memory) (more, sends, ends) = λ turns few. ended_taken Memory turns few more sends ends
+  taken (Err Memory) (more, sends, (ends, same)) = λ turns few. ended_taken Memory turns few more sends (ends, calm same)
   taken (Err Ended) (more, sends, never) = absurd never
   taken (Err Turns) (more, sends, never) = absurd never

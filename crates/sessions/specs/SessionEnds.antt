@@ -15,21 +15,22 @@ pub record IsCalmLink (old new : LinkView) : Type 0 where
   pub no_fault : new.faults ≡ old.faults
   pub no_end : new.ends ≡ old.ends
 
--- the link failed to take an answer or to give more, and didn't end; or it ended within a value, and didn't fail
-abbrev pub IsLinkCause : LinkView → LinkView → List ℕ → Type 0
-IsLinkCause old new rest = (Rose old.faults new.faults × (new.ends ≡ old.ends)) ⊎ (Rose old.ends new.ends × (new.faults ≡ old.faults) × IsFront rest × (0 < length rest))
+-- the link failed to take an answer or to give more, and didn't end; or it ended within a value, before the turns were over, and didn't fail
+abbrev pub IsLinkCause : LinkView → LinkView → ℕ → ℕ → List ℕ → Type 0
+IsLinkCause old new turns receives rest =
+    (Rose old.faults new.faults × (new.ends ≡ old.ends)) ⊎ (Rose old.ends new.ends × (new.faults ≡ old.faults) × IsFront rest × (0 < length rest) × (receives < turns))
 
 -- why a session ends, and what was written then: between two values the other side ended, before the turns were over; or the turns are over; or the link failed or ended within a value; or no more is asked of what came
 abbrev pub EndsSession : {D : Type 0} → (D → List Deed → D → Type 0) → (ℕ → Type 0) → Bool → Option DeskFault → D → D → LinkView → LinkView → ℕ → ℕ → List ℕ → List ℕ → ℕ → Why → Type 0
 EndsSession goes gives shared fault first now old new turns receives stream sent count Ended =
     (h : HasHeard goes gives first now stream count) × WritesAll h.deeds sent × (h.rest ≡ []) × Rose old.ends new.ends × (new.faults ≡ old.faults) × (receives < turns)
 EndsSession goes gives shared fault first now old new turns receives stream sent count Turns = (h : HasHeard goes gives first now stream count) × WritesAll h.deeds sent × IsFront h.rest × (receives ≡ turns) × IsCalmLink old new
-EndsSession goes gives shared fault first now old new turns receives stream sent count Link = (h : HasHeard goes gives first now stream count) × WritesFront h.deeds sent × IsLinkCause old new h.rest
+EndsSession goes gives shared fault first now old new turns receives stream sent count Link = (h : HasHeard goes gives first now stream count) × WritesFront h.deeds sent × IsLinkCause old new turns receives h.rest
 EndsSession goes gives shared fault first now old new turns receives stream sent count (Wire kind place) = EndsTalk goes gives shared fault first now stream sent count (Wire kind place) × IsCalmLink old new
 EndsSession goes gives shared fault first now old new turns receives stream sent count NotWords = EndsTalk goes gives shared fault first now stream sent count NotWords × IsCalmLink old new
 EndsSession goes gives shared fault first now old new turns receives stream sent count (Full entries bytes) = EndsTalk goes gives shared fault first now stream sent count (Full entries bytes) × IsCalmLink old new
 EndsSession goes gives shared fault first now old new turns receives stream sent count Closed = EndsTalk goes gives shared fault first now stream sent count Closed × IsCalmLink old new
-EndsSession goes gives shared fault first now old new turns receives stream sent count Memory = EndsTalk goes gives shared fault first now stream sent count Memory
+EndsSession goes gives shared fault first now old new turns receives stream sent count Memory = EndsTalk goes gives shared fault first now stream sent count Memory × IsCalmLink old new
 
 -- a session: the bytes that came over the link, those that went out, how often bytes came, and why it ended
 pub record HasSession {D : Type 0} (goes : D → List Deed → D → Type 0) (gives : ℕ → Type 0) (shared : Bool) (fault : Option DeskFault) (first now : D) (old new : LinkView) (turns : ℕ) (count : ℕ) (why : Why) : Type 0 where

@@ -41,11 +41,11 @@ abbrev pub AnswersAll : {D : Type 0} → (D → List Deed → D → Type 0) → 
 AnswersAll goes gives shared fault first now stream sent t (Ok done) = TalksAll goes gives first now stream sent t
 AnswersAll goes gives shared fault first now stream sent t (Err why) = EndsTalk goes gives shared fault first now stream (sent ++ t.out.items) t.commands why
 
--- the link failed, or there was no memory to send
+-- the link failed, or there was no memory to send and it didn't fail
 abbrev pub IsCut : ℕ → ℕ → Result ⊤ Why → Type 0
 IsCut faults faults2 (Ok done) = ⊥
 IsCut faults faults2 (Err Link) = Rose faults faults2
-IsCut faults faults2 (Err Memory) = Unit {0}
+IsCut faults faults2 (Err Memory) = faults2 ≡ faults
 IsCut faults faults2 (Err Ended) = ⊥
 IsCut faults faults2 (Err Turns) = ⊥
 IsCut faults faults2 (Err (Wire kind place)) = ⊥
@@ -67,7 +67,7 @@ EndsTaken goes gives shared fault first now stream written count faults faults2 
 EndsTaken goes gives shared fault first now stream written count faults faults2 NotWords = EndsTalk goes gives shared fault first now stream written count NotWords × (faults2 ≡ faults)
 EndsTaken goes gives shared fault first now stream written count faults faults2 (Full entries bytes) = EndsTalk goes gives shared fault first now stream written count (Full entries bytes) × (faults2 ≡ faults)
 EndsTaken goes gives shared fault first now stream written count faults faults2 Closed = EndsTalk goes gives shared fault first now stream written count Closed × (faults2 ≡ faults)
-EndsTaken goes gives shared fault first now stream written count faults faults2 Memory = EndsTalk goes gives shared fault first now stream written count Memory
+EndsTaken goes gives shared fault first now stream written count faults faults2 Memory = EndsTalk goes gives shared fault first now stream written count Memory × (faults2 ≡ faults)
 
 -- the values of a piece were asked and their answers sent; or no more is asked or sent
 abbrev pub HasTakenPiece : {D : Type 0} → (D → List Deed → D → Type 0) → (ℕ → Type 0) → Bool → Option DeskFault → D → D → List ℕ → List ℕ → Option (List ℕ) → Option (List ℕ) → ℕ → ℕ → Talking → Result ⊤ Why → Type 0

@@ -1,12 +1,7 @@
-//! Bad lines with their reasons: every reason that a line can have today, and which of two holds first.
+//! Bad lines with their reasons: every reason that a line can have, and which of two holds first.
 //!
 //! A row is the number of the bad line, where the header is line 1, its reason, and the schedule, in which `\n` is a line
 //! feed, `\xff` a byte by its two digits, and `\(256:q)` so many letters. A row with `#` at its front is a remark.
-//!
-//! Two reasons can't come today. `stopped` wants a line that stops a client, or a reply that isn't listed: no such line is
-//! built, and the store gives every client the replies that its block lists. `task` wants an envelope that is refused: a
-//! line on the empty exchange has a lawful queue's name by then, its arguments are shallow and have no float, and 65,536
-//! bytes never make an envelope that is too long.
 
 /// Whole schedules whose header is bad.
 pub fn headers() -> &'static str {
@@ -24,13 +19,11 @@ pub fn headers() -> &'static str {
 pub fn each_reason() -> &'static str {
     r#"
 2 text | at 1\xff\n
-2 later | \n
-2 later | stop 1\n
-2 later | CLIENT 1 seed 7\n
-2 later |  client 1 seed 7\n
 2 later | begin 1 pass 3600\n
-2 later | begin 1  pop celery\n
-2 later | begin 1 publish news celery 0 tasks.add []\n
+2 syntax | \n
+2 syntax | CLIENT 1 seed 7\n
+2 syntax |  client 1 seed 7\n
+2 syntax | begin 1  pop celery\n
 2 syntax | begin\n
 2 syntax | begin 1\n
 2 syntax | begin 1 publish\n
@@ -39,6 +32,15 @@ pub fn each_reason() -> &'static str {
 2 syntax | begin 1 publish - caf\xc3\xa9 0 tasks.add []\n
 2 syntax | begin 1 pop\n
 2 syntax | begin 1 pop celery \n
+2 syntax | begin 1 declare news\n
+2 syntax | begin 1 declare - hot - celery\n
+2 syntax | begin 1 undeclare news hot - celery paper\n
+2 syntax | begin 1 restore\n
+2 syntax | begin 1 requeue 7:1 7:2\n
+2 syntax | begin 1 return 7:1\n
+2 syntax | stop\n
+2 syntax | stop 1 2\n
+2 syntax | stop 4097\n
 2 syntax | begin 1 ack 7\n
 2 syntax | begin 1 ack 7:01\n
 2 syntax | begin 1 ack 7:18446744073709551616\n
@@ -54,6 +56,12 @@ pub fn each_reason() -> &'static str {
 3 syntax | client 1 seed 7\nrun 01\n
 3 unknown client | client 1 seed 7\nbegin 2 pop celery\n
 3 unknown client | client 1 seed 7\nstep 2\n
+3 unknown client | client 1 seed 7\nstop 2\n
+2 unknown client | begin 1 declare news hot - celery\n
+4 stopped | client 1 seed 7\nstop 1\nstop 1\n
+4 stopped | client 1 seed 7\nstop 1\nbegin 1 restore 7:1\n
+5 stopped | client 1 seed 7\nbegin 1 ack 7:1\nstop 1\nstep 1\n
+6 stopped | client 1 seed 7\nbegin 1 ack 7:1\nstep 1\nstop 1\nrun 1\n
 4 busy | client 1 seed 7\nbegin 1 ack 7:1\nbegin 1 pop celery\n
 5 busy | client 1 seed 7\nbegin 1 ack 7:1\nstep 1\nbegin 1 ack 7:1\n
 3 idle | client 1 seed 7\nstep 1\n
@@ -65,7 +73,11 @@ pub fn each_reason() -> &'static str {
 2 moment | at 1099511627776\n
 2 moment | at 100000000000000000000000000000\n
 4 moment | at 5\nat 5\nat 4\n
+4 busy | client 1 seed 7\nbegin 1 restore 7:1\nbegin 1 requeue 7:1\n
 3 name | client 1 seed 7\nbegin 1 publish - - 0 tasks.add []\n
+3 reserved | client 1 seed 7\nbegin 1 declare news hot - unacked\n
+3 reserved | client 1 seed 7\nbegin 1 undeclare news hot - unacked\n
+3 json | client 1 seed 7\nbegin 1 publish news hot 0 tasks.add {}\n
 3 reserved | client 1 seed 7\nbegin 1 publish - unacked 0 tasks.add []\n
 3 reserved | client 1 seed 7\nbegin 1 pop unacked_index\n
 3 reserved | client 1 seed 7\nbegin 1 pop unacked_mutex\n
@@ -79,11 +91,9 @@ pub fn each_reason() -> &'static str {
 /// Lines for which two reasons hold, or more: the one that is tested first is given.
 pub fn first_of_two() -> &'static str {
     r#"
-# `text` and `later`, `later` and `syntax`.
-2 text | stop 1\xff\n
-2 later | stop 1 2\n
-2 later | begin 0 declare news\n
-2 later | begin 0 publish news celery\n
+# `text` and `syntax`, `later` and `syntax`.
+2 text | stop 1 2\xff\n
+2 later | begin 0 pass\n
 # `syntax` before what is known of the client, the moment and the names.
 2 syntax | begin 1 ack 1:1:1\n
 3 syntax | client 1 seed 7\nclient 1 seed 07\n
@@ -94,6 +104,13 @@ pub fn first_of_two() -> &'static str {
 2 unknown client | run 1\n
 2 unknown client | begin 1 pop unacked\n
 2 unknown client | begin 1 publish - celery 0 tasks.add {}\n
+2 unknown client | stop 1\n
+# So it is with `stopped`: a client that is gone is there, and has its number and its seed.
+4 stopped | client 1 seed 7\nstop 1\nclient 1 seed 7\n
+4 repeated | client 1 seed 7\nstop 1\nclient 2 seed 7\n
+4 stopped | client 1 seed 7\nstop 1\nbegin 1 pop unacked\n
+5 stopped | client 1 seed 7\nbegin 1 ack 7:1\nstop 1\nbegin 1 ack 7:1\n
+4 stopped | client 1 seed 7\nstop 1\nstep 1\n
 # `busy` likewise.
 4 busy | client 1 seed 7\nbegin 1 ack 7:1\nbegin 1 pop unacked\n
 4 busy | client 1 seed 7\nbegin 1 ack 7:1\nbegin 1 publish - - 0 tasks.add []\n
@@ -101,6 +118,9 @@ pub fn first_of_two() -> &'static str {
 # `name` and `json`, `reserved` and `json`.
 3 name | client 1 seed 7\nbegin 1 publish - - 0 tasks.add {}\n
 3 reserved | client 1 seed 7\nbegin 1 publish - unacked 0 tasks.add {}\n
+# `json` and `task`, `name` and `reserved`.
+3 json | client 1 seed 7\nbegin 1 publish \(256:x) hot 0 tasks.add {}\n
+3 name | client 1 seed 7\nbegin 1 declare \(256:x) hot - unacked\n
 # The first bad line decides, whichever reasons the later ones have.
 3 idle | client 1 seed 7\nrun 1\nstop 1\n\xff\n
 3 json | client 1 seed 7\nbegin 1 publish - celery 0 tasks.add {}\nat x\n
@@ -123,6 +143,12 @@ pub fn long_names() -> &'static str {
 3 name | client 1 seed 7\nbegin 1 pop _kombu.binding.\(300:q)
 3 name | client 1 seed 7\nbegin 1 publish - _kombu.binding.\(300:q) 0 tasks.add []
 3 reserved | client 1 seed 7\nbegin 1 publish - _kombu.binding.\(240:q) 0 tasks.add {}
+3 name | client 1 seed 7\nbegin 1 declare \(256:x) hot - celery
+3 name | client 1 seed 7\nbegin 1 declare news \(256:k) - celery
+3 name | client 1 seed 7\nbegin 1 undeclare news - \(256:p) celery
+3 name | client 1 seed 7\nbegin 1 undeclare news - - \(256:q)
+3 task | client 1 seed 7\nbegin 1 publish \(256:x) hot 0 tasks.add []
+3 task | client 1 seed 7\nbegin 1 publish news \(256:k) 0 tasks.add []
 3 name | client 1 seed 7\nbegin 1 pop unacked \(256:q)
 3 name | client 1 seed 7\nbegin 1 pop \(256:q) unacked
 "#

@@ -25,7 +25,7 @@ pub fn long_first() -> &'static str {
 3 2 | bad line 2: long | celery-schedule 1\n\(65536:q)\xff\n
 3 2 | bad line 2: text | celery-schedule 1\n\(65535:q)\xff\n
 3 2 | bad line 2: long | celery-schedule 1\n\(65537:q)\n
-3 2 | bad line 2: later | celery-schedule 1\n\(65536:q)\n
+3 2 | bad line 2: syntax | celery-schedule 1\n\(65536:q)\n
 3 2 | bad line 2: unknown client | celery-schedule 1\nrun 1\n\(65537:q)\n
 3 2 | bad line 2: long | celery-schedule 1\n\(65537:q)\n\xff\n
 "#
@@ -44,6 +44,10 @@ pub fn lawful() -> &'static str {
 0 0 | * | celery-schedule 1\nclient 1 seed 7\nbegin 1 publish - celery 0 tasks.add  [{"a": 1.5, "a": 1}]\n
 0 0 | * | celery-schedule 1\nclient 1 seed 7\nbegin 1 publish - celery 0 tasks.add \(90:[)\(90:])
 0 0 | * | celery-schedule 1\nclient 1 seed 7\nbegin 1 publish - celery 0 tasks.add []\n
+0 0 | * | celery-schedule 1\nclient 1 seed 7\nbegin 1 publish \(255:x) \(255:k) 0 tasks.add []\n
+0 0 | * | celery-schedule 1\nclient 1 seed 7\nbegin 1 publish news unacked 0 tasks.add []\n
+0 0 | * | celery-schedule 1\nclient 1 seed 7\nbegin 1 declare \(255:x) \(255:k) \(255:p) \(255:q)\n
+0 0 | * | celery-schedule 1\nclient 1 seed 7\nbegin 1 restore 18446744073709551615:0\n
 0 0 | * | celery-schedule 1\nclient 1 seed 7\nbegin 1 publish - celery 0 tasks.add  [2, 3]\n
 0 0 | * | celery-schedule 1\nclient 1 seed 7\nbegin 1 publish - celery 0 tasks.add [18446744073709551615, -9223372036854775808]\n
 0 0 | * | celery-schedule 1\nclient 1 seed 7\nbegin 1 publish - celery 0 tasks.add [{"a":1.5,"a":1}]\n

@@ -1,4 +1,5 @@
 use Rattle.std.proofs.Common.{◌∙◌, ap, sym}
+use Rattle.returns.specs.Returns.{return_left, return_stage_left}
 use Rattle.routes.specs.Publishes.{publish_left, publish_stage_left}
 use Rattle.unacked.specs.Pops.{pop_left, pop_stage_left}
 use Rattle.client_blocks.proofs.Answered.{heard_so}
@@ -12,5 +13,10 @@ returns-in-Pop c =
 
 pub returns-in-Publish : goal.returns-in-Publish
 returns-in-Publish c =
-    heard_so publish_stage_left c.deref_mut.result.now c.took.new.self c.args.at c.args.reply.now c.took.result c.heard.result (script_left c.args.self.now) c.took.ensures.taken c.heard.ensures
-    (ap publish_left (c.deref_mut.ensures.value ∙ ap (λ b. b.value) c.in-Publish.core-is) ∙ sym (ap script_left c.in-Publish.is))
+    heard_so publish_stage_left c.deref_mut-in-Publish.result.now c.took-in-Publish.new.self c.args.at c.args.reply.now c.took-in-Publish.result c.heard-in-Publish.result (script_left c.args.self.now) c.took-in-Publish.ensures.taken c.heard-in-Publish.ensures
+    (ap publish_left (c.deref_mut-in-Publish.ensures.value ∙ ap (λ b. b.value) c.in-Publish.core-is) ∙ sym (ap script_left c.in-Publish.is))
+
+pub returns-in-Return : goal.returns-in-Return
+returns-in-Return c =
+    heard_so return_stage_left c.deref_mut-in-Return.result.now c.took-in-Return.new.self c.args.at c.args.reply.now c.took-in-Return.result c.heard-in-Return.result (script_left c.args.self.now) c.took-in-Return.ensures.taken c.heard-in-Return.ensures
+    (ap return_left (c.deref_mut-in-Return.ensures.value ∙ ap (λ b. b.value) c.in-Return.core-is) ∙ sym (ap script_left c.in-Return.is))

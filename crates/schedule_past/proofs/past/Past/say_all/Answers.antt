@@ -1,4 +1,5 @@
 use Rattle.std.proofs.Common.{sym, ◌∙◌, false}
+use Rattle.schedule_past.proofs.Companions.{same_clients, still_running}
 use Rattle.schedule_past.proofs.Sayings.{said_on, said_stuck}
 use Rattle.client_blocks.specs.Blocks.{script_left}
 use Rattle.schedule_past.specs.Desks.{desk_with}
@@ -16,5 +17,8 @@ loop-alloc-preserved c = record {
       c.loop-alloc.invariant.said bs
       ∙ said_on (desk_with c.loop-alloc.self bs) c.args.client (script_left c.loop-alloc.left) (record { desk = desk_with c.say_one.new.self bs; left = script_left c.say_one.new.left; room = c.in_ok-has_room.has_room })
       (sym c.has_more.ensures ∙ c.loop-alloc-test.true) (c.in_ok-has_room.ensures.said bs) c.if-not-has_room.false;
-  table = c.in_ok-has_room.ensures.table ∙ c.loop-alloc.invariant.table;
+  clients = same_clients c.args.self.now c.loop-alloc.self c.say_one.new.self c.loop-alloc.invariant.clients c.say_one.ensures.clients;
 }
+
+pub say_one-requires-clause-running : goal.say_one-requires-clause-running
+say_one-requires-clause-running c = still_running c.args.client c.args.self.now c.loop-alloc.self c.loop-alloc.invariant.clients c.requires.running

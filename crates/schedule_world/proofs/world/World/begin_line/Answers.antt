@@ -2,6 +2,7 @@ use Rattle.std.proofs.Common.{ap, refl}
 use Rattle.std.specs.Prelude.{is_some}
 use Rattle.std.specs.FinMap.{get}
 use Rattle.schedule_world.proofs.Begins.{asked_went, found_so, resting_bad, unprepared}
+use Rattle.schedule_world.proofs.Here.{book_here, set_here}
 use Rattle.schedule_world.proofs.Spoken.{set_known, told_bad}
 use Rattle.schedule_world.specs.Desks.{desk_of}
 use Rattle.schedule_world.specs.declared.book.ClientBook.{ClientBook}
@@ -18,7 +19,7 @@ returns-in_err-begun c =
     let s = c.in_ok-seed.seed in
     let n = c.in_ok-seed.drawn in
     unprepared c.args.self.now.past c.args.self.now.books c.args.self.now.books c.args.client s n k.left c.args.asked.now
-    (found_so (get c.args.self.now.books c.args.client) k s n c.in_ok-seed.ensures.1 c.in_ok-seed.ensures.2) c.in_ok-seed.ensures.3 c.in_ok-seed.ensures.4
+    (found_so (get c.args.self.now.books c.args.client) k s n c.in_ok-seed.ensures.1 c.in_ok-seed.ensures.2 c.in_ok-seed.ensures.3) c.in_ok-seed.ensures.4 c.in_ok-seed.ensures.5
     c.in_err-begun.field-0.0 c.from_residual-in_err-begun.result c.from_residual-in_err-begun.ensures.0 c.from_residual-in_err-begun.ensures.1 c.in_err-begun.ensures
 
 pub invariant_of-self-2 : goal.invariant_of-self-2
@@ -27,6 +28,9 @@ invariant_of-self-2 c =
       known =
           set_known c.args.self.now.books c.set.new.self c.args.self.now.past.history.clients c.args.client _ c.set.result c.args.self.now.known
           (c.args.self.now.known c.args.client (ap is_some c.in_ok-seed.ensures.1)) c.set.ensures.ok c.set.ensures.err;
+      here =
+          set_here c.args.self.now.books c.set.new.self c.args.self.now.past.history.entries c.args.client _ c.set.result c.args.self.now.here
+          (book_here c.args.self.now.books c.args.self.now.past.history.entries c.args.client c.in_ok-seed.ensures.0 c.args.self.now.here c.in_ok-seed.ensures.1 c.in_ok-seed.ensures.3) c.set.ensures.ok c.set.ensures.err;
     }
 
 pub returns : goal.returns
@@ -35,5 +39,5 @@ returns c =
     let s = c.in_ok-seed.seed in
     let n = c.in_ok-seed.drawn in
     asked_went c.args.self.now.past c.args.self.now.books c.set.new.self c.args.client s n k.left c.args.asked.now
-    (found_so (get c.args.self.now.books c.args.client) k s n c.in_ok-seed.ensures.1 c.in_ok-seed.ensures.2) c.in_ok-seed.ensures.3 c.in_ok-seed.ensures.4
+    (found_so (get c.args.self.now.books c.args.client) k s n c.in_ok-seed.ensures.1 c.in_ok-seed.ensures.2 c.in_ok-seed.ensures.3) c.in_ok-seed.ensures.4 c.in_ok-seed.ensures.5
     c.in_ok-begun.begun c.in_ok-begun.ensures.1.0 c.requires c.in_ok-begun.ensures.0 c.in_ok-begun.ensures.1.1 c.in_ok-begun.ensures.1.2 c.in_ok-set.ensures.ok
