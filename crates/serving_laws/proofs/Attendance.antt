@@ -31,7 +31,7 @@ asked_in goes gives fault first now old new turns receives stream sent count (Wi
 asked_in goes gives fault first now old new turns receives stream sent count NotWords ((h, w, none), calm) = (h, (w, none))
 asked_in goes gives fault first now old new turns receives stream sent count (Full entries bytes) ((h, w, b, refused), calm) = absurd (unshared refused.0)
 asked_in goes gives fault first now old new turns receives stream sent count Closed ((h, w, b, refused), calm) = absurd (unshared refused.0)
-asked_in goes gives fault first now old new turns receives stream sent count Memory (h, w) = (h, w)
+asked_in goes gives fault first now old new turns receives stream sent count Memory ((h, w), calm) = (h, w)
 
 -- what a link carried that carried nothing before
 carried_from : (was now : Option (List ℕ)) (bytes : List ℕ) → was ≡ Some [] → Appends was now bytes → now ≡ Some bytes
