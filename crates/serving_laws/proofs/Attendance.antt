@@ -1,7 +1,8 @@
 -- What a served connection asked, and what went back.
-use Rattle.std.proofs.Common.{List, [], ap, append-nil, append_assoc, false, subst, sym, true, ℕ, ◌++◌, ◌∙◌, ◌∷◌, ◌≡◌}
+use Rattle.std.proofs.Common.{List, [], ap, append-nil, append_assoc, false, inl, inr, subst, sym, true, ℕ, ◌++◌, ◌∙◌, ◌∷◌, ◌≡◌}
 use Rattle.std.specs.Prelude.{None, Option, Some}
 use Rattle.std.specs.Io.KnownBytes.{Appends}
+use Rattle.links.specs.Causes.{Rose}
 use Rattle.store_model.specs.Store.{StoreView}
 use Rattle.desks.specs.Deeds.{Deed}
 use Rattle.desks.specs.declared.desk.DeskFault.{DeskFault}
@@ -16,22 +17,23 @@ use Rattle.store_server.specs.Servings.{HasServedOne, store_goes}
 use Rattle.serving_laws.specs.ServedHistories.{Attended, ClosesAll, HasAttended, HasAttendedAll, IsLeftSo, TellsBoth}
 
 -- what was asked in a session at a desk that nobody shares, and what stands at its end
-abbrev AsksUntil : {D : Type 0} → (D → List Deed → D → Type 0) → (ℕ → Type 0) → D → D → List ℕ → List ℕ → ℕ → Why → Type 0
-AsksUntil goes gives first now stream sent count why = (h : HasHeard goes gives first now stream count) × IsLeftSo why h.deeds sent h.from h.rest
+abbrev AsksUntil : {D : Type 0} → (D → List Deed → D → Type 0) → (ℕ → Type 0) → D → D → LinkView → List ℕ → List ℕ → ℕ → Why → Type 0
+AsksUntil goes gives first now link stream sent count why = (h : HasHeard goes gives first now stream count) × IsLeftSo link why h.deeds sent h.from h.rest
 
 unshared : false ≡ true → ⊥
 unshared e = absurd cc
 
-pub asked_in : {D : Type 0} (goes : D → List Deed → D → Type 0) (gives : ℕ → Type 0) (fault : Option DeskFault) (first now : D) (old new : LinkView) (turns receives : ℕ) (stream sent : List ℕ) (count : ℕ) (why : Why)
-    → EndsSession goes gives false fault first now old new turns receives stream sent count why → AsksUntil goes gives first now stream sent count why
-asked_in goes gives fault first now old new turns receives stream sent count Ended (h, w, none, rose, kept, few) = (h, (w, none))
-asked_in goes gives fault first now old new turns receives stream sent count Turns (h, w, front, over, calm) = (h, (w, front))
-asked_in goes gives fault first now old new turns receives stream sent count Link (h, w, cause) = (h, w)
-asked_in goes gives fault first now old new turns receives stream sent count (Wire kind place) ((h, w, wrong), calm) = (h, (w, wrong))
-asked_in goes gives fault first now old new turns receives stream sent count NotWords ((h, w, none), calm) = (h, (w, none))
-asked_in goes gives fault first now old new turns receives stream sent count (Full entries bytes) ((h, w, b, refused), calm) = absurd (unshared refused.0)
-asked_in goes gives fault first now old new turns receives stream sent count Closed ((h, w, b, refused), calm) = absurd (unshared refused.0)
-asked_in goes gives fault first now old new turns receives stream sent count Memory (h, w) = (h, w)
+pub asked_in : {D : Type 0} (goes : D → List Deed → D → Type 0) (gives : ℕ → Type 0) (fault : Option DeskFault) (first now : D) (old new : LinkView) (turns receives : ℕ) (stream sent : List ℕ) (count : ℕ) (why : Why) → old.faults ≡ 0 → old.ends ≡ 0
+    → EndsSession goes gives false fault first now old new turns receives stream sent count why → AsksUntil goes gives first now new stream sent count why
+asked_in goes gives fault first now old new turns receives stream sent count Ended sound whole (h, w, none, rose, kept, few) = (h, (w, none))
+asked_in goes gives fault first now old new turns receives stream sent count Turns sound whole (h, w, front, over, calm) = (h, (w, front))
+asked_in goes gives fault first now old new turns receives stream sent count Link sound whole (h, w, inl (rose, same)) = (h, (w, inl (subst (λ (i : ℕ). Rose i new.faults) sound rose)))
+asked_in goes gives fault first now old new turns receives stream sent count Link sound whole (h, w, inr (rose, same, front, some, few)) = (h, (w, inr (subst (λ (i : ℕ). Rose i new.ends) whole rose, front, some)))
+asked_in goes gives fault first now old new turns receives stream sent count (Wire kind place) sound whole ((h, w, wrong), calm) = (h, (w, wrong))
+asked_in goes gives fault first now old new turns receives stream sent count NotWords sound whole ((h, w, none), calm) = (h, (w, none))
+asked_in goes gives fault first now old new turns receives stream sent count (Full entries bytes) sound whole ((h, w, b, refused), calm) = absurd (unshared refused.0)
+asked_in goes gives fault first now old new turns receives stream sent count Closed sound whole ((h, w, b, refused), calm) = absurd (unshared refused.0)
+asked_in goes gives fault first now old new turns receives stream sent count Memory sound whole ((h, w), calm) = (h, w)
 
 -- what a link carried that carried nothing before
 carried_from : (was now : Option (List ℕ)) (bytes : List ℕ) → was ≡ Some [] → Appends was now bytes → now ≡ Some bytes
@@ -49,8 +51,8 @@ module _ (gives : ℕ → Type 0) (turns c : ℕ) (s t : StoreView) (closed clos
   abbrev its : HasSession (store_goes c) gives false o.visited.fault s o.visited.left o.link o.link2 turns end.commands end.why
   its = o.visited.session
 
-  abbrev asked : AsksUntil (store_goes c) gives s o.visited.left its.stream its.sent end.commands end.why
-  asked = asked_in (store_goes c) gives o.visited.fault s o.visited.left o.link o.link2 turns its.receives its.stream its.sent end.commands end.why its.ends
+  abbrev asked : AsksUntil (store_goes c) gives s o.visited.left o.link2 its.stream its.sent end.commands end.why
+  asked = asked_in (store_goes c) gives o.visited.fault s o.visited.left o.link o.link2 turns its.receives its.stream its.sent end.commands end.why o.fresh.no_fault o.fresh.no_end its.ends
 
   abbrev pub attended : Attended
   attended = record { link = o.link2; end = end; deeds = asked.0.deeds }

@@ -1,7 +1,8 @@
 -- What connections that were served one after the other asked, as one history of their store.
-use Rattle.std.specs.Prelude.{List, None, Option, Some, [], false, length, map, suc, true, zero, ⊤, ℕ, ◌+◌, ◌++◌, ◌∷◌, ◌≡◌}
+use Rattle.std.specs.Prelude.{List, None, Option, Some, [], false, length, map, suc, true, zero, ⊤, ℕ, ◌+◌, ◌++◌, ◌<◌, ◌∷◌, ◌≡◌, ◌⊎◌}
 use Rattle.std.specs.FinMap.{empty}
 use Rattle.wire_values.specs.declared.value.Value.{Value}
+use Rattle.links.specs.Causes.{Rose}
 use Rattle.wire_grammar.specs.Spells.{IsFront}
 use Rattle.wire_grammar.specs.Streams.{Leads}
 use Rattle.resp_wire.specs.Stands.{IsFault, held_to}
@@ -53,16 +54,16 @@ abbrev pub TellsBoth : Option (List LinkView) → LinkView → List ℕ → List
 TellsBoth None link received sent = ⊤
 TellsBoth (Some closed) link received sent = (link.received ≡ Some received) × (link.sent ≡ Some sent)
 
--- what stands where a session ended so, after the values that were asked: where the other side ended, all was asked and answered; after the last turn, at a fault and at a value that is no command, all before it was; where the link failed or memory was wanting, a front of the answers was sent; a store that nobody shares is never full nor closed
-abbrev pub IsLeftSo : Why → List Deed → List ℕ → ℕ → List ℕ → Type 0
-IsLeftSo Ended deeds sent from rest = WritesAll deeds sent × (rest ≡ [])
-IsLeftSo Turns deeds sent from rest = WritesAll deeds sent × IsFront rest
-IsLeftSo (Wire kind place) deeds sent from rest = WritesAll deeds sent × IsFault from rest kind place
-IsLeftSo NotWords deeds sent from rest = WritesAll deeds sent × BeginsNoCommand rest
-IsLeftSo Link deeds sent from rest = WritesFront deeds sent
-IsLeftSo Memory deeds sent from rest = WritesFront deeds sent
-IsLeftSo (Full entries bytes) deeds sent from rest = ⊥
-IsLeftSo Closed deeds sent from rest = ⊥
+-- what stands where a session ended so, after the values that were asked: where the other side ended, all was asked and answered; after the last turn, at a fault and at a value that is no command, all before it was; where the link failed or ended within a value, and where memory was wanting, a front of the answers was sent; a store that nobody shares is never full nor closed
+abbrev pub IsLeftSo : LinkView → Why → List Deed → List ℕ → ℕ → List ℕ → Type 0
+IsLeftSo link Ended deeds sent from rest = WritesAll deeds sent × (rest ≡ [])
+IsLeftSo link Turns deeds sent from rest = WritesAll deeds sent × IsFront rest
+IsLeftSo link (Wire kind place) deeds sent from rest = WritesAll deeds sent × IsFault from rest kind place
+IsLeftSo link NotWords deeds sent from rest = WritesAll deeds sent × BeginsNoCommand rest
+IsLeftSo link Link deeds sent from rest = WritesFront deeds sent × (Rose 0 link.faults ⊎ (Rose 0 link.ends × IsFront rest × (0 < length rest)))
+IsLeftSo link Memory deeds sent from rest = WritesFront deeds sent
+IsLeftSo link (Full entries bytes) deeds sent from rest = ⊥
+IsLeftSo link Closed deeds sent from rest = ⊥
 
 -- what was asked are the commands of whole values that came over the link, each once and in order, what went back are their answers, and what is left unasked and unanswered is as the session's end says
 pub record HasAttended (gives : ℕ → Type 0) (closed : Option (List LinkView)) (a : Attended) : Type 0 where
@@ -75,7 +76,7 @@ pub record HasAttended (gives : ℕ → Type 0) (closed : Option (List LinkView)
   pub leads : Leads 0 received values from rest
   pub calls : AreCalls gives values a.deeds
   pub counted : a.end.commands ≡ held_to (length a.deeds)
-  pub left : IsLeftSo a.end.why a.deeds sent from rest
+  pub left : IsLeftSo a.link a.end.why a.deeds sent from rest
 
 -- so of each
 abbrev pub HasAttendedAll : (ℕ → Type 0) → Option (List LinkView) → List Attended → Type 0
