@@ -11,7 +11,7 @@ pub enum ServingEnd {
     /// As many sessions ended as were wanted, none of them since a history was full.
     Served,
     /// As many sessions ended as were wanted; the first that found its store's history full found it with so many
-    /// entries, of so many bytes.
+    /// entries, of so many bytes. No store of today has a history that can be full.
     Full { entries: u64, bytes: u64 },
     /// The net failed.
     Net,

@@ -1,5 +1,5 @@
 -- What each status of a run says.
-use Rattle.std.proofs.Common.{Contains, List, None, Option, Some, [], ap, append-nil, append_assoc, arith, false, inl, inr, length, lit<, refl, subst, sym, ℕ, ◌+◌, ◌++◌, ◌≡◌, ◌∙◌, ◌∷◌, ◌≤◌, ◌⊎◌}
+use Rattle.std.proofs.Common.{Contains, List, None, Option, Some, [], ap, append-nil, append_assoc, arith, false, inl, inr, length, length-append, lit<, refl, subst, sym, ℕ, ◌+◌, ◌++◌, ◌≡◌, ◌∙◌, ◌∷◌, ◌≤◌, ◌⊎◌}
 use Rattle.std.proofs.lemmas.Option.{none-some}
 use Rattle.std.specs.Io.KnownBytes.{Appends}
 use Rattle.links.specs.Causes.{AppendsFront, Rose}
@@ -17,7 +17,7 @@ use Rattle.serve_run.specs.declared.ending.ServingEnd.TheVariants as serving
 use Rattle.top_call.specs.declared.ending.Ended.{Ended}
 use Rattle.waiting_call.specs.Endings.{IsWaitTold, TellsEnd, TellsIf, WritesEnd, wait_ended, wait_text, waited_by}
 use Rattle.waiting_call.specs.Servings.{HasRefused, HasServedWords, HasWaited}
-use Rattle.waiting_call.specs.Statuses.{HasServedAsked, IsBadWaitWord, IsFullHistory, IsLinkFault, IsServed, IsWaitMemory, IsWaitWriteFault, IsWaitingEnd}
+use Rattle.waiting_call.specs.Statuses.{HasServedAsked, IsBadWaitWord, IsFullHistory, IsLinkFault, IsNextText, IsServed, IsWaitMemory, IsWaitWriteFault, IsWaitingEnd}
 use Rattle.wait_words.specs.Words.{bad_wait_place, connections_in, turns_in}
 use Rattle.waiting_call.specs.declared.ending.WaitEnd.TheVariants.{BadWord, Done, Full, LinkFault, Memory}
 use Rattle.waiting_call.specs.declared.ending.WaitEnd.{WaitEnd}
@@ -29,9 +29,9 @@ appends_on (Some l) None d x y p q = absurd p
 appends_on (Some l) (Some m) None x y p q = absurd q
 appends_on (Some l) (Some m) (Some n) x y p q = q ∙ ap (λ i. i ++ y) p ∙ append_assoc l x y
 
--- a front of a text after a text
-front_on : (a b d : Option (List ℕ)) (x y : List ℕ) → Appends a b x → AppendsFront b d y → AppendsFront a d (x ++ y)
-front_on a b d x y p (front, rest, cut, some, q) = (x ++ front, rest, ap (λ i. x ++ i) cut ∙ sym (append_assoc x front rest), some, appends_on a b d x front p q)
+-- no text is never cut
+never_cut : (a b : Option (List ℕ)) → AppendsFront a b [] → ⊥
+never_cut a b (front, rest, cut, some, q) = omega (arith, ap length cut, length-append front rest, some)
 
 module _ (gives : ℕ → Type 0) (words : List (List ℕ)) (a b : NetView) (o x : SinkView) (r : Ended) where
   -- by its status alone
@@ -134,13 +134,13 @@ module _ (gives : ℕ → Type 0) (words : List (List ℕ)) (a b : NetView) (o x
     asked_told : run.untold ≡ [] → HasServedAsked gives words a b run.ends
     asked_told none = subst (λ l. HasServedAsked gives words a b l) (ap (λ u. run.ends ++ u) none ∙ append-nil run.ends) asked
 
-    -- the sink failed within the text of an ending
-    cut_in_text : (told : WaitEnd) → length run.untold ≤ 1 → Appends o.taken m.taken (session_lines 1 run.ends) → m.faults ≡ o.faults → r.status ≡ 5
-        → AppendsFront m.taken x.taken (wait_text told) → m.faults ≤ x.faults → Rose m.faults x.faults → IsWaitingEnd gives words a b o x r
-    cut_in_text told few lines calm st front later rose = by_write_fault st (
+    -- the sink failed within the text that was to be written next
+    cut_in_text : (text : List ℕ) → length run.untold ≤ 1 → IsNextText (connections_in words) a b run.ends run.untold text → Appends o.taken m.taken (session_lines 1 run.ends) → m.faults ≡ o.faults → r.status ≡ 5
+        → AppendsFront m.taken x.taken text → m.faults ≤ x.faults → Rose m.faults x.faults → IsWaitingEnd gives words a b o x r
+    cut_in_text text few next lines calm st front later rose = by_write_fault st (
       omega (arith, later, calm),
       subst (λ (i : ℕ). Rose i x.faults) calm rose,
-      inr (run.ends, run.untold, few, asked, (wait_text told, inr (told, refl), front_on o.taken m.taken x.taken (session_lines 1 run.ends) (wait_text told) lines front)),
+      inr (run.ends, run.untold, few, asked, (m.taken, text, lines, next, front)),
     )
 
   lines_of : (gives2 : ℕ → Type 0) (turns wanted : ℕ) (s t : StoreView) (m : SinkView) (end : ServingEnd) (run : HasServedOn gives2 turns wanted s t a b o m end) → m ≡ run.between → Appends o.taken m.taken (session_lines 1 run.ends) × (m.faults ≡ o.faults)
@@ -165,9 +165,7 @@ module _ (gives : ℕ → Type 0) (words : List (List ℕ)) (a b : NetView) (o x
           run.cause.no_fault,
           subst (λ l. Appends o.taken x.taken l) (append-nil (session_lines 1 run.ends)) (appends_on o.taken m.taken x.taken (session_lines 1 run.ends) [] lines text),
         )
-    all_told run (inr (is, front, later, rose)) =
-        let (lines, calm) = lines_of gives _ _ _ left m Served run run.cut in
-        cut_in_text lawful left m Served run Done (none_few run.untold run.cause.all_told) lines calm (ap (λ v. v.status) is) front later rose
+    all_told run (inr (is, front, later, rose)) = absurd (never_cut m.taken x.taken front)
 
     full_told : (entries bytes : ℕ) (run : Runs (serving.Full entries bytes)) → WritesEnd m x (Full entries bytes) r → IsWaitingEnd gives words a b o x r
     full_told entries bytes run (inl (is, text, kept)) =
@@ -184,7 +182,8 @@ module _ (gives : ℕ → Type 0) (words : List (List ℕ)) (a b : NetView) (o x
         )
     full_told entries bytes run (inr (is, front, later, rose)) =
         let (lines, calm) = lines_of gives _ _ _ left m _ run run.cut in
-        cut_in_text lawful left m _ run (Full entries bytes) (none_few run.untold run.cause.all_told) lines calm (ap (λ v. v.status) is) front later rose
+        cut_in_text lawful left m _ run (wait_text (Full entries bytes)) (none_few run.untold run.cause.all_told)
+        (inr (inr (inl (entries, bytes, refl, run.cause.all_told, run.cause.count, sym run.cause.ends_so, run.cause.no_fault)))) lines calm (ap (λ v. v.status) is) front later rose
 
     -- want of memory was told
     memory_so : (end : ServingEnd) (run : Runs end) → length run.untold ≤ 1 → b.faults ≡ a.faults → m ≡ run.between → WritesEnd m x Memory r → IsWaitingEnd gives words a b o x r
@@ -196,7 +195,7 @@ module _ (gives : ℕ → Type 0) (words : List (List ℕ)) (a b : NetView) (o x
         )
     memory_so end run few no_fault same (inr (is, front, later, rose)) =
         let (lines, calm) = lines_of gives _ _ _ left m end run same in
-        cut_in_text lawful left m end run Memory few lines calm (ap (λ v. v.status) is) front later rose
+        cut_in_text lawful left m end run (wait_text Memory) few (inr (inr (inr (refl, no_fault)))) lines calm (ap (λ v. v.status) is) front later rose
 
     link_told : (run : Runs Net) → WritesEnd m x LinkFault r → IsWaitingEnd gives words a b o x r
     link_told run (inl (is, text, kept)) =
@@ -209,7 +208,8 @@ module _ (gives : ℕ → Type 0) (words : List (List ℕ)) (a b : NetView) (o x
         )
     link_told run (inr (is, front, later, rose)) =
         let (lines, calm) = lines_of gives _ _ _ left m Net run run.cut in
-        cut_in_text lawful left m Net run LinkFault (none_few run.untold run.cause.0.0) lines calm (ap (λ v. v.status) is) front later rose
+        let ((none, net_later, net_rose), more) = run.cause in
+        cut_in_text lawful left m Net run (wait_text LinkFault) (none_few run.untold none) (inr (inl (refl, none, net_later, net_rose))) lines calm (ap (λ v. v.status) is) front later rose
 
     -- the sink failed within a session's line
     cut_in_line : (run : Runs WriteFault) → r ≡ record { status = 5; place = 0; left = 0 } → x ≡ m → IsWaitingEnd gives words a b o x r
@@ -224,10 +224,11 @@ module _ (gives : ℕ → Type 0) (words : List (List ℕ)) (a b : NetView) (o x
             omega (arith, run.cause.0),
             asked lawful left m WriteFault run,
             (
+              run.between.taken,
               session_lines (length run.ends + 1) run.untold,
-              inl refl,
-              subst (λ (v : SinkView). AppendsFront o.taken v.taken (session_lines 1 run.ends ++ session_lines (length run.ends + 1) run.untold)) (sym same)
-                  (front_on o.taken run.between.taken m.taken (session_lines 1 run.ends) (session_lines (length run.ends + 1) run.untold) run.told front),
+              run.told,
+              inl (refl, run.cause.0, run.cause.1),
+              subst (λ (v : SinkView). AppendsFront run.between.taken v.taken (session_lines (length run.ends + 1) run.untold)) (sym same) front,
             ),
           ),
         )

@@ -1,6 +1,6 @@
 -- What each status of a run says by itself.
 use Rattle.std.specs.Io.KnownBytes.{Appends}
-use Rattle.std.specs.Prelude.{Contains, List, None, Some, [], false, length, ℕ, ◌+◌, ◌++◌, ◌∷◌, ◌≡◌, ◌≤◌, ◌⊎◌}
+use Rattle.std.specs.Prelude.{Contains, List, None, Option, Some, [], false, length, ℕ, ◌+◌, ◌++◌, ◌∷◌, ◌≡◌, ◌≤◌, ◌⊎◌}
 use Rattle.links.specs.Causes.{AppendsFront, Rose}
 use Rattle.links.specs.Views.{SinkView}
 use Rattle.store_model.specs.Store.{StoreView, empty_state}
@@ -38,16 +38,21 @@ abbrev pub IsBadWaitWord : List (List ℕ) → NetView → NetView → SinkView 
 IsBadWaitWord words before after old new place =
     (bad_wait_place words ≡ Some place) × (after ≡ before) × Appends old.taken new.taken (wait_text (BadWord place))
 
--- what was to be written next: the line of the session that is untold, or the text of an ending
-abbrev pub IsNextText : ℕ → List SessionEnd → List ℕ → Type 0
-IsNextText number untold text = (text ≡ session_lines number untold) ⊎ ((told : WaitEnd) × (text ≡ wait_text told))
+-- what was to be written after the lines of these sessions: the line of the one that is untold; or the text of a failure of the net, whose count rose; or that of a full history, where all sessions ended and the first that found its history full found it with these numbers; or that of want of memory. But for a failure of the net it didn't fail
+abbrev pub IsNextText : ℕ → NetView → NetView → List SessionEnd → List SessionEnd → List ℕ → Type 0
+IsNextText wanted before after ends untold text =
+    ((text ≡ session_lines (length ends + 1) untold) × (length untold ≡ 1) × (after.faults ≡ before.faults))
+    ⊎ (((text ≡ wait_text LinkFault) × (untold ≡ []) × (before.faults ≤ after.faults) × Rose before.faults after.faults)
+    ⊎ (((entries : ℕ) × (bytes : ℕ) × (text ≡ wait_text (Full entries bytes)) × (untold ≡ []) × (length ends ≡ wanted)
+    × (end_after serving.Served ends ≡ serving.Full entries bytes) × (after.faults ≡ before.faults))
+    ⊎ ((text ≡ wait_text Memory) × (after.faults ≡ before.faults))))
 
--- status 5: the sink's count rose; the words were bad, and a front was written of what is told of that; or sessions ended, and after the lines of all but perhaps the last one a front was written of what was to be written next
+-- status 5: the sink's count rose; the words were bad, and a front was written of what is told of that; or sessions ended, the lines of all but perhaps the last one were written whole, and after them a front of what was to be written next, but not all of it
 abbrev pub IsWaitWriteFault : (ℕ → Type 0) → List (List ℕ) → NetView → NetView → SinkView → SinkView → Type 0
 IsWaitWriteFault gives words before after old new = (old.faults ≤ new.faults) × Rose old.faults new.faults
     × (((place : ℕ) × (bad_wait_place words ≡ Some place) × (after ≡ before) × ((told : WaitEnd) × IsWaitTold (BadWord place) told × AppendsFront old.taken new.taken (wait_text told)))
     ⊎ ((ends : List SessionEnd) × (untold : List SessionEnd) × (length untold ≤ 1) × HasServedAsked gives words before after (ends ++ untold)
-    × ((text : List ℕ) × IsNextText (length ends + 1) untold text × AppendsFront old.taken new.taken (session_lines 1 ends ++ text))))
+    × ((shown : Option (List ℕ)) × (text : List ℕ) × Appends old.taken shown (session_lines 1 ends) × IsNextText (connections_in words) before after ends untold text × AppendsFront shown new.taken text)))
 
 -- status 6: the net's count rose; the lines of all sessions that ended were written, and then its text
 abbrev pub IsLinkFault : (ℕ → Type 0) → List (List ℕ) → NetView → NetView → SinkView → SinkView → Type 0

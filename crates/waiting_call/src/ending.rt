@@ -17,7 +17,7 @@ pub enum WaitEnd {
     /// Status 6: the net failed.
     LinkFault,
     /// Status 9: all connections were served, and a session found its history full, with so many entries, which cost so
-    /// many bytes.
+    /// many bytes. No store of today has a history that can be full.
     Full { entries: u64, bytes: u64 },
     /// Status 11: there was no memory.
     Memory,

@@ -29,6 +29,8 @@ use wait_words::{address_in, bad_word, connections_in, turns_in};
 /// | 6 | the net failed | `link fault` |
 /// | 9 | all connections were served, and a session found its store's history full | `history full <entries> <bytes>` |
 /// | 11 | there was no memory | `out of memory` |
+///
+/// No store of today has a history that can be full, so that no run ends with status 9.
 pub fn run_wait<S: Source, K: Sink, N: Net, C: Clock>(
     alloc: Global,
     words: &[&str],
