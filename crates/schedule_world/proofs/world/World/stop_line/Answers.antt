@@ -53,7 +53,7 @@ invariant_of-self-2 c =
       known =
           known_same c.stop.new.self c.stop.new.self c.args.self.now.past.history.clients c.stop-2.new.self.history.clients refl c.stop-2.ensures.table
           (stopped_known c.args.self.now.books c.stop.new.self c.args.self.now.past.history.clients c.args.client k c.stop.result c.args.self.now.known
-           (c.args.self.now.known c.args.client (ap is_some c.in_ok-present.ensures.1)) c.in_ok-present.ensures.1 c.stop.ensures.ok c.stop.ensures.err);
+          (c.args.self.now.known c.args.client (ap is_some c.in_ok-present.ensures.1)) c.in_ok-present.ensures.1 c.stop.ensures.ok c.stop.ensures.err);
       here =
           gone_here (remove c.args.self.now.books c.args.client) c.stop.new.self c.args.self.now.past c.stop-2.new.self c.args.client (record k { is_stopped = true }) refl there c.stop-2.ensures.gone
           (taken_here c.args.self.now.books (remove c.args.self.now.books c.args.client) c.args.self.now.past.history.entries c.args.client k c.args.self.now.here c.in_ok-present.ensures.1 c.in_ok-present.ensures.2 refl);
