@@ -3,7 +3,7 @@
 #![tactic(auto)]
 
 #[cfg(test)]
-mod passes;
+mod driven;
 #[cfg(test)]
 mod rows;
 #[cfg(test)]

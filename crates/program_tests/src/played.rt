@@ -1,5 +1,5 @@
 //! The rows, run by the top call.
-use crate::rows::{bad_lines, limits, reports, returns};
+use crate::rows::{bad_lines, limits, reports, returned};
 use crate::spelled::spelled;
 use line_text::number_in;
 use links::{MemorySink, MemorySource};
@@ -153,7 +153,7 @@ fn a_schedule_has_its_report(rt: HostRuntime) -> Result<(), Fail> {
     for (schedule, report) in reports::reports() {
         expect_report(&rt, rt.alloc(), schedule, report)?;
     }
-    for (schedule, report) in returns::returns() {
+    for (schedule, report) in returned::returns() {
         expect_report(&rt, rt.alloc(), schedule, report)?;
     }
     Ok(())

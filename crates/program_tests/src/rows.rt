@@ -2,6 +2,6 @@
 pub mod bad_lines;
 pub mod limits;
 pub mod reports;
-pub mod returns;
+pub mod returned;
 pub mod stops;
 pub mod streams;
