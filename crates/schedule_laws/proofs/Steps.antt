@@ -5,7 +5,7 @@ use Rattle.std.specs.FinMap.{get}
 use Rattle.wire_values.specs.declared.value.Value.{Value}
 use Rattle.line_text.specs.Words.{words_of}
 use Rattle.line_text.specs.declared.reason.Reason.{Reason}
-use Rattle.line_text.specs.declared.reason.Reason.TheVariants.{Later, Stopped, Idle, UnknownClient}
+use Rattle.line_text.specs.declared.reason.Reason.TheVariants.{Stopped, Idle, UnknownClient}
 use Rattle.queue_keys.specs.Names.{Bytes}
 use Rattle.store_model.specs.Words.{Words}
 use Rattle.store_model.specs.Store.{apply_of}
@@ -74,9 +74,7 @@ first_line κ cut n d l (k ∷ ls) h =
 
 spelled_led : (κ : Craft) (d : ScheduleReader) (l : Line) (bytes : Bytes) → SpellsLine l bytes → line_led κ d bytes ≡ led_unless κ d l (first_reason (tests κ d l))
 spelled_led κ d l bytes h =
-    ap (text_led κ d bytes) h.text
-    ∙ (ap (λ b. if b then Bad Later else led_by κ d (line_in (words_of bytes))) h.built
-    ∙ ap (led_by κ d) h.line)
+    ap (text_led κ d bytes) h.text ∙ ap (led_by κ d) h.line
 
 -- ---- what is said is said one by one
 
