@@ -5,9 +5,9 @@ ghost use Rattle.queue_keys.specs.Names.{is_name};
 ghost use Rattle.routes.specs.Declares.{declaration_plan, declared_plan};
 ghost use Rattle.client_plans.specs.Plans.{IsPrepared, are_no_parts, asked_binding, is_no_binding};
 
-use crate::{ClientCounts, PlanFault};
 use crate::names::{is_no_name, queue_name};
 use crate::plan::BegunBlock;
+use crate::{ClientCounts, PlanFault};
 use client_blocks::BlockLeft;
 use line_text::Reason;
 use lookups::is_part;

@@ -11,11 +11,11 @@ ghost use Rattle.schedule_model.specs.declared.line.Asked.TheVariants.{Ack, Pass
 ghost use Rattle.client_plans.specs.Plans.{IsAskable, IsPrepared, asked_return, way_reason};
 ghost use Rattle.client_plans.specs.Tasks.{envelope_text};
 
-use crate::{ClientCounts, PlanFault};
 use crate::arguments::arguments_of;
 use crate::binding::declaring;
 use crate::names::{has_no_name, has_reserved, queue_names, way_fault};
 use crate::task::{Publication, sealed_task};
+use crate::{ClientCounts, PlanFault};
 use client_blocks::BlockLeft;
 use command_blocks::Side;
 use envelope::{Envelope, Tag, Tree};
@@ -110,13 +110,7 @@ pub fn prepared(
             *of,
             *counter,
         ),
-        Asked::Requeue { seed: of, counter } => returning(
-            alloc,
-            counts,
-            Side::Left,
-            *of,
-            *counter,
-        ),
+        Asked::Requeue { seed: of, counter } => returning(alloc, counts, Side::Left, *of, *counter),
         Asked::Pass { visibility } => passing(alloc, counts, *visibility),
     }
 }
@@ -236,11 +230,7 @@ fn returning(
 }
 
 /// A pass over the messages that have been unacknowledged for so many seconds.
-fn passing(
-    alloc: Global,
-    counts: ClientCounts,
-    visibility: u32,
-) -> Result<BegunBlock, PlanFault>
+fn passing(alloc: Global, counts: ClientCounts, visibility: u32) -> Result<BegunBlock, PlanFault>
     ensures { IsPrepared counts (Pass visibility) result }
 {
     // No history has room for 2^64 passes.
