@@ -1,0 +1,2 @@
+pub mod MonthStarts
+pub mod Searches
