@@ -1,6 +1,12 @@
 -- Revokes as a list of ids and seconds, in order of arrival.
 use Rattle.std.specs.Prelude.{ℕ, ◌+◌, Bool, false, bytes_eq, nat_lt, if◌then◌else◌, List, [], ◌∷◌, ◌++◌, drop, filter, length, map, Option, Some, None}
-use Rattle.revokes.specs.declared.TheConstants.{REVOKE_LIMIT, REVOKE_SECONDS}
+
+-- how many revokes are kept at most, and for how many seconds a revoke is live
+abbrev pub revoke_limit : ℕ
+revoke_limit = 50000
+
+abbrev pub revoke_seconds : ℕ
+revoke_seconds = 10800
 
 -- a revoked id, and the second at which it was revoked
 abbrev pub Revoke : Type 0
@@ -13,7 +19,7 @@ without id (r ∷ rs) = if bytes_eq id r.0 then rs else r ∷ without id rs
 
 -- revokes as they are kept: where there are more than may be, the first is gone
 abbrev pub bounded : List Revoke → List Revoke
-bounded rs = if nat_lt REVOKE_LIMIT (length rs) then drop 1 rs else rs
+bounded rs = if nat_lt revoke_limit (length rs) then drop 1 rs else rs
 
 -- revokes with one of an id at the end
 abbrev pub with_revoke : List ℕ → ℕ → List Revoke → List Revoke
@@ -26,7 +32,7 @@ second_of id (r ∷ rs) = if bytes_eq id r.0 then Some r.1 else second_of id rs
 
 -- whether a revoke of this second is live
 abbrev pub is_live : ℕ → ℕ → Bool
-is_live now second = nat_lt now (second + REVOKE_SECONDS)
+is_live now second = nat_lt now (second + revoke_seconds)
 
 -- whether there is a revoke that is live
 abbrev pub is_revoked : ℕ → Option ℕ → Bool

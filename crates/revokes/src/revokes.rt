@@ -23,13 +23,12 @@ pub struct Revokes {
 impl Model for Revokes {
     ghost use Rattle.std.specs.Prelude.{◌≤◌, List as Listed, ℕ, length};
     ghost use Rattle.revokes.specs.Kept.{revokes_of};
-    ghost use Rattle.revokes.specs.declared.TheConstants.{REVOKE_LIMIT};
 
     ghost Value = { Listed (Listed ℕ × ℕ) };
 
     ghost view = { λ r. revokes_of r.kept.entries };
 
-    ghost invariant = { λ r. length r.kept.entries ≤ REVOKE_LIMIT };
+    ghost invariant = { λ r. length r.kept.entries ≤ 50000 };
 }
 
 impl Revokes {
