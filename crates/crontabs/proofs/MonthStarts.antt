@@ -3,9 +3,10 @@ use Rattle.std.proofs.Common.{◌≡◌, ℕ, zero, suc, inl, inr, ◌+◌, ◌-
 use Rattle.std.specs.Prelude.{unsigned_abs}
 use Rattle.std.proofs.lemmas.Bool.{cases_lt}
 use Rattle.std.proofs.lemmas.Bool.Decides.{nat_tests}
-use Rattle.jiff_core.proofs.CalendarLemmas.{days_of_months_all}
+use Rattle.jiff_core.proofs.CalendarLemmas.{days_in_month_bounds, days_of_months_all}
 use Rattle.jiff_core.proofs.SignedLemmas.{signed_arith}
 use Rattle.moments.proofs.KitCalendar.{months_is}
+use Rattle.moments.proofs.MomentsBack.{epoch_days, last_days}
 use Rattle.moments.specs.CivilDays.{days_to_year, days_of_first, day_number, year_days, month_days}
 use Rattle.crontabs.specs.Minutes.{Minute, day_of, is_minute}
 use Rattle.crontabs.specs.Months.{month_length, month_start}
@@ -136,3 +137,25 @@ pub day_in_month : (m : Minute) → IsReal m → m.day - 1 < month_length (month
 day_in_month m r =
     let e : month_days (month_of m / 12) (month_of m % 12 + 1) ≡ month_days m.year m.month = ap (λ z. month_days z (month_of m % 12 + 1)) (year_of_month m r) ∙ ap (λ z. month_days m.year z) (month_in_year m r) in
     omega (arith, e, r.day_low, r.day_high)
+
+length_low : (m : ℕ) → 28 ≤ month_length m
+length_low m = (days_in_month_bounds (pos (m / 12)) (m % 12 + 1)).1
+
+end_is : before 120000 ≡ days_to_year 10000
+end_is = omega (arith, no_months 10000)
+
+-- the calendar ends with the year 9999
+pub day_bound : (m : Minute) → IsReal m → day_of m ≤ 2932896
+day_bound m r =
+    omega (arith, day_is m r, day_in_month m r, start_is (month_of m) (month_low m r), apart (month_of m) 120000 (month_high m r), end_is, last_days, epoch_days)
+
+-- and so does its last month
+pub start_bound : (m : ℕ) → 23640 ≤ m → m < 120000 → month_start m ≤ 2932896
+start_bound m low high = omega (arith, start_is m low, apart m 120000 high, end_is, last_days, epoch_days, length_low m)
+
+-- months begin in their order
+pub starts_in_order : (a b : ℕ) → 23640 ≤ a → a ≤ b → month_start a ≤ month_start b
+starts_in_order a b low h = omega (arith, start_is a low, start_is b (omega arith), in_order a b h)
+
+pub starts_apart : (a b : ℕ) → 23640 ≤ a → a < b → month_start a + month_length a ≤ month_start b
+starts_apart a b low h = omega (arith, start_is a low, start_is b (omega arith), apart a b h)

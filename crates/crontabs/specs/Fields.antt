@@ -5,7 +5,7 @@ use Rattle.crontabs.specs.declared.steps.Steps.{Steps}
 
 -- whether a number is among those from a first to a last in steps
 abbrev pub steps_have : Steps → ℕ → Bool
-steps_have s n = nat_le s.first n && nat_le n s.last && ((n - s.first) % s.step == 0)
+steps_have s n = nat_le 1 s.step && nat_le s.first n && nat_le n s.last && ((n - s.first) % s.step == 0)
 
 -- whether a field has a number: one of its parts has it
 abbrev pub field_has : List Steps → ℕ → Bool

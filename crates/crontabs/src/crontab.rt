@@ -1,5 +1,6 @@
 //! A crontab.
-ghost use Rattle.std.specs.Prelude.{◌≡◌, ◌*◌, ◌-◌, ◌/◌, ◌<◌, ◌≤◌, ◌↔◌, IfOk, IsTrue, min};
+ghost use Rattle.std.specs.Prelude.{◌≡◌, ◌+◌, ◌*◌, ◌/◌, ◌<◌, ◌≤◌, ◌↔◌, IfOk, IsTrue};
+ghost use Rattle.crontabs.specs.Months.{month_start};
 
 use crate::calendar::{month_length, month_on, month_start};
 use crate::dates::Dates;
@@ -23,16 +24,23 @@ pub(crate) const LAST_MINUTE: u64 = 4_223_371_679;
 impl Crontab {
     ghost use Rattle.crontabs.specs.Crontabs.{IsCronDue};
     ghost use Rattle.crontabs.specs.FieldTexts.{crontab_in};
-    ghost use Rattle.crontabs.specs.Found.{SomeDay, SomeMinute, SomeTime};
+    ghost use Rattle.crontabs.specs.Found.{HasMinuteIn, HasMinuteOn, SomeDay, SomeMinute};
 
     /// The crontab that five fields spell, in the order minute, hour, day of month, month, weekday. A field is a list with
     /// commas of `*`, `*/n`, `a`, `a-b` and `a-b/n`, with `a` at most `b`, in 0 to 59, 0 to 23, 1 to 31, 1 to 12 and 0 to 6;
     /// `*/n` and `a-b/n` are the numbers from the first of the range on in steps of `n`, at least 1. None where a field is
     /// out of this form.
-    pub fn read(alloc: Global, time: (&str, &str), date: (&str, &str, &str)) -> Result<Option<Crontab>, AllocError>
-        ensures { IfOk result (λ found. found ≡ crontab_in time.0.now time.1.now date.0.now date.1.now date.2.now) }
+    pub fn read(
+        alloc: Global,
+        minute: &str,
+        hour: &str,
+        day: &str,
+        month: &str,
+        weekday: &str,
+    ) -> Result<Option<Crontab>, AllocError>
+        ensures { IfOk result (λ found. found ≡ crontab_in minute.now hour.now day.now month.now weekday.now) }
     {
-        crontab_in(alloc, time, date)
+        crontab_in(alloc, minute, hour, day, month, weekday)
     }
 
     /// Whether the crontab is due: a minute of UTC that it matches began after `last`, and at or before `now`, both in
@@ -54,13 +62,25 @@ impl Crontab {
         ensures { IsTrue result ↔ SomeMinute self.now first latest }
     {
         for month in month_on(first / 1440)..month_on(latest / 1440) + 1 {
-            if has(self.dates.months.as_slice(), month % 12 + 1)
-                && self.some_in_month(month_start(month), month_length(month), first, latest)
-            {
+            if self.matches_in_month(month, first, latest) {
                 return true;
             }
         }
         false
+    }
+
+    /// Whether a minute of a month does, counted from January of year 0.
+    fn matches_in_month(&self, month: u64, first: u64, latest: u64) -> bool
+        requires low { 23640 ≤ month }
+        requires high { month < 120000 }
+        requires begun { month_start month ≤ latest / 1440 }
+        requires end { latest ≤ 4223371679 }
+        ensures { IsTrue result ↔ HasMinuteIn self.now first latest month }
+    {
+        if !has(self.dates.months.as_slice(), month % 12 + 1) {
+            return false;
+        }
+        self.some_in_month(month_start(month), month_length(month), first, latest)
     }
 
     /// Whether a minute of a month does, which begins on this day and has so many.
@@ -73,20 +93,25 @@ impl Crontab {
         let low = (first / 1440).saturating_sub(base);
         let end = Ord::min(length, latest / 1440 + 1 - base);
         for place in low..end {
-            if self.dates.has_day(base, place) && self.some_on_day(base + place, first, latest) {
+            if self.matches_on_day(base, place, first, latest) {
                 return true;
             }
         }
         false
     }
 
-    /// Whether a minute of a day does.
-    fn some_on_day(&self, day: u64, first: u64, latest: u64) -> bool
-        requires { day * 1440 ≤ latest }
-        ensures { IsTrue result ↔ SomeTime self.now.times (first - day * 1440) (min 1439 (latest - day * 1440)) }
+    /// Whether a minute of a day of a month does.
+    fn matches_on_day(&self, base: u64, place: u64, first: u64, latest: u64) -> bool
+        requires day { (base + place) * 1440 ≤ latest }
+        requires end { latest ≤ 4223371679 }
+        ensures { IsTrue result ↔ HasMinuteOn self.now base first latest place }
     {
-        let low = first.saturating_sub(day * 1440);
-        let high = Ord::min(1439, latest - day * 1440);
+        if !self.dates.has_day(base, place) {
+            return false;
+        }
+        let midnight = (base + place) * 1440;
+        let low = first.saturating_sub(midnight);
+        let high = Ord::min(1439, latest - midnight);
         self.times.some_between(low, high)
     }
 }

@@ -14,15 +14,18 @@ use wire_values::List;
 /// The crontab that five fields spell.
 pub(crate) fn crontab_in(
     alloc: Global,
-    time: (&str, &str),
-    date: (&str, &str, &str),
+    minute: &str,
+    hour: &str,
+    day: &str,
+    month: &str,
+    weekday: &str,
 ) -> Result<Option<Crontab>, AllocError>
-    ensures { IfOk result (λ found. found ≡ crontab_in time.0.now time.1.now date.0.now date.1.now date.2.now) }
+    ensures { IfOk result (λ found. found ≡ crontab_in minute.now hour.now day.now month.now weekday.now) }
 {
-    let Some(times) = times_in(alloc, time.0, time.1)? else {
+    let Some(times) = times_in(alloc, minute, hour)? else {
         return Ok(None);
     };
-    let Some(dates) = dates_in(alloc, date.0, date.1, date.2)? else {
+    let Some(dates) = dates_in(alloc, day, month, weekday)? else {
         return Ok(None);
     };
     Ok(Some(Crontab { times, dates }))

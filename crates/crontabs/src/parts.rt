@@ -1,5 +1,5 @@
 //! The parts of a field, as they are spelled.
-ghost use Rattle.std.specs.Prelude.{◌≡◌, ◌≤◌, IfSome};
+ghost use Rattle.std.specs.Prelude.{◌≡◌};
 ghost use Rattle.crontabs.specs.FieldTexts.{dashed_in, part_in, plain_in, single_in, span_in, step_in, stepped_in};
 
 use crate::steps::Steps;
@@ -26,8 +26,7 @@ fn stepped_in(low: u64, high: u64, span: &str, step: &str) -> Option<Steps>
 
 /// A step.
 fn step_in(word: &str) -> Option<u64>
-    ensures value { result ≡ step_in word.now }
-    ensures counts { IfSome result (λ step. 1 ≤ step) }
+    ensures { result ≡ step_in word.now }
 {
     let step = moment_in(word)?;
     if step >= 1 { Some(step) } else { None }
@@ -35,7 +34,6 @@ fn step_in(word: &str) -> Option<u64>
 
 /// A star or two numbers, in steps.
 fn span_in(low: u64, high: u64, step: u64, span: &str) -> Option<Steps>
-    requires { 1 ≤ step }
     ensures { result ≡ span_in low high step span.now }
 {
     if span == "*" {
@@ -68,7 +66,6 @@ fn plain_in(low: u64, high: u64, part: &str) -> Option<Steps>
 
 /// Two numbers in their order, in steps.
 fn dashed_in(low: u64, high: u64, step: u64, first: &str, last: &str) -> Option<Steps>
-    requires { 1 ≤ step }
     ensures { result ≡ dashed_in low high step first.now last.now }
 {
     let first = number_in(low, high, first)?;

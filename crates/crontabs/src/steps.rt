@@ -1,5 +1,5 @@
 //! Numbers in steps.
-ghost use Rattle.std.specs.Prelude.{◌≡◌, ◌≤◌};
+ghost use Rattle.std.specs.Prelude.{◌≡◌};
 
 /// The numbers from a first to a last, in steps from the first on.
 #[derive(Clone, Copy, Debug, PartialEq, Eq)]
@@ -8,9 +8,8 @@ pub struct Steps {
     pub first: u64,
     /// No number is above this one.
     pub last: u64,
-    /// How far a number is from the one before.
+    /// How far a number is from the one before; with 0 there are no numbers.
     pub step: u64,
-    pub ghost counts: { 1 ≤ step },
 }
 
 impl Steps {
@@ -20,6 +19,9 @@ impl Steps {
     pub(crate) fn has(&self, number: u64) -> bool
         ensures { result ≡ steps_have self.now number }
     {
-        self.first <= number && number <= self.last && (number - self.first) % self.step == 0
+        self.step >= 1
+            && self.first <= number
+            && number <= self.last
+            && (number - self.first) % self.step == 0
     }
 }

@@ -1,5 +1,5 @@
 //! Times of day.
-ghost use Rattle.std.specs.Prelude.{◌≡◌, ◌*◌, ◌-◌, ◌<◌, ◌≤◌, ◌↔◌, IsTrue, min};
+ghost use Rattle.std.specs.Prelude.{◌*◌, ◌<◌, ◌≤◌, ◌↔◌, IsTrue};
 
 use crate::numbers::{has, has_between};
 use crate::steps::Steps;
@@ -15,8 +15,7 @@ pub struct Times {
 }
 
 impl Times {
-    ghost use Rattle.crontabs.specs.Fields.{field_has};
-    ghost use Rattle.crontabs.specs.Found.{SomeBetween, SomeTime};
+    ghost use Rattle.crontabs.specs.Found.{HasTimeIn, SomeTime};
 
     /// Whether there is a minute between these of a day, counted from midnight.
     pub(crate) fn some_between(&self, low: u64, high: u64) -> bool
@@ -24,7 +23,7 @@ impl Times {
         ensures { IsTrue result ↔ SomeTime self.now low high }
     {
         for hour in low / 60..high / 60 + 1 {
-            if has(self.hours.as_slice(), hour) && self.some_in_hour(hour, low, high) {
+            if self.has_in_hour(hour, low, high) {
                 return true;
             }
         }
@@ -32,13 +31,16 @@ impl Times {
     }
 
     /// Whether there is a minute of an hour between these of a day.
-    fn some_in_hour(&self, hour: u64, low: u64, high: u64) -> bool
+    fn has_in_hour(&self, hour: u64, low: u64, high: u64) -> bool
         requires hour { hour * 60 ≤ high }
         requires high { high < 1440 }
-        ensures { IsTrue result ↔ SomeBetween (field_has self.now.minutes) (low - hour * 60) (min 59 (high - hour * 60)) }
+        ensures { IsTrue result ↔ HasTimeIn self.now low high hour }
     {
-        let low = low.saturating_sub(hour * 60);
-        let high = Ord::min(59, high - hour * 60);
-        has_between(self.minutes.as_slice(), low, high)
+        if !has(self.hours.as_slice(), hour) {
+            return false;
+        }
+        let from = low.saturating_sub(hour * 60);
+        let to = Ord::min(59, high - hour * 60);
+        has_between(self.minutes.as_slice(), from, to)
     }
 }

@@ -1,6 +1,7 @@
 //! The list of revoked ids.
-ghost use Rattle.std.specs.Prelude.{◌≡◌, [], IfOk, IsTrue, OnErr, OnOk, length};
-ghost use Rattle.revokes.specs.Revokes.{is_live, is_revoked, live_ids, second_of, with_revoke};
+ghost use Rattle.std.specs.Prelude.{◌≡◌, ◌≤◌, [], IfOk, IsTrue, OnErr, OnOk, length};
+ghost use Rattle.revokes.specs.Kept.{revokes_of};
+ghost use Rattle.revokes.specs.Revokes.{bounded, is_live, is_revoked, live_ids, second_of, with_revoke};
 
 use indexmap::IndexMap;
 use std::alloc::{AllocError, Global};
@@ -51,9 +52,7 @@ impl Revokes {
         let id = id.into_vec(alloc);
         self.kept.shift_remove(id.as_slice());
         self.kept.insert(id, now)?;
-        if self.kept.len() > REVOKE_LIMIT {
-            self.kept.shift_remove_index(0);
-        }
+        bound(&mut self.kept);
         Ok(())
     }
 
@@ -85,6 +84,17 @@ impl Revokes {
         ensures { result ≡ length self.now }
     {
         self.kept.len()
+    }
+}
+
+/// Drops the first revoke where there is one more than are kept.
+fn bound(kept: &mut IndexMap<Vec<u8>, u64>)
+    requires { length kept.old.entries ≤ 50001 }
+    ensures view { revokes_of kept.new.entries ≡ bounded (revokes_of kept.old.entries) }
+    ensures within { length kept.new.entries ≤ 50000 }
+{
+    if kept.len() > REVOKE_LIMIT {
+        kept.shift_remove_index(0);
     }
 }
 
