@@ -1,5 +1,5 @@
 -- When months begin. This serves the proofs of code.
-use Rattle.std.proofs.Common.{◌≡◌, ℕ, zero, suc, inl, inr, ◌+◌, ◌-◌, ◌*◌, ◌/◌, ◌%◌, ◌<◌, ◌≤◌, ◌⊎◌, refl, sym, ap, ◌∙◌, subst, arith, pos, ◌-ℤ◌, true}
+use Rattle.std.proofs.Common.{◌≡◌, ℕ, zero, suc, inl, inr, ◌+◌, ◌-◌, ◌*◌, ◌/◌, ◌%◌, ◌<◌, ◌≤◌, refl, sym, ap, ◌∙◌, subst, arith, pos, ◌-ℤ◌, true}
 use Rattle.std.specs.Prelude.{unsigned_abs}
 use Rattle.std.proofs.lemmas.Bool.{cases_lt}
 use Rattle.std.proofs.lemmas.Bool.Decides.{nat_tests}
@@ -67,7 +67,15 @@ epoch_is : before 23640 ≡ days_to_year 1970
 epoch_is = omega (arith, no_months 1970)
 
 since_epoch : (a b : ℕ) → b ≤ a → unsigned_abs (pos a -ℤ pos b) + b ≡ a
-since_epoch a b h = omega (arith, signed_arith)
+since_epoch a b h =
+    let e : pos a -ℤ pos b ≡ pos (a - b) = omega (arith, signed_arith) in
+    let n : (a - b) + b ≡ a = omega arith in
+    ap (λ z. unsigned_abs z + b) e ∙ n
+
+natural_is : (a b : ℕ) → b ≤ a → pos a -ℤ pos b ≡ pos (unsigned_abs (pos a -ℤ pos b))
+natural_is a b h =
+    let e : pos a -ℤ pos b ≡ pos (a - b) = omega (arith, signed_arith) in
+    e ∙ ap (λ z. pos (unsigned_abs z)) (sym e)
 
 -- a month from 1970 on begins as many days after it
 pub start_is : (m : ℕ) → 23640 ≤ m → month_start m + days_to_year 1970 ≡ before m
@@ -75,6 +83,13 @@ start_is m h =
     let r : m % 12 + 1 - 1 ≡ m % 12 = omega arith in
     let whole : days_to_year (m / 12) + (days_of_first (m / 12) (m % 12 + 1 - 1) + (1 - 1)) ≡ before m = omega (arith, ap (λ z. days_of_first (m / 12) z) r) in
     since_epoch _ (days_to_year 1970) (omega (arith, whole, epoch_is, in_order 23640 m h)) ∙ whole
+
+-- by its day number
+pub number_is : (m : ℕ) → 23640 ≤ m → day_number (m / 12) (m % 12 + 1) 1 ≡ pos (month_start m)
+number_is m h =
+    let r : m % 12 + 1 - 1 ≡ m % 12 = omega arith in
+    let whole : days_to_year (m / 12) + (days_of_first (m / 12) (m % 12 + 1 - 1) + (1 - 1)) ≡ before m = omega (arith, ap (λ z. days_of_first (m / 12) z) r) in
+    natural_is _ (days_to_year 1970) (omega (arith, whole, epoch_is, in_order 23640 m h))
 
 -- ---- minutes
 

@@ -1,18 +1,23 @@
 -- What is found among minutes, level by level. This serves the proofs of code.
-use Rattle.std.proofs.Common.{◌≡◌, ℕ, zero, suc, inl, inr, ◌+◌, ◌-◌, ◌*◌, ◌/◌, ◌%◌, ◌<◌, ◌≤◌, ◌↔◌, Bool, true, false, IsTrue, min, refl, sym, ap, ◌∙◌, subst, arith}
+use Rattle.std.proofs.Common.{◌≡◌, ℕ, inl, inr, ◌+◌, ◌-◌, ◌*◌, ◌/◌, ◌%◌, ◌<◌, ◌≤◌, ◌↔◌, Bool, true, false, IsTrue, min, refl, sym, ap, ◌∙◌, subst, arith}
 use Rattle.std.proofs.lemmas.Bool.{cases_lt}
-use Rattle.crontabs.specs.Crontabs.{IsCronDue, IsDueBy, Matches}
+use Rattle.std.proofs.lemmas.Bool.Decides.{nat_tests}
+use Rattle.std.specs.Ordering.{nat_cmp, ord_min}
+use Rattle.crontabs.specs.Crontabs.{IsCronDue}
 use Rattle.crontabs.specs.Fields.{field_has}
-use Rattle.crontabs.specs.Found.{HasDay, HasMinuteIn, HasMinuteOn, HasTimeIn, IsMinuteWithin, IsOnDay, IsTimeWithin, SomeBetween, SomeDay, SomeMinute, SomeTime}
-use Rattle.crontabs.specs.Minutes.{Minute, day_of, is_minute, number_of, weekday_of}
+use Rattle.crontabs.specs.Found.{HasDay, HasMinuteIn, HasMinuteOn, HasTimeIn, SomeBetween, SomeDay, SomeMinute, SomeTime}
+use Rattle.crontabs.specs.Minutes.{Minute, day_of, number_of}
 use Rattle.crontabs.specs.Months.{month_length, month_start}
 use Rattle.crontabs.specs.declared.crontab.Crontab.{Crontab}
-use Rattle.crontabs.specs.declared.dates.Dates.{Dates}
 use Rattle.crontabs.specs.declared.times.Times.{Times}
-use Rattle.crontabs.proofs.MonthStarts.{IsReal, day_bound, day_in_month, day_is, is_real, month_high, month_in_year, month_low, month_of, real_is, starts_apart, starts_in_order}
+use Rattle.crontabs.proofs.MonthStarts.{IsReal, day_bound, day_in_month, day_is, is_real, month_in_year, month_low, month_of, real_is, starts_apart}
 
-clash : {A : Type 0} → false ≡ true → A
+pub clash : {A : Type 0} → false ≡ true → A
 clash e = cc
+
+-- the lesser of two numbers
+pub lesser : (a b : ℕ) → ord_min nat_cmp a b ≡ min a b
+lesser a b = grind (arith, nat_tests)
 
 -- what is found is there
 pub found : {P : Type 0} → P → IsTrue true ↔ P
@@ -21,6 +26,17 @@ found p = (λ _. p, λ _. refl)
 -- where nothing is, nothing is found
 pub missed : {P : Type 0} → (P → false ≡ true) → IsTrue false ↔ P
 missed none = (λ e. clash e, none)
+
+pub nowhere : {P : Type 0} → (P → ⊥) → IsTrue false ↔ P
+nowhere none = missed (λ p. absurd (none p))
+
+-- what is found at none of the first is found at none of one more
+pub more_missed : (P : ℕ → Type 0) (i : ℕ) (r : Bool) → ((k : ℕ) → k < i → P k → ⊥) → (IsTrue r ↔ P i) → r ≡ false → (k : ℕ) → k < i + 1 → P k → ⊥
+more_missed P i r none is out k h p =
+    elim (cases_lt k i) [
+      | inl before ↦ none k before p
+      | inr since ↦ let e : k ≡ i = omega arith in clash (sym out ∙ is.1 (subst P e p))
+    ]
 
 -- ---- minutes of an hour
 
@@ -66,13 +82,16 @@ day_found c base first last place here begun r is = (
   λ e.
       let w = is.0 e in
       let from : first - (base + place) * 1440 ≤ w.0 * 60 + w.1.0 = w.1.1.from in
-      let to : w.0 * 60 + w.1.0 ≤ min 1439 (last - (base + place) * 1440) = w.1.1.to in
-      (w.0, w.1.0, record {
-        day = here;
-        time = record { hour_in = w.1.1.hour_in; minute_in = w.1.1.minute_in; short = w.1.1.short; from = omega arith; to = omega arith };
-        from = omega arith;
-        to = omega arith;
-      }),
+      let to : w.0 * 60 + w.1.0 ≤ min 1439 (last - (base + place) * 1440) = w.1.1.to in (
+        w.0,
+        w.1.0,
+        record {
+          day = here;
+          time = record { hour_in = w.1.1.hour_in; minute_in = w.1.1.minute_in; short = w.1.1.short; from = omega arith; to = omega arith };
+          from = omega arith;
+          to = omega arith;
+        },
+      ),
   λ w.
       let from : first ≤ (base + place) * 1440 + (w.0 * 60 + w.1) = w.2.from in
       let to : (base + place) * 1440 + (w.0 * 60 + w.1) ≤ last = w.2.to in
@@ -128,19 +147,22 @@ month_found c first last month low high here r is = (
       let same : month_of m ≡ month = omega arith in
       let day : day_of m ≡ month_start month + place = day_is m real ∙ ap (λ z. month_start z + (place + 1 - 1)) same ∙ omega arith in
       let from : first ≤ (month_start month + place) * 1440 + (hour * 60 + minute) = on.from in
-      let to : (month_start month + place) * 1440 + (hour * 60 + minute) ≤ last = on.to in
-      (m, record {
-        real = is_real m real;
-        matches = record {
-          minute = on.time.minute_in;
-          hour = on.time.hour_in;
-          day = on.day.day_in;
-          month = here;
-          weekday = ap (λ z. field_has c.dates.weekdays ((z + 4) % 7)) day ∙ on.day.weekday_in;
-        };
-        from = subst (λ z. first ≤ z * 1440 + (hour * 60 + minute)) (sym day) from;
-        to = subst (λ z. z * 1440 + (hour * 60 + minute) ≤ last) (sym day) to;
-      }, same)
+      let to : (month_start month + place) * 1440 + (hour * 60 + minute) ≤ last = on.to in (
+        m,
+        record {
+          real = is_real m real;
+          matches = record {
+            minute = on.time.minute_in;
+            hour = on.time.hour_in;
+            day = on.day.day_in;
+            month = here;
+            weekday = ap (λ z. field_has c.dates.weekdays ((z + 4) % 7)) day ∙ on.day.weekday_in;
+          };
+          from = subst (λ z. first ≤ z * 1440 + (hour * 60 + minute)) (sym day) from;
+          to = subst (λ z. z * 1440 + (hour * 60 + minute) ≤ last) (sym day) to;
+        },
+        same,
+      )
 
   told : HasMinuteIn c first last month → SomeDay c (month_start month) (month_length month) first last
   told w =
@@ -149,16 +171,23 @@ month_found c first last month low high here r is = (
       let day : day_of m ≡ month_start month + (m.day - 1) = day_is m real ∙ ap (λ z. month_start z + (m.day - 1)) w.2 in
       let place : m.day - 1 + 1 ≡ m.day = omega (arith, real.day_low) in
       let from : first ≤ day_of m * 1440 + (m.hour * 60 + m.minute) = w.1.from in
-      let to : day_of m * 1440 + (m.hour * 60 + m.minute) ≤ last = w.1.to in
-      (m.day - 1, subst (λ z. m.day - 1 < month_length z) w.2 (day_in_month m real), (m.hour, m.minute, record {
-        day = record {
-          day_in = ap (field_has c.dates.days) place ∙ w.1.matches.day;
-          weekday_in = ap (λ z. field_has c.dates.weekdays ((z + 4) % 7)) (sym day) ∙ w.1.matches.weekday;
-        };
-        time = record { hour_in = w.1.matches.hour; minute_in = w.1.matches.minute; short = real.minute_in; from = omega arith; to = omega (arith, real.hour_in, real.minute_in) };
-        from = subst (λ z. first ≤ z * 1440 + (m.hour * 60 + m.minute)) day from;
-        to = subst (λ z. z * 1440 + (m.hour * 60 + m.minute) ≤ last) day to;
-      }))
+      let to : day_of m * 1440 + (m.hour * 60 + m.minute) ≤ last = w.1.to in (
+        m.day - 1,
+        subst (λ z. m.day - 1 < month_length z) w.2 (day_in_month m real),
+        (
+          m.hour,
+          m.minute,
+          record {
+            day = record {
+              day_in = ap (field_has c.dates.days) place ∙ w.1.matches.day;
+              weekday_in = ap (λ z. field_has c.dates.weekdays ((z + 4) % 7)) (sym day) ∙ w.1.matches.weekday;
+            };
+            time = record { hour_in = w.1.matches.hour; minute_in = w.1.matches.minute; short = real.minute_in; from = omega arith; to = omega (arith, real.hour_in, real.minute_in) };
+            from = subst (λ z. first ≤ z * 1440 + (m.hour * 60 + m.minute)) day from;
+            to = subst (λ z. z * 1440 + (m.hour * 60 + m.minute) ≤ last) day to;
+          },
+        ),
+      )
 
 pub month_out : (c : Crontab) (first last month : ℕ) → field_has c.dates.months (month % 12 + 1) ≡ false → IsTrue false ↔ HasMinuteIn c first last month
 month_out c first last month out =

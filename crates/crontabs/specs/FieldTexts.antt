@@ -1,5 +1,5 @@
 -- How the fields of a crontab are spelled.
-use Rattle.std.specs.Prelude.{ℕ, ◌==◌, Bool, nat_le, bytes_eq, codes, if◌then◌else◌, List, [], ◌∷◌, Option, Some, None, option_map, option_and_then}
+use Rattle.std.specs.Prelude.{ℕ, ◌==◌, nat_le, bytes_eq, codes, if◌then◌else◌, List, [], ◌∷◌, Option, Some, None, option_map, option_and_then}
 use Rattle.std.specs.List.{list_any, before_first, after_first, slice_split}
 use Rattle.line_text.specs.Numbers.{number_in, moment_in}
 use Rattle.crontabs.specs.declared.crontab.Crontab.{Crontab}

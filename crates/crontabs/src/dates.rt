@@ -27,6 +27,7 @@ impl Dates {
         ensures { IsTrue result ↔ HasDay self.now base place }
     {
         // 1 January 1970 was a Thursday.
-        has(self.days.as_slice(), place + 1) && has(self.weekdays.as_slice(), (base + place + 4) % 7)
+        has(self.days.as_slice(), place + 1)
+            && has(self.weekdays.as_slice(), (base + place + 4) % 7)
     }
 }
