@@ -1,0 +1,6 @@
+mod Fresh
+mod Heard
+mod Kept
+mod Placed
+mod Places
+mod Went

@@ -1,0 +1,2 @@
+pub mod LocalLinks
+pub mod LocalTalks
