@@ -41,7 +41,10 @@ fn rows() -> &'static [(
 fn fields_are_read_as_listed(rt: HostRuntime) -> Result<(), Fail> {
     for (minute, hour, day, month, weekday, is_one) in rows() {
         let read = Crontab::read(rt.alloc(), minute, hour, day, month, weekday)?;
-        assert!(rt; read.is_some() == *is_one, "{minute} {hour} {day} {month} {weekday}");
+        assert!(rt;
+            read.is_some() == *is_one,
+            "{minute} {hour} {day} {month} {weekday}"
+        );
     }
     Ok(())
 }

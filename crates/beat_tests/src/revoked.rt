@@ -15,11 +15,26 @@ fn the_first_of_50001_is_dropped(rt: HostRuntime) -> Result<(), Fail> {
     for number in 0..REVOKE_LIMIT as u32 + 1 {
         revokes.add(rt.alloc(), id_of(rt.alloc(), number)?, 0)?;
     }
-    assert!(rt; !revokes.has(id_of(rt.alloc(), 0)?.as_slice(), 0), "the first is gone");
-    assert!(rt; revokes.has(id_of(rt.alloc(), 1)?.as_slice(), 10799), "the second is live");
-    assert!(rt; !revokes.has(id_of(rt.alloc(), 1)?.as_slice(), 10800), "and then no more");
-    assert!(rt; revokes.live(rt.alloc(), 0)?.as_slice().len() == 50000, "all are live");
-    assert!(rt; revokes.live(rt.alloc(), 10800)?.as_slice().is_empty(), "none is live");
+    assert!(rt;
+        !revokes.has(id_of(rt.alloc(), 0)?.as_slice(), 0),
+        "the first is gone"
+    );
+    assert!(rt;
+        revokes.has(id_of(rt.alloc(), 1)?.as_slice(), 10799),
+        "the second is live"
+    );
+    assert!(rt;
+        !revokes.has(id_of(rt.alloc(), 1)?.as_slice(), 10800),
+        "and then no more"
+    );
+    assert!(rt;
+        revokes.live(rt.alloc(), 0)?.as_slice().len() == 50000,
+        "all are live"
+    );
+    assert!(rt;
+        revokes.live(rt.alloc(), 10800)?.as_slice().is_empty(),
+        "none is live"
+    );
     Ok(())
 }
 

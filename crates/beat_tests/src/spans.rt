@@ -42,7 +42,12 @@ fn rows() -> &'static [(&'static str, u64, u64, bool)] {
         ("59 23 31 12 *", 253402300739, 253402300740, true),
         ("* * * * *", 253402300740, 18446744073709551615, false),
         ("* * * * *", 253402300739, 18446744073709551615, true),
-        ("* * * * *", 18446744073709551615, 18446744073709551615, false),
+        (
+            "* * * * *",
+            18446744073709551615,
+            18446744073709551615,
+            false,
+        ),
     ]
 }
 
@@ -61,7 +66,10 @@ fn crontab(alloc: Global, fields: &str) -> Result<Option<Crontab>, AllocError> {
 fn crontabs_are_due_as_listed(rt: HostRuntime) -> Result<(), Fail> {
     for (fields, last, now, is_due) in rows() {
         let read = crontab(rt.alloc(), fields)?.ok_or("no crontab")?;
-        assert!(rt; read.is_due(*last, *now) == *is_due, "{fields} {last} {now}");
+        assert!(rt;
+            read.is_due(*last, *now) == *is_due,
+            "{fields} {last} {now}"
+        );
     }
     Ok(())
 }

@@ -43,7 +43,10 @@ fn there_is_room_for_65535(rt: HostRuntime) -> Result<(), Fail> {
         timers.add(number, Moment(7))?;
     }
     assert!(rt; !timers.has(70000), "a new number");
-    assert!(rt; timers.add(70000, Moment(1)) == Err(TimerFault::Full), "full");
+    assert!(rt;
+        timers.add(70000, Moment(1)) == Err(TimerFault::Full),
+        "full"
+    );
     assert!(rt; timers.remove(0), "0 was there");
     assert!(rt; !timers.remove(0), "0 is gone");
     assert!(rt; !timers.has(70000), "a new number");

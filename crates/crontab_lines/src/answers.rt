@@ -29,7 +29,11 @@ fn span(alloc: Global, last: u64, now: u64, fields: &[&str]) -> Result<&'static 
 /// The answer of what was read.
 fn told(read: Option<Crontab>, last: u64, now: u64) -> &'static str {
     match read {
-        Some(crontab) => if crontab.is_due(last, now) { "due" } else { "idle" },
+        Some(crontab) => if crontab.is_due(last, now) {
+            "due"
+        } else {
+            "idle"
+        },
         None => "bad",
     }
 }
