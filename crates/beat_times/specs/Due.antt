@@ -8,7 +8,7 @@ use Rattle.beat_times.specs.declared.timed.Timing.TheVariants.{Every, Cron}
 -- a timing is due at a moment, after a last one
 abbrev pub IsTimingDue : Timing → ℕ → ℕ → Type 0
 IsTimingDue (Every seconds) last now = last + seconds ≤ now
-IsTimingDue (Cron crontab) last now = IsCronDue crontab last now
+IsTimingDue (Cron crontab) last now = IsCronDue crontab.value last now
 
 -- an entry is due
 abbrev pub IsDue : Timed → ℕ → Type 0
