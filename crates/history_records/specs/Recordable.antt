@@ -25,14 +25,22 @@ abbrev pub is_integer : ℤ → Bool
 is_integer (pos n) = nat_lt n (2 ^ 63)
 is_integer (negsuc n) = nat_lt n (2 ^ 63)
 
-abbrev pub integers_step : Value-F Bool → Bool
-integers_step (Value-F.Integer z) = is_integer z
-integers_step (Value-F.Array items) = list_all (λ b. b) items
-integers_step other = true
+-- bytes of 8 bits
+abbrev pub are_bytes : List ℕ → Bool
+are_bytes bytes = list_all (λ b. nat_lt b 256) bytes
 
--- whether each integer in a value has 64 bits
-abbrev pub has_integers : Value → Bool
-has_integers = fold-Value Bool integers_step
+abbrev pub typed_step : Value-F Bool → Bool
+typed_step (Value-F.Status t) = are_bytes t
+typed_step (Value-F.Error t) = are_bytes t
+typed_step (Value-F.Integer z) = is_integer z
+typed_step (Value-F.Bulk t) = are_bytes t
+typed_step Value-F.NullBulk = true
+typed_step (Value-F.Array items) = list_all (λ b. b) items
+typed_step Value-F.NullArray = true
+
+-- whether each byte in a value has 8 bits, and each integer 64
+abbrev pub is_typed : Value → Bool
+is_typed = fold-Value Bool typed_step
 
 -- the greatest of numbers
 abbrev pub greatest : List ℕ → ℕ
@@ -53,8 +61,8 @@ abbrev pub IsTag : Tag → Type 0
 IsTag t = t.0 < 2 ^ 128
 
 abbrev pub IsOutcome : Outcome → Type 0
-IsOutcome (Success text) = Unit {0}
-IsOutcome (Failure text) = Unit {0}
+IsOutcome (Success text) = are_bytes text ≡ true
+IsOutcome (Failure text) = are_bytes text ≡ true
 IsOutcome (Retry seconds) = seconds < 2 ^ 64
 
 abbrev pub IsNote : Heard → Type 0
@@ -67,10 +75,10 @@ IsNote (Held t eta) = IsTag t × (is_integer eta ≡ true)
 IsNote Unreadable = Unit {0}
 
 abbrev pub IsReply : Reply → Type 0
-IsReply r = (list_all has_integers r.pushed ≡ true) × (has_integers r.answer ≡ true)
+IsReply r = (list_all is_typed r.pushed ≡ true) × (is_typed r.answer ≡ true)
 
 abbrev pub IsEvent : Entry Heard → Type 0
-IsEvent (Call c at words reply) = (c < 2 ^ 32) × (at < 2 ^ 64) × IsReply reply
+IsEvent (Call c at words reply) = (c < 2 ^ 32) × (at < 2 ^ 64) × (list_all are_bytes words ≡ true) × IsReply reply
 IsEvent (Noted c note) = (c < 2 ^ 32) × IsNote note
 IsEvent (Stop c) = c < 2 ^ 32
 

@@ -7,7 +7,7 @@ use Rattle.wire_values.specs.declared.value.Value.{Value}
 use Rattle.store_model.specs.declared.reply.Reply.{Reply}
 use Rattle.line_text.specs.Forms.{quoted, value_form, words_text}
 use Rattle.history_records.specs.Lines.{pushed_text, reply_text}
-use Rattle.history_records.specs.Recordable.{has_integers, IsReply}
+use Rattle.history_records.specs.Recordable.{is_typed, IsReply}
 use Rattle.record_laws.proofs.Apart.{heads, tails}
 use Rattle.record_laws.proofs.Digits.{no_digit}
 use Rattle.record_laws.proofs.Quotes.{quoted_apart}
@@ -57,7 +57,7 @@ reply_on vs a r = pushed_text vs ++ (value_form a ++ r)
 pub reply_on-more : (v : Value) (vs : List Value) (a : Value) (r : List ℕ) → reply_on (v ∷ vs) a r ≡ value_form v ++ 32 ∷ 59 ∷ 32 ∷ reply_on vs a r
 reply_on-more v vs a r = append_assoc (value_form v ++ codes " ; ") (pushed_text vs) (value_form a ++ r) ∙ append_assoc (value_form v) (codes " ; ") (reply_on vs a r)
 
-pub reply_on_apart : (vs ws : List Value) (a b : Value) (r s : List ℕ) → list_all has_integers vs ≡ true → list_all has_integers ws ≡ true → has_integers a ≡ true → has_integers b ≡ true → is_end r ≡ true → is_end s ≡ true → reply_on vs a r ≡ reply_on ws b s → (vs ≡ ws) × (a ≡ b) × (r ≡ s)
+pub reply_on_apart : (vs ws : List Value) (a b : Value) (r s : List ℕ) → list_all is_typed vs ≡ true → list_all is_typed ws ≡ true → is_typed a ≡ true → is_typed b ≡ true → is_end r ≡ true → is_end s ≡ true → reply_on vs a r ≡ reply_on ws b s → (vs ≡ ws) × (a ≡ b) × (r ≡ s)
 reply_on_apart [] [] a b r s f g h i j k e = let t = value_apart a b r s h i (end_digit r j) (end_digit s k) e in (refl, t.0, t.1)
 reply_on_apart [] (w ∷ ws) a b r s f g h i j k e =
     let t = value_apart a w r _ h (both _ _ g).0 (end_digit r j) refl (e ∙ reply_on-more w ws b s) in

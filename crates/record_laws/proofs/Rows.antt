@@ -62,7 +62,7 @@ call_apart at at' c c' words words' reply reply' r s a b j k e =
     let g = decimal_apart at at' _ _ a.1 b.1 refl refl f in
     let h = decimal_apart c c' _ _ (wide c a.0) (wide c' b.0) refl refl (tails 32 32 _ _ g.1) in
     let w = words_apart words words' (after_words reply r) (after_words reply' s) (tails 32 32 _ _ h.1) in
-    let t = reply_apart reply reply' r s a.2 b.2 j k (tails 32 32 _ _ w.1) in
+    let t = reply_apart reply reply' r s a.3 b.3 j k (tails 32 32 _ _ w.1) in
     ((λ i. Event (Call (h.0 i) (g.0 i) (w.0 i) (t.0 i))), t.1)
 
 client_on : (c s : ℕ) (r : List ℕ) → (decimal c ++ (codes " seed " ++ decimal s)) ++ r ≡ decimal c ++ (codes " seed " ++ (decimal s ++ r))

@@ -8,7 +8,7 @@ use Rattle.wire_values.specs.declared.value.Value.TheFolds.{fold-roll-Value}
 use Rattle.wire_values.specs.declared.value.Value.TheOpen.{Value-F}
 use Rattle.wire_values.specs.declared.value.Value.TheVariants.{Status, Error, Integer, Bulk, NullBulk, Array, NullArray, rolls-Integer, rolls-Array}
 use Rattle.line_text.specs.Forms.{quoted, commas, value_form}
-use Rattle.history_records.specs.Recordable.{is_integer, has_integers, integers_step, depth, depth_step, greatest}
+use Rattle.history_records.specs.Recordable.{is_integer, is_typed, typed_step, depth, depth_step, greatest}
 use Rattle.record_laws.proofs.Apart.{heads, tails}
 use Rattle.record_laws.proofs.Digits.{no_digit, signed_apart}
 use Rattle.record_laws.proofs.Kinds.{Kind, A_status, An_error, An_integer, A_bulk, A_null, An_array, A_null_array, Shown, Seen, seen, text_kind, items_text}
@@ -16,11 +16,11 @@ use Rattle.record_laws.proofs.Quotes.{quoted_apart}
 
 -- ---- folds
 
-integers-integer : (z : ℤ) → has_integers (Integer z) ≡ is_integer z
-integers-integer z = ap has_integers (sym (rolls-Integer z)) ∙ fold-roll-Value Bool integers_step (Value-F.Integer z)
+typed-integer : (z : ℤ) → is_typed (Integer z) ≡ is_integer z
+typed-integer z = ap is_typed (sym (rolls-Integer z)) ∙ fold-roll-Value Bool typed_step (Value-F.Integer z)
 
-integers-array : (items : List Value) → has_integers (Array items) ≡ list_all (λ b. b) (map has_integers items)
-integers-array items = ap has_integers (sym (rolls-Array items)) ∙ fold-roll-Value Bool integers_step (Value-F.Array items)
+typed-array : (items : List Value) → is_typed (Array items) ≡ list_all (λ b. b) (map is_typed items)
+typed-array items = ap is_typed (sym (rolls-Array items)) ∙ fold-roll-Value Bool typed_step (Value-F.Array items)
 
 depth-array : (items : List Value) → depth (Array items) ≡ suc (greatest (map depth items))
 depth-array items = ap depth (sym (rolls-Array items)) ∙ fold-roll-Value ℕ depth_step (Value-F.Array items)
@@ -30,13 +30,13 @@ depth-array items = ap depth (sym (rolls-Array items)) ∙ fold-roll-Value ℕ d
 -- the values are nested at most so deep, and their integers have 64 bits
 abbrev pub AreWithin : ℕ → List Value → Type 0
 AreWithin n [] = Unit {0}
-AreWithin n (v ∷ vs) = (depth v ≤ n) × (has_integers v ≡ true) × AreWithin n vs
+AreWithin n (v ∷ vs) = (depth v ≤ n) × (is_typed v ≡ true) × AreWithin n vs
 
 both : (a b : Bool) → (a && b) ≡ true → (a ≡ true) × (b ≡ true)
 both true b e = (refl, e)
 both false b e = cc
 
-within : (n : ℕ) (items : List Value) → greatest (map depth items) ≤ n → list_all (λ b. b) (map has_integers items) ≡ true → AreWithin n items
+within : (n : ℕ) (items : List Value) → greatest (map depth items) ≤ n → list_all (λ b. b) (map is_typed items) ≡ true → AreWithin n items
 within n [] d h = tt
 within n (v ∷ vs) d h =
     let g = both _ _ h in
@@ -44,10 +44,10 @@ within n (v ∷ vs) d h =
 
 -- what is known of values that are nested at most so deep
 abbrev pub Tell : ℕ → Type 0
-Tell n = (v w : Value) (r s : List ℕ) → depth v ≤ n → depth w ≤ n → has_integers v ≡ true → has_integers w ≡ true → no_digit r ≡ true → no_digit s ≡ true → value_form v ++ r ≡ value_form w ++ s → (v ≡ w) × (r ≡ s)
+Tell n = (v w : Value) (r s : List ℕ) → depth v ≤ n → depth w ≤ n → is_typed v ≡ true → is_typed w ≡ true → no_digit r ≡ true → no_digit s ≡ true → value_form v ++ r ≡ value_form w ++ s → (v ≡ w) × (r ≡ s)
 
 abbrev TellItems : ℕ → Type 0
-TellItems n = (xs ys : List Value) (r s : List ℕ) → depth (Array xs) ≤ n → depth (Array ys) ≤ n → has_integers (Array xs) ≡ true → has_integers (Array ys) ≡ true → items_text xs ++ r ≡ items_text ys ++ s → (xs ≡ ys) × (r ≡ s)
+TellItems n = (xs ys : List Value) (r s : List ℕ) → depth (Array xs) ≤ n → depth (Array ys) ≤ n → is_typed (Array xs) ≡ true → is_typed (Array ys) ≡ true → items_text xs ++ r ≡ items_text ys ++ s → (xs ≡ ys) × (r ≡ s)
 
 -- what follows an item
 abbrev after_item : List Value → List ℕ → List ℕ
@@ -110,8 +110,8 @@ values_apart n items v w r s p q a b c d e = by (seen v).kind (seen v).shown (su
       let h = quoted_apart x.0 y.0 r s (tails 45 45 _ _ (ap (λ t. t ++ r) (sym x.2) ∙ e ∙ ap (λ t. t ++ s) y.2)) in
       (x.1 ∙ ap (λ (t : List ℕ). Error t) h.0 ∙ sym y.1, h.1)
   by An_integer x y =
-      let f = sym (ap has_integers x.1 ∙ integers-integer x.0) ∙ a in
-      let g = sym (ap has_integers y.1 ∙ integers-integer y.0) ∙ b in
+      let f = sym (ap is_typed x.1 ∙ typed-integer x.0) ∙ a in
+      let g = sym (ap is_typed y.1 ∙ typed-integer y.0) ∙ b in
       let h = signed_apart x.0 y.0 r s f g c d (tails 58 58 _ _ (ap (λ t. t ++ r) (sym x.2) ∙ e ∙ ap (λ t. t ++ s) y.2)) in
       (x.1 ∙ ap (λ (z : ℤ). Integer z) h.0 ∙ sym y.1, h.1)
   by A_bulk x y =
@@ -122,7 +122,7 @@ values_apart n items v w r s p q a b c d e = by (seen v).kind (seen v).shown (su
       (x.0 ∙ sym y.0, h)
   by An_array x y =
       let f = tails 91 91 _ _ (tails 42 42 _ _ (ap (λ t. t ++ r) (sym x.2) ∙ e ∙ ap (λ t. t ++ s) y.2)) in
-      let h = items x.0 y.0 r s (subst (λ u. depth u ≤ n) x.1 p) (subst (λ u. depth u ≤ n) y.1 q) (sym (ap has_integers x.1) ∙ a) (sym (ap has_integers y.1) ∙ b) f in
+      let h = items x.0 y.0 r s (subst (λ u. depth u ≤ n) x.1 p) (subst (λ u. depth u ≤ n) y.1 q) (sym (ap is_typed x.1) ∙ a) (sym (ap is_typed y.1) ∙ b) f in
       (x.1 ∙ ap (λ (vs : List Value). Array vs) h.0 ∙ sym y.1, h.1)
   by A_null_array x y =
       let h = tails 45 45 _ _ (tails 42 42 _ _ (ap (λ t. t ++ r) (sym x.1) ∙ e ∙ ap (λ t. t ++ s) y.1)) in
@@ -131,12 +131,12 @@ values_apart n items v w r s p q a b c d e = by (seen v).kind (seen v).shown (su
 too_deep : (items : List Value) → depth (Array items) ≤ 0 → ⊥
 too_deep items d = let h = depth-array items in omega (arith, d, h)
 
-less_deep : (n : ℕ) (items : List Value) → depth (Array items) ≤ suc n → has_integers (Array items) ≡ true → AreWithin n items
-less_deep n items d h = let e = depth-array items in within n items (omega (arith, d, e)) (sym (integers-array items) ∙ h)
+less_deep : (n : ℕ) (items : List Value) → depth (Array items) ≤ suc n → is_typed (Array items) ≡ true → AreWithin n items
+less_deep n items d h = let e = depth-array items in within n items (omega (arith, d, e)) (sym (typed-array items) ∙ h)
 
 pub tell : (n : ℕ) → Tell n
 tell zero = values_apart zero (λ xs ys r s p q a b e. absurd (too_deep xs p))
 tell (suc n) = values_apart (suc n) (λ xs ys r s p q a b e. listed_apart n (tell n) xs ys r s (less_deep n xs p a) (less_deep n ys q b) e)
 
-pub value_apart : (v w : Value) (r s : List ℕ) → has_integers v ≡ true → has_integers w ≡ true → no_digit r ≡ true → no_digit s ≡ true → value_form v ++ r ≡ value_form w ++ s → (v ≡ w) × (r ≡ s)
+pub value_apart : (v w : Value) (r s : List ℕ) → is_typed v ≡ true → is_typed w ≡ true → no_digit r ≡ true → no_digit s ≡ true → value_form v ++ r ≡ value_form w ++ s → (v ≡ w) × (r ≡ s)
 value_apart v w r s a b c d e = tell (max (depth v) (depth w)) v w r s (omega arith) (omega arith) a b c d e
