@@ -1,0 +1,2 @@
+//! What a record determines: a history, its first bad line, or a history that was full: definitions.
+#![tactic(auto)]
