@@ -1,12 +1,11 @@
 //! The lines of clients, by their connections.
 //!
 //! Each call appends to a vector. Where memory ends amid a text, a part of it may have been appended.
-ghost use Rattle.std.specs.BTreeMap.{IsOrdered};
-ghost use Rattle.std.specs.FinMap.{entries, from_entries};
-ghost use Rattle.std.specs.Ordering.{nat_cmp};
-ghost use Rattle.std.specs.Prelude.{◌≡◌, ◌++◌, ◌∷◌, [], IfOk, OnOk, map};
+ghost use Rattle.std.specs.FinMap.{entries};
+ghost use Rattle.std.specs.List.{flat_map};
+ghost use Rattle.std.specs.Prelude.{◌≡◌, ◌++◌, ◌∷◌, [], IfOk, OnOk};
 ghost use Rattle.history_records.specs.Lines.{client_line};
-ghost use Rattle.history_records.specs.Records.{ended, seed_map};
+ghost use Rattle.history_records.specs.Records.{seed_map};
 
 use std::alloc::{AllocError, Global};
 use std::collections::BTreeMap;
@@ -18,7 +17,7 @@ pub(crate) fn client_rows(
     clients: &[(u32, u64)],
 ) -> Result<(), AllocError>
     ensures { OnOk result (out.new.items
-        ≡ out.old.items ++ ended (map client_line (entries (seed_map clients.now)))) }
+        ≡ out.old.items ++ flat_map (λ c. client_line c ++ 10 ∷ []) (entries (seed_map clients.now))) }
 {
     let seeds = seeds_by_connection(alloc, clients)?;
     seed_rows(alloc, out, &seeds)
@@ -33,7 +32,7 @@ fn seeds_by_connection(
 {
     let mut seeds = BTreeMap::new(alloc);
     let mut left = clients.len();
-    while left > 0 {
+    'seeds: while left > 0 {
         left -= 1;
         let (connection, seed) = clients[left];
         let _ = seeds.insert(connection, seed)?;
@@ -48,7 +47,7 @@ fn seed_rows(
     seeds: &BTreeMap<u32, u64>,
 ) -> Result<(), AllocError>
     ensures { OnOk result (out.new.items
-        ≡ out.old.items ++ ended (map client_line seeds.now.entries)) }
+        ≡ out.old.items ++ flat_map (λ c. client_line c ++ 10 ∷ []) seeds.now.entries) }
 {
     for (connection, seed) in seeds.iter() {
         client_row(alloc, out, *connection, *seed)?;
@@ -63,7 +62,7 @@ fn client_row(
     connection: u32,
     seed: u64,
 ) -> Result<(), AllocError>
-    ensures { OnOk result (out.new.items ≡ out.old.items ++ ended (client_line (connection, seed) ∷ [])) }
+    ensures { OnOk result (out.new.items ≡ out.old.items ++ (client_line (connection, seed) ++ 10 ∷ [])) }
 {
     let text = format!(in alloc; "client {connection} seed {seed}\n")?;
     out.extend_from_slice(text.as_bytes())?;

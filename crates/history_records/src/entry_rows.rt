@@ -1,9 +1,9 @@
 //! The lines of entries.
 //!
 //! Each call appends to a vector. Where memory ends amid a text, a part of it may have been appended.
-ghost use Rattle.std.specs.Prelude.{◌≡◌, ◌++◌, ◌∷◌, [], OnOk, map};
+ghost use Rattle.std.specs.List.{flat_map};
+ghost use Rattle.std.specs.Prelude.{◌≡◌, ◌++◌, ◌∷◌, [], OnOk};
 ghost use Rattle.history_records.specs.Lines.{call_line, entry_line, pushed_text, reply_text};
-ghost use Rattle.history_records.specs.Records.{ended};
 
 use crate::note_rows::note;
 use line_text::{quoted_words, value_form};
@@ -18,7 +18,7 @@ pub(crate) fn entry_rows(
     out: &mut Vec<u8>,
     entries: &[Entry<Heard>],
 ) -> Result<(), AllocError>
-    ensures { OnOk result (out.new.items ≡ out.old.items ++ ended (map entry_line entries.now)) }
+    ensures { OnOk result (out.new.items ≡ out.old.items ++ flat_map (λ e. entry_line e ++ 10 ∷ []) entries.now) }
 {
     for entry in entries {
         entry_row(alloc, out, entry)?;

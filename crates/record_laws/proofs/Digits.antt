@@ -56,7 +56,7 @@ unfolding is_minus
 digit_no_minus n r h = by (decimal n) (decimal_digits n h) (decimal_nonempty n h) where
   by : (ds : List ℕ) → list_all is_ascii_digit ds ≡ true → 0 < length ds → is_minus (ds ++ r) ≡ false
   by [] a some = absurd (omega arith)
-  by (d ∷ ds) a some = let is = (both _ _ a).0 in grind (arith, nat_tests, is)
+  by (d ∷ ds) a some = let is : is_ascii_digit d ≡ true = (both _ _ a).0 in grind (arith, nat_tests, is)
 
 minus_clash : (b : Bool) → b ≡ false → b ≡ true → ⊥
 minus_clash true e f = cc

@@ -1,6 +1,6 @@
 pub mod Apart
 pub mod Digits
-pub mod Kinds
+pub mod ValueKinds
 pub mod Notes
 pub mod Quotes
 pub mod Replies

@@ -66,9 +66,9 @@ ending_told (Failure text) r = refl
 ending_told (Retry seconds) r = refl
 
 pub outcome_apart : (o p : Outcome) (r s : List ℕ) → IsOutcome o → IsOutcome p → is_end r ≡ true → is_end s ≡ true → outcome_text o ++ r ≡ outcome_text p ++ s → (o ≡ p) × (r ≡ s)
+unfolding ending_of
 outcome_apart o p r s a b c d e = by o p a b e (sym (ending_told o r) ∙ ap first_ending e ∙ ending_told p s) where
   by : (o p : Outcome) → IsOutcome o → IsOutcome p → outcome_text o ++ r ≡ outcome_text p ++ s → ending_of o ≡ ending_of p → (o ≡ p) × (r ≡ s)
-  unfolding ending_of
   by (Success t) (Success u) a b e k = let h = quoted_apart t u r s (after (codes "success ") (quoted t) (quoted u) e) in (ap (λ (x : List ℕ). Success x) h.0, h.1)
   by (Failure t) (Failure u) a b e k = let h = quoted_apart t u r s (after (codes "failure ") (quoted t) (quoted u) e) in (ap (λ (x : List ℕ). Failure x) h.0, h.1)
   by (Retry m) (Retry n) a b e k = let h = decimal_apart m n r s a b (end_digit r c) (end_digit s d) (after (codes "retry ") (decimal m) (decimal n) e) in (ap (λ (x : ℕ). Retry x) h.0, h.1)
@@ -126,9 +126,9 @@ space_on : (xs ys r : List ℕ) → (xs ++ 32 ∷ ys) ++ r ≡ xs ++ 32 ∷ (ys 
 space_on xs ys r = append_assoc xs (32 ∷ ys) r
 
 pub note_apart : (n m : Heard) (r s : List ℕ) → IsNote n → IsNote m → is_end r ≡ true → is_end s ≡ true → note_text n ++ r ≡ note_text m ++ s → (n ≡ m) × (r ≡ s)
+unfolding note_kind
 note_apart n m r s a b c d e = by n m a b e (sym (kind_told n r) ∙ ap first_kind e ∙ kind_told m s) where
   by : (n m : Heard) → IsNote n → IsNote m → note_text n ++ r ≡ note_text m ++ s → note_kind n ≡ note_kind m → (n ≡ m) × (r ≡ s)
-  unfolding note_kind
   by (Took t) (Took u) a b e k = let h = tag_apart t u r s a b (end_digit r c) (end_digit s d) (after (codes "TOOK ") (tag_text t) (tag_text u) e) in (ap (λ (x : Tag). Took x) h.0, h.1)
   by (Revoked t) (Revoked u) a b e k = let h = tag_apart t u r s a b (end_digit r c) (end_digit s d) (after (codes "REVOKED ") (tag_text t) (tag_text u) e) in (ap (λ (x : Tag). Revoked x) h.0, h.1)
   by (Rejected t) (Rejected u) a b e k = let h = tag_apart t u r s a b (end_digit r c) (end_digit s d) (after (codes "REJECTED ") (tag_text t) (tag_text u) e) in (ap (λ (x : Tag). Rejected x) h.0, h.1)

@@ -69,9 +69,9 @@ client_on : (c s : ℕ) (r : List ℕ) → (decimal c ++ (codes " seed " ++ deci
 client_on c s r = append_assoc (decimal c) (codes " seed " ++ decimal s) r ∙ ap (λ t. decimal c ++ t) (append_assoc (codes " seed ") (decimal s) r)
 
 pub row_apart : (x y : Row) (r s : List ℕ) → IsRow x → IsRow y → is_end r ≡ true → is_end s ≡ true → row_line x ++ r ≡ row_line y ++ s → (x ≡ y) × (r ≡ s)
+unfolding row_kind
 row_apart x y r s a b j k e = by x y a b e (sym (kind_told x r) ∙ ap second_kind e ∙ kind_told y s) where
   by : (x y : Row) → IsRow x → IsRow y → row_line x ++ r ≡ row_line y ++ s → row_kind x ≡ row_kind y → (x ≡ y) × (r ≡ s)
-  unfolding row_kind
   by (Client c p) (Client d q) a b e l =
       let f = sym (client_on c p r) ∙ after (codes "client ") _ _ e ∙ client_on d q s in
       let g = decimal_apart c d _ _ (wide c a.0) (wide d b.0) refl refl f in

@@ -56,18 +56,17 @@ are_rows (c ∷ cs) es a b = (a.0, are_rows cs es a.1 b)
 
 -- ---- texts
 
+-- nothing is written
+abbrev NoBytes : List ℕ → Type 0
+NoBytes [] = Unit {0}
+NoBytes (b ∷ bs) = ⊥
+
 -- a line isn't without bytes
 some_line : (x : Row) (r : List ℕ) → [] ≡ row_line x ++ r → ⊥
-some_line x r e = by x e where
-  no_bytes : List ℕ → Type 0
-  no_bytes [] = Unit {0}
-  no_bytes (b ∷ bs) = ⊥
-  by : (x : Row) → [] ≡ row_line x ++ r → ⊥
-  unfolding no_bytes
-  by (Client c s) e = subst no_bytes e tt
-  by (Event (Call c at words reply)) e = subst no_bytes e tt
-  by (Event (Noted c note)) e = subst no_bytes e tt
-  by (Event (Stop c)) e = subst no_bytes e tt
+some_line (Client c s) r e = subst NoBytes e tt
+some_line (Event (Call c at words reply)) r e = subst NoBytes e tt
+some_line (Event (Noted c note)) r e = subst NoBytes e tt
+some_line (Event (Stop c)) r e = subst NoBytes e tt
 
 pub rows_apart : (xs ys : List Row) → Each IsRow xs → Each IsRow ys → ended (map row_line xs) ≡ ended (map row_line ys) → xs ≡ ys
 rows_apart [] [] a b e = refl

@@ -11,7 +11,7 @@ use Rattle.line_text.specs.Forms.{quoted, commas, value_form}
 use Rattle.history_records.specs.Recordable.{is_integer, is_typed, typed_step, depth, depth_step, greatest}
 use Rattle.record_laws.proofs.Apart.{heads, tails}
 use Rattle.record_laws.proofs.Digits.{no_digit, signed_apart}
-use Rattle.record_laws.proofs.Kinds.{Kind, A_status, An_error, An_integer, A_bulk, A_null, An_array, A_null_array, Shown, Seen, seen, text_kind, items_text}
+use Rattle.record_laws.proofs.ValueKinds.{Kind, A_status, An_error, An_integer, A_bulk, A_null, An_array, A_null_array, Shown, Seen, seen, text_kind, items_text}
 use Rattle.record_laws.proofs.Quotes.{quoted_apart}
 
 -- ---- folds
