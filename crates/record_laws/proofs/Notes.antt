@@ -18,8 +18,8 @@ use Rattle.record_laws.proofs.Quotes.{quoted_apart}
 use Rattle.record_laws.proofs.Replies.{is_end, end_digit}
 
 -- what follows a front that both have
-pub after : (front xs ys : List ℕ) {r s : List ℕ} → (front ++ xs) ++ r ≡ (front ++ ys) ++ s → xs ++ r ≡ ys ++ s
-after front xs ys {r = r} {s = s} e = append_cancel_left front (xs ++ r) (ys ++ s) (sym (append_assoc front xs r) ∙ e ∙ append_assoc front ys s)
+pub after : (front xs ys r s : List ℕ) → (front ++ xs) ++ r ≡ (front ++ ys) ++ s → xs ++ r ≡ ys ++ s
+after front xs ys r s e = append_cancel_left front (xs ++ r) (ys ++ s) (sym (append_assoc front xs r) ∙ e ∙ append_assoc front ys s)
 
 -- ---- tags
 
@@ -69,9 +69,9 @@ pub outcome_apart : (o p : Outcome) (r s : List ℕ) → IsOutcome o → IsOutco
 unfolding ending_of
 outcome_apart o p r s a b c d e = by o p a b e (sym (ending_told o r) ∙ ap first_ending e ∙ ending_told p s) where
   by : (o p : Outcome) → IsOutcome o → IsOutcome p → outcome_text o ++ r ≡ outcome_text p ++ s → ending_of o ≡ ending_of p → (o ≡ p) × (r ≡ s)
-  by (Success t) (Success u) a b e k = let h = quoted_apart t u r s (after (codes "success ") (quoted t) (quoted u) e) in (ap (λ (x : List ℕ). Success x) h.0, h.1)
-  by (Failure t) (Failure u) a b e k = let h = quoted_apart t u r s (after (codes "failure ") (quoted t) (quoted u) e) in (ap (λ (x : List ℕ). Failure x) h.0, h.1)
-  by (Retry m) (Retry n) a b e k = let h = decimal_apart m n r s a b (end_digit r c) (end_digit s d) (after (codes "retry ") (decimal m) (decimal n) e) in (ap (λ (x : ℕ). Retry x) h.0, h.1)
+  by (Success t) (Success u) a b e k = let h = quoted_apart t u r s (after (codes "success ") (quoted t) (quoted u) r s e) in (ap (λ (x : List ℕ). Success x) h.0, h.1)
+  by (Failure t) (Failure u) a b e k = let h = quoted_apart t u r s (after (codes "failure ") (quoted t) (quoted u) r s e) in (ap (λ (x : List ℕ). Failure x) h.0, h.1)
+  by (Retry m) (Retry n) a b e k = let h = decimal_apart m n r s a b (end_digit r c) (end_digit s d) (after (codes "retry ") (decimal m) (decimal n) r s e) in (ap (λ (x : ℕ). Retry x) h.0, h.1)
   by (Success t) (Failure u) a b e k = absurd (cc)
   by (Success t) (Retry n) a b e k = absurd (cc)
   by (Failure t) (Success u) a b e k = absurd (cc)
@@ -129,22 +129,22 @@ pub note_apart : (n m : Heard) (r s : List ℕ) → IsNote n → IsNote m → is
 unfolding note_kind
 note_apart n m r s a b c d e = by n m a b e (sym (kind_told n r) ∙ ap first_kind e ∙ kind_told m s) where
   by : (n m : Heard) → IsNote n → IsNote m → note_text n ++ r ≡ note_text m ++ s → note_kind n ≡ note_kind m → (n ≡ m) × (r ≡ s)
-  by (Took t) (Took u) a b e k = let h = tag_apart t u r s a b (end_digit r c) (end_digit s d) (after (codes "TOOK ") (tag_text t) (tag_text u) e) in (ap (λ (x : Tag). Took x) h.0, h.1)
-  by (Revoked t) (Revoked u) a b e k = let h = tag_apart t u r s a b (end_digit r c) (end_digit s d) (after (codes "REVOKED ") (tag_text t) (tag_text u) e) in (ap (λ (x : Tag). Revoked x) h.0, h.1)
-  by (Rejected t) (Rejected u) a b e k = let h = tag_apart t u r s a b (end_digit r c) (end_digit s d) (after (codes "REJECTED ") (tag_text t) (tag_text u) e) in (ap (λ (x : Tag). Rejected x) h.0, h.1)
+  by (Took t) (Took u) a b e k = let h = tag_apart t u r s a b (end_digit r c) (end_digit s d) (after (codes "TOOK ") (tag_text t) (tag_text u) r s e) in (ap (λ (x : Tag). Took x) h.0, h.1)
+  by (Revoked t) (Revoked u) a b e k = let h = tag_apart t u r s a b (end_digit r c) (end_digit s d) (after (codes "REVOKED ") (tag_text t) (tag_text u) r s e) in (ap (λ (x : Tag). Revoked x) h.0, h.1)
+  by (Rejected t) (Rejected u) a b e k = let h = tag_apart t u r s a b (end_digit r c) (end_digit s d) (after (codes "REJECTED ") (tag_text t) (tag_text u) r s e) in (ap (λ (x : Tag). Rejected x) h.0, h.1)
   by (Finished t o) (Finished u p) a b e k =
-      let f = after (codes "FINISHED ") (tag_text t ++ 32 ∷ outcome_text o) (tag_text u ++ 32 ∷ outcome_text p) e in
+      let f = after (codes "FINISHED ") (tag_text t ++ 32 ∷ outcome_text o) (tag_text u ++ 32 ∷ outcome_text p) r s e in
       let h = tag_apart t u _ _ a.0 b.0 refl refl (sym (space_on (tag_text t) (outcome_text o) r) ∙ f ∙ space_on (tag_text u) (outcome_text p) s) in
       let g = outcome_apart o p r s a.1 b.1 c d (tails 32 32 _ _ h.1) in
       ((λ i. Finished (h.0 i) (g.0 i)), g.1)
-  by (Expired t x y) (Expired u z w) a b e k =
-      let f = after (codes "EXPIRED ") (tag_text t ++ 32 ∷ (signed_decimal x ++ 32 ∷ signed_decimal y)) (tag_text u ++ 32 ∷ (signed_decimal z ++ 32 ∷ signed_decimal w)) e in
+  by (Expired t x v) (Expired u z w) a b e k =
+      let f = after (codes "EXPIRED ") (tag_text t ++ 32 ∷ (signed_decimal x ++ 32 ∷ signed_decimal v)) (tag_text u ++ 32 ∷ (signed_decimal z ++ 32 ∷ signed_decimal w)) r s e in
       let h = tag_apart t u _ _ a.0 b.0 refl refl (sym (space_on (tag_text t) _ r) ∙ f ∙ space_on (tag_text u) _ s) in
-      let g = signed_apart x z _ _ a.1 b.1 refl refl (sym (space_on (signed_decimal x) (signed_decimal y) r) ∙ tails 32 32 _ _ h.1 ∙ space_on (signed_decimal z) (signed_decimal w) s) in
-      let l = signed_apart y w r s a.2 b.2 (end_digit r c) (end_digit s d) (tails 32 32 _ _ g.1) in
+      let g = signed_apart x z _ _ a.1 b.1 refl refl (sym (space_on (signed_decimal x) (signed_decimal v) r) ∙ tails 32 32 _ _ h.1 ∙ space_on (signed_decimal z) (signed_decimal w) s) in
+      let l = signed_apart v w r s a.2 b.2 (end_digit r c) (end_digit s d) (tails 32 32 _ _ g.1) in
       ((λ i. Expired (h.0 i) (g.0 i) (l.0 i)), l.1)
   by (Held t x) (Held u y) a b e k =
-      let f = after (codes "HELD ") (tag_text t ++ 32 ∷ signed_decimal x) (tag_text u ++ 32 ∷ signed_decimal y) e in
+      let f = after (codes "HELD ") (tag_text t ++ 32 ∷ signed_decimal x) (tag_text u ++ 32 ∷ signed_decimal y) r s e in
       let h = tag_apart t u _ _ a.0 b.0 refl refl (sym (space_on (tag_text t) _ r) ∙ f ∙ space_on (tag_text u) _ s) in
       let g = signed_apart x y r s a.1 b.1 (end_digit r c) (end_digit s d) (tails 32 32 _ _ h.1) in
       ((λ i. Held (h.0 i) (g.0 i)), g.1)
@@ -161,12 +161,12 @@ note_apart n m r s a b c d e = by n m a b e (sym (kind_told n r) ∙ ap first_ki
   by (Finished t o) (Rejected u) a b e k = absurd (cc)
   by (Finished t o) (Held u y) a b e k = absurd (cc)
   by (Finished t o) Unreadable a b e k = absurd (cc)
-  by (Expired t x y) (Took u) a b e k = absurd (cc)
-  by (Expired t x y) (Finished u p) a b e k = absurd (cc)
-  by (Expired t x y) (Revoked u) a b e k = absurd (cc)
-  by (Expired t x y) (Rejected u) a b e k = absurd (cc)
-  by (Expired t x y) (Held u y) a b e k = absurd (cc)
-  by (Expired t x y) Unreadable a b e k = absurd (cc)
+  by (Expired t x v) (Took u) a b e k = absurd (cc)
+  by (Expired t x v) (Finished u p) a b e k = absurd (cc)
+  by (Expired t x v) (Revoked u) a b e k = absurd (cc)
+  by (Expired t x v) (Rejected u) a b e k = absurd (cc)
+  by (Expired t x v) (Held u y) a b e k = absurd (cc)
+  by (Expired t x v) Unreadable a b e k = absurd (cc)
   by (Revoked t) (Took u) a b e k = absurd (cc)
   by (Revoked t) (Finished u p) a b e k = absurd (cc)
   by (Revoked t) (Expired u z w) a b e k = absurd (cc)

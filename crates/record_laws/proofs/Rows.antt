@@ -49,6 +49,10 @@ wide c h = omega (arith, h)
 abbrev after_words : Reply → List ℕ → List ℕ
 after_words reply r = 32 ∷ (reply_text reply ++ r)
 
+-- what follows the first word of a call's line
+abbrev call_rest : ℕ → ℕ → List (List ℕ) → Reply → List ℕ
+call_rest at c words reply = decimal at ++ 32 ∷ (decimal c ++ 32 ∷ (words_text quoted words ++ (codes "= " ++ reply_text reply)))
+
 call_on : (at c : ℕ) (words : List (List ℕ)) (reply : Reply) (r : List ℕ)
     → (decimal at ++ 32 ∷ (decimal c ++ 32 ∷ (words_text quoted words ++ (codes "= " ++ reply_text reply)))) ++ r ≡ decimal at ++ 32 ∷ (decimal c ++ 32 ∷ (words_text quoted words ++ 61 ∷ after_words reply r))
 call_on at c words reply r =
@@ -58,7 +62,7 @@ call_on at c words reply r =
 
 call_apart : (at at' c c' : ℕ) (words words' : List (List ℕ)) (reply reply' : Reply) (r s : List ℕ) → IsEvent (Call c at words reply) → IsEvent (Call c' at' words' reply') → is_end r ≡ true → is_end s ≡ true → row_line (Event (Call c at words reply)) ++ r ≡ row_line (Event (Call c' at' words' reply')) ++ s → (Event (Call c at words reply) ≡ Event (Call c' at' words' reply')) × (r ≡ s)
 call_apart at at' c c' words words' reply reply' r s a b j k e =
-    let f = sym (call_on at c words reply r) ∙ after (codes "call ") _ _ e ∙ call_on at' c' words' reply' s in
+    let f = sym (call_on at c words reply r) ∙ after (codes "call ") (call_rest at c words reply) (call_rest at' c' words' reply') r s e ∙ call_on at' c' words' reply' s in
     let g = decimal_apart at at' _ _ a.1 b.1 refl refl f in
     let h = decimal_apart c c' _ _ (wide c a.0) (wide c' b.0) refl refl (tails 32 32 _ _ g.1) in
     let w = words_apart words words' (after_words reply r) (after_words reply' s) (tails 32 32 _ _ h.1) in
@@ -73,7 +77,7 @@ unfolding row_kind
 row_apart x y r s a b j k e = by x y a b e (sym (kind_told x r) ∙ ap second_kind e ∙ kind_told y s) where
   by : (x y : Row) → IsRow x → IsRow y → row_line x ++ r ≡ row_line y ++ s → row_kind x ≡ row_kind y → (x ≡ y) × (r ≡ s)
   by (Client c p) (Client d q) a b e l =
-      let f = sym (client_on c p r) ∙ after (codes "client ") _ _ e ∙ client_on d q s in
+      let f = sym (client_on c p r) ∙ after (codes "client ") (decimal c ++ (codes " seed " ++ decimal p)) (decimal d ++ (codes " seed " ++ decimal q)) r s e ∙ client_on d q s in
       let g = decimal_apart c d _ _ (wide c a.0) (wide d b.0) refl refl f in
       let h = decimal_apart p q r s a.1 b.1 (end_digit r j) (end_digit s k) (append_cancel_left (codes " seed ") _ _ g.1) in
       ((λ i. Client (g.0 i) (h.0 i)), h.1)
@@ -85,7 +89,7 @@ row_apart x y r s a b j k e = by x y a b e (sym (kind_told x r) ∙ ap second_ki
   by (Event (Call c at words reply)) (Event (Noted d note)) a b e l = absurd (cc)
   by (Event (Call c at words reply)) (Event (Stop d)) a b e l = absurd (cc)
   by (Event (Noted c n)) (Event (Noted d m)) a b e l =
-      let f = sym (append_assoc (decimal c) (32 ∷ note_text n) r) ∙ after (codes "heard ") _ _ e ∙ append_assoc (decimal d) (32 ∷ note_text m) s in
+      let f = sym (append_assoc (decimal c) (32 ∷ note_text n) r) ∙ after (codes "heard ") (decimal c ++ 32 ∷ note_text n) (decimal d ++ 32 ∷ note_text m) r s e ∙ append_assoc (decimal d) (32 ∷ note_text m) s in
       let g = decimal_apart c d _ _ (wide c a.0) (wide d b.0) refl refl f in
       let h = note_apart n m r s a.1 b.1 j k (tails 32 32 _ _ g.1) in
       ((λ i. Event (Noted (g.0 i) (h.0 i))), h.1)
@@ -93,7 +97,7 @@ row_apart x y r s a b j k e = by x y a b e (sym (kind_told x r) ∙ ap second_ki
   by (Event (Noted c n)) (Event (Call d at words reply)) a b e l = absurd (cc)
   by (Event (Noted c n)) (Event (Stop d)) a b e l = absurd (cc)
   by (Event (Stop c)) (Event (Stop d)) a b e l =
-      let g = decimal_apart c d r s (wide c a) (wide d b) (end_digit r j) (end_digit s k) (after (codes "stop ") (decimal c) (decimal d) e) in
+      let g = decimal_apart c d r s (wide c a) (wide d b) (end_digit r j) (end_digit s k) (after (codes "stop ") (decimal c) (decimal d) r s e) in
       ((λ i. Event (Stop (g.0 i))), g.1)
   by (Event (Stop c)) (Client d p) a b e l = absurd (cc)
   by (Event (Stop c)) (Event (Call d at words reply)) a b e l = absurd (cc)
