@@ -15,6 +15,7 @@ pub(crate) const REPLY_DEPTH: u32 = 64;
 
 impl<'a> Rest<'a> {
     /// Reads a value with at most so many arrays in one another, of which this is the outermost.
+    #[cycle(values)]
     pub(crate) fn value(&mut self, alloc: Global, depth: u32) -> Result<Option<Value>, AllocError>
         ensures { IfOk result (λ found. IfSome found (λ value. HasRead (value_form value) self.old self.new)) }
     {
@@ -43,6 +44,7 @@ impl<'a> Rest<'a> {
     }
 
     /// Reads the items of an array and the bracket after them.
+    #[cycle(values)]
     fn items(&mut self, alloc: Global, depth: u32) -> Result<Option<Values>, AllocError>
         ensures { IfOk result (λ found. IfSome found (λ items. HasRead (items_text items) self.old self.new)) }
     {

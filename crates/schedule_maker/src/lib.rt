@@ -1,6 +1,6 @@
 //! Schedules of any size, to be run by `replay --make`.
 #![tactic(auto)]
 
-mod make;
+mod messages;
 
-pub use make::make;
+pub use messages::make;
