@@ -41,11 +41,7 @@ fn seeds_by_connection(
 }
 
 /// Appends the lines of seeds by their connections.
-fn seed_rows(
-    alloc: Global,
-    out: &mut Vec<u8>,
-    seeds: &BTreeMap<u32, u64>,
-) -> Result<(), AllocError>
+fn seed_rows(alloc: Global, out: &mut Vec<u8>, seeds: &BTreeMap<u32, u64>) -> Result<(), AllocError>
     ensures { OnOk result (out.new.items
         ≡ out.old.items ++ flat_map (λ c. client_line c ++ 10 ∷ []) seeds.now.entries) }
 {

@@ -5,10 +5,7 @@ use place_model::{Entry, Heard};
 #[derive(Drop)]
 pub enum Row {
     /// A client, by its connection and the seed of its tags.
-    Client {
-        connection: u32,
-        seed: u64,
-    },
+    Client { connection: u32, seed: u64 },
     /// An entry of the history.
     Event(Entry<Heard>),
 }

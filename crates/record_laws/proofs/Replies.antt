@@ -44,8 +44,8 @@ words_apart (v ∷ vs) (w ∷ ws) r s e =
     let h = quoted_apart v w _ _ (sym (on v vs r) ∙ e ∙ on w ws s) in
     let t = words_apart vs ws r s (tails 32 32 _ _ h.1) in
     ((λ i. h.0 i ∷ t.0 i), t.1) where
-  on : (u : List ℕ) (us : List (List ℕ)) (t : List ℕ) → words_text quoted (u ∷ us) ++ 61 ∷ t ≡ quoted u ++ 32 ∷ (words_text quoted us ++ 61 ∷ t)
-  on u us t = append_assoc (quoted u ++ 32 ∷ []) (words_text quoted us) (61 ∷ t) ∙ append_assoc (quoted u) (32 ∷ []) (words_text quoted us ++ 61 ∷ t)
+      on : (u : List ℕ) (us : List (List ℕ)) (t : List ℕ) → words_text quoted (u ∷ us) ++ 61 ∷ t ≡ quoted u ++ 32 ∷ (words_text quoted us ++ 61 ∷ t)
+      on u us t = append_assoc (quoted u ++ 32 ∷ []) (words_text quoted us) (61 ∷ t) ∙ append_assoc (quoted u) (32 ∷ []) (words_text quoted us ++ 61 ∷ t)
 
 -- ---- replies
 

@@ -84,8 +84,7 @@ rows_text h = ap (λ ls. (header ++ 10 ∷ []) ++ ended ls) (sym (row_lines (ent
 pub determines : RecordsDetermine
 determines g h a b e =
     let t = append_cancel_left (header ++ 10 ∷ []) _ _ (sym (rows_text g) ∙ e ∙ rows_text h) in
-    let same = rows_apart (rows g) (rows h) (are_rows _ g.entries a.clients a.events) (are_rows _ h.entries b.clients b.events) t in
-    (
+    let same = rows_apart (rows g) (rows h) (are_rows _ g.entries a.clients a.events) (are_rows _ h.entries b.clients b.events) t in (
       same_entries_map _ _ (sym (clients_back _ g.entries) ∙ ap clients_of same ∙ clients_back _ h.entries),
       sym (events_back _ g.entries) ∙ ap events_of same ∙ events_back _ h.entries,
     )

@@ -41,7 +41,9 @@ fn publish(alloc: Global, out: &mut Vec<u8>, number: u32) -> Result<(), AllocErr
     ensures { OnOk result (out.new.items ≡ out.old.items ++ made_publish number) }
 {
     let priority = number % 10;
-    let text = format!(in alloc; "at {number}\nbegin 1 publish - celery {priority} tasks.add [{number},1]\nrun 1\n")?;
+    let text = format!(in alloc;
+        "at {number}\nbegin 1 publish - celery {priority} tasks.add [{number},1]\nrun 1\n"
+    )?;
     out.extend_from_slice(text.as_bytes())?;
     Ok(())
 }
