@@ -1,0 +1,4 @@
+pub mod Lines
+pub mod Recordable
+pub mod Records
+pub mod Rows

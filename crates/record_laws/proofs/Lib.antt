@@ -1,0 +1,9 @@
+pub mod Apart
+pub mod Digits
+pub mod ValueKinds
+pub mod Notes
+pub mod Quotes
+pub mod Replies
+pub mod Rows
+pub mod Told
+pub mod Values
