@@ -1,9 +1,13 @@
 //! The commands of a block, one after the other.
-ghost use Rattle.std.specs.Prelude.{IsSome, Some, ◌<◌, ◌≡◌};
+ghost use Rattle.std.specs.Prelude.{List as Listed, IsSome, Some, ◌<◌, ◌≡◌};
 ghost use Rattle.store_model.specs.Limits.{moment_limit};
 ghost use Rattle.command_blocks.specs.Scripts.{Over, Off};
 ghost use Rattle.desks.specs.Faults.{IsOpen};
 ghost use Rattle.steps.specs.Begins.{IsLawfulBlock, errand_of};
+ghost use Rattle.steps.specs.Clients.{Client};
+ghost use Rattle.steps.specs.Ends.{EndTells};
+ghost use Rattle.steps.specs.Errands.{Errand};
+ghost use Rattle.steps.specs.Trips.{RoundTrip};
 ghost use Rattle.block_runs.specs.Runs.{HasRest, HasRunBlock, HasSaidNext};
 
 use crate::BlockFault;
@@ -86,6 +90,7 @@ fn told<T: Steps>(steps: &mut T) -> BlockEnd
     ensures ended { T.ended steps.old ≡ Some result }
     ensures left { T.left steps.new ≡ T.left steps.old }
     ensures client { T.client steps.new ≡ T.client steps.old }
+    ensures tells { (c : Client) (errand : Errand) (trips : Listed RoundTrip) → T.had steps.old c errand trips → EndTells errand trips result }
 {
     match steps.end() {
         Some(end) => end,
