@@ -18,13 +18,14 @@ use Rattle.sessions.specs.Talks.{IsClocked}
 use Rattle.steps.specs.Clients.{Client}
 use Rattle.steps.specs.Errands.{Errand}
 use Rattle.steps.specs.Ends.{EndTells}
-use Rattle.steps.specs.Errands.{client_after, errand_script}
+use Rattle.steps.specs.Errands.{HasSaidOf, client_after, errand_script}
 use Rattle.steps.specs.Goings.{HasBegun, HasHeard, script_after}
 use Rattle.steps.specs.Trips.{RoundTrip, trip, trip_call, trip_calls}
 use Rattle.steps.specs.declared.begun.BeginFault.{BeginFault}
 use Rattle.steps.specs.declared.ended.BlockEnd.{BlockEnd}
-use Rattle.block_runs.specs.Faults.{reply_fault}
-use Rattle.block_runs.specs.Runs.{AreClocked, HasRest, HasRunBlock, HasSaid, HasSaidNext, HadMore, IsOn, WasAsked, trip_deed, trip_deeds}
+use Rattle.steps.specs.declared.begun.BeginFault.TheVariants as begin_
+use Rattle.block_runs.specs.Faults.{begin_fault, reply_fault}
+use Rattle.block_runs.specs.Runs.{AreClocked, HasRest, HasRunBlock, IsBlockTo, IsRestTo, HasSaid, HasSaidNext, HadMore, IsOn, WasAsked, trip_deed, trip_deeds}
 use Rattle.block_runs.specs.declared.fault.BlockFault.{BlockFault}
 use Rattle.block_runs.specs.declared.fault.BlockFault.TheVariants as fault_
 
@@ -132,15 +133,60 @@ said_on goes joins gives left desk mid desk2 steps midst steps2 at trips words r
 
 -- a block that was begun, said to its end, and told how it ended
 pub run_whole : {D T : Type 0} (goes : D → List Deed → D → Type 0) (gives : ℕ → Type 0) (fault : D → Option DeskFault) (stopped : D → Bool) (client : T → Client) (left : T → Script) (spent : T → Bool) (had : T → Client → Errand → List RoundTrip → Type 0) (ended : T → Option BlockEnd)
+    (says : (s : T) (c : Client) (errand : Errand) (trips : List RoundTrip) → had s c errand trips → HasSaidOf c errand trips (left s))
     (desk desk2 : D) (steps begun said told : T) (errand : Result Errand BeginFault) (end : BlockEnd)
     → HasBegun client left had spent steps begun errand (Ok tt) → HasRest goes fault stopped left had ended gives desk desk2 begun said (Ok tt)
     → client said ≡ client begun → client told ≡ client said → left told ≡ left said
     → ((c : Client) (errand : Errand) (trips : List RoundTrip) → had said c errand trips → EndTells errand trips end)
     → HasRunBlock goes fault stopped client left gives desk desk2 steps told errand (Ok end)
-run_whole goes gives fault stopped client left spent had ended desk desk2 steps begun said told errand end b r c1 c2 l tells =
+run_whole goes gives fault stopped client left spent had ended says desk desk2 steps begun said told errand end b r c1 c2 l tells =
     subst (λ e. HasRunBlock goes fault stopped client left gives desk desk2 steps told e (Ok end)) (sym b.1) (record {
       trips = r.trips;
       rest = r.rest;
+      lawful = λ _. (says begun (client steps) b.0 [] b.2.had_none).lawful;
       said = subst (λ p. HasSaid goes gives desk desk2 p r.trips r.rest) b.2.left_is r.said;
-      come = (r.come.0, c2 ∙ c1 ∙ b.2.client_is, l ∙ r.come.1, r.come.2, tells (client steps) b.0 r.trips (r.more (client steps) b.0 [] b.2.had_none));
+      come = ((says begun (client steps) b.0 [] b.2.had_none).lawful, r.come.0, c2 ∙ c1 ∙ b.2.client_is, l ∙ r.come.1, r.come.2, tells (client steps) b.0 r.trips (r.more (client steps) b.0 [] b.2.had_none));
     })
+
+-- a block that was begun, and not said to its end
+pub run_stops : {D T : Type 0} (goes : D → List Deed → D → Type 0) (gives : ℕ → Type 0) (fault : D → Option DeskFault) (stopped : D → Bool) (client : T → Client) (left : T → Script) (spent : T → Bool) (had : T → Client → Errand → List RoundTrip → Type 0) (ended : T → Option BlockEnd)
+    (says : (s : T) (c : Client) (errand : Errand) (trips : List RoundTrip) → had s c errand trips → HasSaidOf c errand trips (left s))
+    (desk desk2 : D) (steps begun said : T) (errand : Result Errand BeginFault) (f : BlockFault) (result : Result BlockEnd BlockFault) → IsErrAnd result (λ x. x ≡ f)
+    → HasBegun client left had spent steps begun errand (Ok tt) → HasRest goes fault stopped left had ended gives desk desk2 begun said (Err f)
+    → HasRunBlock goes fault stopped client left gives desk desk2 steps said errand result
+run_stops {D} {T} goes gives fault stopped client left spent had ended says desk desk2 steps begun said errand f result is b r =
+    at_fault (HasRunBlock goes fault stopped client left gives desk desk2 steps said errand) result f is
+    (subst (λ e. HasRunBlock goes fault stopped client left gives desk desk2 steps said e (Err f)) (sym b.1) (record {
+      trips = r.trips;
+      rest = r.rest;
+      lawful = λ _. (says begun (client steps) b.0 [] b.2.had_none).lawful;
+      said = subst (λ p. HasSaid goes gives desk desk2 p r.trips r.rest) b.2.left_is r.said;
+      come = by f r.come;
+    })) where
+  by : (f : BlockFault) → IsRestTo (fault desk2) (stopped desk2) left ended said r.trips r.rest (Err f) → IsBlockTo (fault desk2) (stopped desk2) client left said (client steps) b.0 r.trips r.rest (Err f)
+  by (fault_.Begin g) n = n
+  by (fault_.Desk d) n = n
+  by (fault_.Refused given) n = n
+  by fault_.Memory n = n
+
+-- a block that wasn't begun
+pub run_not_begun : {D T : Type 0} (goes : D → List Deed → D → Type 0) (stays : (s : D) → goes s [] s) (gives : ℕ → Type 0) (fault : D → Option DeskFault) (stopped : D → Bool) (client : T → Client) (left : T → Script) (spent : T → Bool) (had : T → Client → Errand → List RoundTrip → Type 0)
+    (desk : D) (steps new : T) (errand : Result Errand BeginFault) (f : BeginFault) (result : Result BlockEnd BlockFault) → IsErrAnd result (λ x. x ≡ begin_fault f) → IsOpen (fault desk) (stopped desk)
+    → HasBegun client left had spent steps new errand (Err f) → HasRunBlock goes fault stopped client left gives desk desk steps new errand result
+run_not_begun {D} {T} goes stays gives fault stopped client left spent had desk steps new errand f result is is_open h = at_fault (Run errand) result (begin_fault f) is (by f h) where
+  Run : Result Errand BeginFault → Result BlockEnd BlockFault → Type 0
+  Run e r = HasRunBlock goes fault stopped client left gives desk desk steps new e r
+
+  not : (f : BeginFault) → errand ≡ Err f → new ≡ steps → Run errand (Err (fault_.Begin f))
+  not f e s = subst (λ x. Run x (Err (fault_.Begin f))) (sym e) (refl, refl, s)
+
+  lacked : (e : Result Errand BeginFault) → Run e (Err fault_.Memory)
+  lacked (Ok x) = record { trips = []; rest = errand_script (client steps) x; lawful = λ no. absurd (no refl); said = said_first goes stays gives desk (errand_script (client steps) x); come = is_open }
+  lacked (Err g) = refl
+
+  by : (f : BeginFault) → HasBegun client left had spent steps new errand (Err f) → Run errand (Err (begin_fault f))
+  by begin_.NoTag h = not begin_.NoTag h.0 h.1
+  by (begin_.Name g) h = not (begin_.Name g) h.0 h.1
+  by (begin_.Draft g) h = not (begin_.Draft g) h.0 h.1
+  by begin_.BadNeutral h = not begin_.BadNeutral h.0 h.1
+  by begin_.Memory h = lacked errand

@@ -10,7 +10,7 @@ use Rattle.desks.specs.declared.desk.DeskFault.{DeskFault}
 use Rattle.sessions.specs.Talks.{IsClocked}
 use Rattle.steps.specs.Clients.{Client}
 use Rattle.steps.specs.Ends.{EndTells}
-use Rattle.steps.specs.Errands.{Errand, client_after, errand_script}
+use Rattle.steps.specs.Errands.{Errand, IsLawfulErrand, client_after, errand_script}
 use Rattle.steps.specs.Goings.{script_after}
 use Rattle.steps.specs.Trips.{RoundTrip, trip, trip_calls}
 use Rattle.steps.specs.declared.begun.BeginFault.{BeginFault}
@@ -89,16 +89,17 @@ pub record HasRest {D T : Type 0} (goes : D → List Deed → D → Type 0) (fau
 
 -- how far an errand came, of whose script this is left; the round trips are all of it
 abbrev pub IsBlockTo : {T : Type 0} → Option DeskFault → Bool → (T → Client) → (T → Script) → T → Client → Errand → List RoundTrip → Script → Result BlockEnd BlockFault → Type 0
-IsBlockTo fault stopped client left steps2 c errand trips rest (Ok end) = IsOpen fault stopped × (client steps2 ≡ client_after c errand) × (left steps2 ≡ Over) × (rest ≡ Over) × EndTells errand trips end
+IsBlockTo fault stopped client left steps2 c errand trips rest (Ok end) = IsLawfulErrand c errand × IsOpen fault stopped × (client steps2 ≡ client_after c errand) × (left steps2 ≡ Over) × (rest ≡ Over) × EndTells errand trips end
 IsBlockTo fault stopped client left steps2 c errand trips rest (Err (Begin f)) = ⊥
 IsBlockTo fault stopped client left steps2 c errand trips rest (Err (Desk f)) = (fault ≡ Some f) × (rest ≡ Off → ⊥)
 IsBlockTo fault stopped client left steps2 c errand trips rest (Err (Refused given)) = IsOpen fault stopped × (rest ≡ Off) × EndsWith trips given
 IsBlockTo fault stopped client left steps2 c errand trips rest (Err Memory) = IsOpen fault stopped
 
--- an errand was said at the desk, whole where it ended, else in front
+-- an errand was said at the desk, whole where it ended, else in front; it is lawful, where anything was asked
 pub record HasRunErrand {D T : Type 0} (goes : D → List Deed → D → Type 0) (fault : D → Option DeskFault) (stopped : D → Bool) (client : T → Client) (left : T → Script) (gives : ℕ → Type 0) (desk desk2 : D) (steps steps2 : T) (errand : Errand) (result : Result BlockEnd BlockFault) : Type 0 where
   pub trips : List RoundTrip
   pub rest : Script
+  pub lawful : (trips ≡ [] → ⊥) → IsLawfulErrand (client steps) errand
   pub said : HasSaid goes gives desk desk2 (errand_script (client steps) errand) trips rest
   pub come : IsBlockTo (fault desk2) (stopped desk2) client left steps2 (client steps) errand trips rest result
 

@@ -1,0 +1,4 @@
+pub mod Asides
+pub mod Lefts
+pub mod Works
+pub mod Begun
