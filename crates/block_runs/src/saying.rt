@@ -1,5 +1,5 @@
 //! The commands of a block, one after the other.
-ghost use Rattle.std.specs.Prelude.{List as Listed, IsSome, Some, ◌<◌, ◌≡◌};
+ghost use Rattle.std.specs.Prelude.{List as Listed, IsSome, OnOk, Some, ◌<◌, ◌≡◌};
 ghost use Rattle.store_model.specs.Limits.{moment_limit};
 ghost use Rattle.command_blocks.specs.Scripts.{Over, Off};
 ghost use Rattle.desks.specs.Faults.{IsOpen};
@@ -33,7 +33,10 @@ pub fn run_block<D: Desk, T: Steps, C: Clock>(
     requires open { IsOpen (D.fault desk.old) (D.stopped desk.old) }
     requires idle { T.left steps.old ≡ Over }
     requires lawful { IsLawfulBlock (T.client steps.old) block }
-    ensures { HasRunBlock D.goes D.fault D.stopped T.client T.left (C.gives clock.now) desk.old desk.new steps.old steps.new (errand_of (T.client steps.old) block) result }
+    ensures run { HasRunBlock D.goes D.fault D.stopped T.client T.left (C.gives clock.now) desk.old desk.new steps.old steps.new (errand_of (T.client steps.old) block) result }
+    // The next block may begin.
+    ensures open { OnOk result (IsOpen (D.fault desk.new) (D.stopped desk.new)) }
+    ensures idle { OnOk result (T.left steps.new ≡ Over) }
 {
     steps.begin(alloc, block)?;
     say_all(alloc, desk, steps, clock)?;

@@ -47,13 +47,19 @@ pub record HasAside (words : Words) (trips : List RoundTrip) (core : AsideCore) 
   pub tells : StateTells trips core.state
 
 -- a reply is kept until it is told
+abbrev pub IsKept : Reply → AsideState → Type 0
+IsKept r (state.Saying command) = ⊥
+IsKept r (state.Over None) = ⊥
+IsKept r (state.Over (Some told)) = told.value ≡ r
+IsKept r state.Off = ⊥
+
 abbrev pub HasKeptReply : AsideCore → Reply → Result ⊤ ReplyFault → Type 0
-HasKeptReply new r (Ok u) = aside_left new ≡ Over × (aside_end new ≡ Some (Neutral (record { value = r })))
+HasKeptReply new r (Ok u) = IsKept r new.state
 HasKeptReply new r (Err (Refused given)) = ⊥
 HasKeptReply new r (Err Memory) = Unit {0}
 
 -- a reply was taken, or refused as an error
 abbrev pub AsideHeard : AsideCore → Reply → Result ⊤ ReplyFault → Type 0
-AsideHeard new r (Ok u) = (is_error r.answer ≡ false) × HasKeptReply new r (Ok u)
+AsideHeard new r (Ok u) = (is_error r.answer ≡ false) × IsKept r new.state
 AsideHeard new r (Err (Refused given)) = (is_error r.answer ≡ true) × (given ≡ r) × (new.state ≡ state.Off)
 AsideHeard new r (Err Memory) = Unit {0}

@@ -5,6 +5,7 @@ ghost use Rattle.command_blocks.specs.Scripts.{next_words};
 ghost use Rattle.client_core.specs.Asides.{AsideHeard, HasAside, HasKeptReply, aside_end, aside_left};
 ghost use Rattle.steps.specs.Goings.{is_idle};
 
+use crate::aside_words::AsideWords;
 use crate::asides::is_error;
 use block_core::ReplyFault;
 use std::alloc::{AllocError, Global};
@@ -29,19 +30,12 @@ pub(crate) enum AsideState {
     Off,
 }
 
-/// The words of such a command, within the limits of a command.
-#[derive(Drop)]
-pub(crate) struct AsideWords {
-    words: Words,
-    ghost limits: { IsWithinLimits words },
-}
-
 impl AsideCore {
 
     /// This command, which is within the limits of one.
     pub(crate) fn new(words: Words) -> AsideCore
         requires { IsWithinLimits words }
-        ensures { HasAside words [] result }
+        ensures had { HasAside words [] result }
         ensures end { aside_end result ≡ None }
     {
         AsideCore {

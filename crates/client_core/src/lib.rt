@@ -4,6 +4,7 @@
 #![tactic(auto)]
 
 mod aside;
+mod aside_words;
 mod asides;
 mod client;
 mod made;
