@@ -1,8 +1,9 @@
 -- A client begins a block.
-use Rattle.std.proofs.Common.{◌≡◌, ℕ, suc, ◌+◌, ◌<◌, ◌≤◌, ◌^◌, List, [], ◌∷◌, Bool, true, false, nat_lt, Option, None, Some, is_none, Result, Ok, Err, IsErrAnd, refl, sym, subst, ap, ◌∙◌, arith}
-use Rattle.std.specs.Prelude.{⊤, IfOk, cond, option_and_then}
+use Rattle.std.proofs.Common.{◌≡◌, ℕ, suc, ◌+◌, ◌<◌, ◌≤◌, ◌^◌, List, [], ◌∷◌, Bool, true, false, nat_lt, Option, None, Some, IsSome, is_none, Result, Ok, Err, IsErrAnd, refl, sym, subst, ap, ◌∙◌, arith}
+use Rattle.std.specs.Prelude.{⊤, IfOk, OnOk, cond, option_and_then}
 use Rattle.std.specs.Result.{result_ok}
 use Rattle.std.specs.declared.alloc.AllocError.{AllocError}
+use Rattle.wire_values.specs.declared.value.Value.{Value}
 use Rattle.std.proofs.lemmas.Bool.Decides.{nat_tests}
 use Rattle.std.proofs.lemmas.Slice.Eq.{bytes_eq-Decides}
 use Rattle.serde_json.specs.Data.{Data}
@@ -19,23 +20,29 @@ use Rattle.sealed_drafts.specs.declared.sealing.Draft.{Draft}
 use Rattle.block_laws.specs.Rows.{IsLawfulPlan}
 use Rattle.command_blocks.specs.Blocks.{CounterUse, Other, drawn, passes_after}
 use Rattle.command_blocks.specs.EnvelopeTexts.{plain_setting, tag_as_written}
-use Rattle.command_blocks.specs.Scripts.{Off, Over, Plan, Publish, Script, counter_use, script_of}
+use Rattle.command_blocks.specs.Scripts.{Off, Over, Say, Plan, Declare, Undeclare, Publish, Pop, End, Return, Pass, Script, asking_script, counter_use, pop_script, popping, pushes, script_of}
+use Rattle.command_blocks.specs.TakeBlocks.{IsPop}
 use Rattle.client_blocks.specs.Blocks.{script_left}
 use Rattle.client_blocks.specs.declared.left.BlockLeft.{BlockLeft}
 use Rattle.routes.specs.Declares.{declared_plan}
 use Rattle.routes.specs.Publishes.{IsPublishable}
 use Rattle.routes.specs.declared.declaration.Change.{Change}
 use Rattle.routes.specs.declared.declaration.Change.TheVariants.{Add, Remove}
-use Rattle.steps.specs.Begins.{drafted_errand, if_named, publish_errand, sealed_errand, way_name_fault}
+use Rattle.steps.specs.Begins.{drafted_errand, if_named, neutral_errand, publish_errand, sealed_errand, way_name_fault}
 use Rattle.steps.specs.Clients.{Client, next_tag_of}
-use Rattle.steps.specs.Errands.{Errand, Planned, Aside, client_after, errand_script}
+use Rattle.steps.specs.Errands.{Errand, Planned, Aside, IsLawfulErrand, client_after, errand_script}
+use Rattle.steps.specs.Neutrals.{is_neutral, is_neutral_pair, is_neutral_triple}
 use Rattle.steps.specs.Goings.{IsBegun}
 use Rattle.steps.specs.declared.begun.BeginFault.{BeginFault}
 use Rattle.steps.specs.declared.begun.BeginFault.TheVariants as fault
+use Rattle.client_core.specs.Asides.{HasAside}
+use Rattle.client_core.specs.declared.aside.AsideCore.{AsideCore}
+use Rattle.store_model.specs.Words.{Words}
+use Rattle.client_core.proofs.Neutral.{neutral_found}
 use Rattle.client_core.specs.Begun.{Began, IsMade, TookUp}
 use Rattle.client_core.specs.Laws.{left_trace}
 use Rattle.client_core.specs.Lefts.{LeftHad}
-use Rattle.client_core.specs.Works.{ClientHad, WorkHad, client_left, core_client, live_left}
+use Rattle.client_core.specs.Works.{ClientHad, WorkHad, client_ended, client_left, core_client, live_left}
 use Rattle.client_core.specs.declared.client.ClientCore.{ClientCore}
 use Rattle.client_core.specs.declared.work.Work.{Work}
 use Rattle.client_core.specs.declared.work.Work.TheVariants as work
@@ -126,3 +133,80 @@ declares_none Remove e r x q = refl
 -- without memory nothing was begun
 pub lacked_memory : (old new : ClientCore) (errand : Result Errand BeginFault) (e : AllocError) (result : Result ⊤ BeginFault) → TookUp old new (Err e) result → Began old new errand result
 lacked_memory old new errand e result h = subst (λ r. Began old new errand r) (sym h.1) (ap (λ s. s.spent) h.0)
+
+-- ---- passes and publications
+
+some_same : (m n : ℕ) → ◌≡◌ {A = Option ℕ} (Some m) (Some n) → m ≡ n
+some_same m n e = cc
+
+ok_err : {A B C : Type 0} {x : A} {y : B} → ◌≡◌ {A = Result A B} (Ok x) (Err y) → C
+ok_err e = absurd (cc e)
+
+pub pass_began : (old mid new : ClientCore) (v number : ℕ) (made : Result BlockLeft AllocError) → client_left old ≡ Over → TookUp old mid made (Ok tt) → number ≡ suc old.passes
+    → IfOk made (λ left. (c : Client) → c.seed ≡ old.seed → suc c.passes ≡ number → IsMade c (Pass v) left) → new ≡ record mid { passes = number } → Began old new (Ok (Planned (Pass v))) (Ok tt)
+pass_began old mid new v number (Ok left) idle h e made n =
+    (Planned (Pass v), refl, began_plan old new (Pass v) left (not_spent old idle) (made (core_client old) refl (sym e)) (ap (λ (s : ClientCore). s.spent) n ∙ ap (λ (s : ClientCore). s.spent) h.0) (ap (λ (s : ClientCore). s.work) n ∙ ap (λ (s : ClientCore). s.work) h.0)
+    (ap core_client n ∙ (λ i. record { seed = (h.0 i).seed; drawn = (h.0 i).drawn; passes = e i })))
+pass_began old mid new v number (Err f) idle h e made n = ok_err h.1
+
+pub send_began : (old mid new : ClientCore) (d : Data) (number : ℕ) (made : Result BlockLeft AllocError) → client_left old ≡ Over → TookUp old mid made (Ok tt) → number ≡ suc old.drawn → old.seed < 2 ^ 64 → number < 2 ^ 64
+    → envelope_at (compact_text d) ≡ Ok d → next_tag_of (core_client old) ≡ Some (parts_in d).tag
+    → IfOk made (λ left. (c : Client) → plain_setting.written_tag (compact_text d) ≡ Some (plain_setting.tag c.seed (suc c.drawn)) → IsMade c (Publish (compact_text d)) left) → new ≡ record mid { drawn = number } → Began old new (Ok (publish_errand d)) (Ok tt)
+send_began old mid new d number (Ok left) idle h e small low again tag made n =
+    let room : old.drawn + 1 < 2 ^ 64 = omega (arith, e, low) in
+    let is : (parts_in d).tag ≡ tag_number old.seed (suc old.drawn) = some_same (parts_in d).tag (tag_number old.seed (suc old.drawn)) (sym tag ∙ next_is (core_client old) room ∙ ap (λ m. Some (tag_number old.seed m)) (omega arith)) in
+    let top : suc old.drawn < 2 ^ 64 = omega (arith, e, low) in
+    (publish_errand d, refl, began_plan old new (Publish (compact_text d)) left (not_spent old idle) (made (core_client old) (written_is d old.seed (suc old.drawn) small top again is)) (ap (λ (s : ClientCore). s.spent) n ∙ ap (λ (s : ClientCore). s.spent) h.0) (ap (λ (s : ClientCore). s.work) n ∙ ap (λ (s : ClientCore). s.work) h.0)
+    (ap core_client n ∙ (λ i. record { seed = (h.0 i).seed; drawn = e i; passes = (h.0 i).passes })))
+send_began old mid new d number (Err f) idle h e small low again tag made n = ok_err h.1
+
+-- a command that concerns no message
+pub aside_began : (old new : ClientCore) (words : Words) (core : AsideCore) → client_left old ≡ Over → is_neutral words ≡ true → HasAside words [] core → new ≡ record old { work = work.Beside core } → Began old new (neutral_errand words) (Ok tt)
+aside_began old new words core idle e had n = (Aside words, ap (λ b. cond b (Ok (Aside words)) (Err fault.BadNeutral)) e, record {
+  client_is = ap core_client n;
+  left_is = ap client_left n ∙ ap (λ b. live_left b (work.Beside core)) (not_spent old idle) ∙ had.trace.left;
+  had_none = subst (λ s. ClientHad s (core_client old) (Aside words) []) (sym n) (record { live = not_spent old idle; lawful = neutral_found words e; had = had });
+})
+
+-- ---- nothing that was begun is over
+
+say_over : {w : ℕ → Words} {go : Value → Script} → Say w go ≡ Over → ⊥
+say_over e = cc
+
+pop_says : (names : List Bytes) (k : Bytes) (ks : List Bytes) → IsPop plain_setting names (k ∷ ks) → pop_script plain_setting names ≡ Over → ⊥
+pop_says names k ks l o = say_over (sym (ap (popping plain_setting) l.1) ∙ o)
+
+none_left : (s n p : ℕ) (plan : Plan) → IsLawfulPlan plain_setting s n plan → script_of plain_setting s p plan ≡ Over → ⊥
+none_left s n p (Declare e r x q) l o = say_over o
+none_left s n p (Undeclare e r x q) l o = say_over o
+none_left s n p (Publish v) l o = by (plain_setting.exchange_of v) refl o where
+  by : (x : Option Bytes) → plain_setting.exchange_of v ≡ x → asking_script plain_setting x (λ ms. pushes v (plain_setting.keys_for v ms)) ≡ Over → ⊥
+  by None e o = let k = l.key e in say_over (sym (ap (λ ks. pushes v ks) k.1) ∙ o)
+  by (Some x) e o = say_over o
+none_left s n p (Pop names) l o = pop_says names l.0 l.1 l.2 o
+none_left s n p (End t) l o = say_over o
+none_left s n p (Return side t) l o = say_over o
+none_left s n p (Pass v) l o = say_over o
+
+made_says : (c : Client) (plan : Plan) (left : BlockLeft) → IsMade c plan left → script_left left ≡ Over → ⊥
+made_says c plan left m o = none_left c.seed c.drawn c.passes plan m.lawful (sym (left_trace c.seed c.passes plan [] left m.had.1).left ∙ o)
+
+-- a client that took up a block has something to say
+pub took_up_says : (old new : ClientCore) (plan : Plan) (made : Result BlockLeft AllocError) (result : Result ⊤ BeginFault) → client_left old ≡ Over → IfOk made (IsMade (core_client old) plan) → TookUp old new made result → OnOk result (client_left new ≡ Over → IsSome (client_ended new))
+took_up_says old new plan (Ok left) result idle made h = subst (λ r. OnOk r (client_left new ≡ Over → IsSome (client_ended new))) (sym h.1)
+    (λ o. absurd (made_says (core_client old) plan left made (sym (ap client_left h.0 ∙ ap (λ b. live_left b (work.Block left)) (not_spent old idle)) ∙ o)))
+took_up_says old new plan (Err f) result idle made h = subst (λ r. OnOk r (client_left new ≡ Over → IsSome (client_ended new))) (sym h.1) tt
+
+-- so has one that began an errand
+errand_says : (c : Client) (errand : Errand) → IsLawfulErrand c errand → errand_script c errand ≡ Over → ⊥
+errand_says c (Planned plan) l o = none_left c.seed c.drawn c.passes plan l o
+errand_says c (Aside words) l o = say_over o
+
+pub began_says : (old new : ClientCore) (errand : Result Errand BeginFault) (result : Result ⊤ BeginFault) → Began old new errand result → OnOk result (client_left new ≡ Over → IsSome (client_ended new))
+began_says old new errand (Ok u) b = λ o. absurd (errand_says (core_client old) b.0 b.2.had_none.lawful (sym b.2.left_is ∙ o))
+began_says old new errand (Err f) b = tt
+
+-- what was made for each client was made for this one
+pub made_for : (made : Result BlockLeft AllocError) (plan : Plan) (c : Client) → IfOk made (λ left. (d : Client) → IsMade d plan left) → IfOk made (IsMade c plan)
+made_for (Ok left) plan c h = h c
+made_for (Err e) plan c h = tt

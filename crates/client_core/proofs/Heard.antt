@@ -42,7 +42,7 @@ module _ {S E X : Type 0} (left : S → Script) (had : Plan → List Call → S 
     by (Err (Refused given)) h = (goes (h.0 []), script_is y ∙ h.1, h.3)
     by (Err Memory) h = tt
 
-  Traced : BlockCore S E → BlockCore S E → ℕ → Reply → Result ⊤ ReplyFault → Type 0
+  abbrev Traced : BlockCore S E → BlockCore S E → ℕ → Reply → Result ⊤ ReplyFault → Type 0
   Traced old new at r result = (s p : ℕ) (plan : Plan) (calls : List Call) (words : Words) → HasHad left had tell s p plan calls old → next_words (core_left left old) at ≡ Some words → HasHadOn (HasHad left had tell s p plan) calls (call at words r.answer) new result
 
   traced_as : (x y : X) (at : ℕ) (r : Reply) (result : Result ⊤ ReplyFault) → Traced (v x) (v y) at r result

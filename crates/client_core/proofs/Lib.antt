@@ -1,3 +1,4 @@
 mod Heard
 mod Works
+mod Neutral
 mod Beginning

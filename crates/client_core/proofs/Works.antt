@@ -25,7 +25,9 @@ use Rattle.steps.specs.declared.ended.BlockEnd.{BlockEnd}
 use Rattle.steps.specs.declared.ended.BlockEnd.TheVariants as end
 use Rattle.client_core.specs.Asides.{AsideHeard, HasAside, aside_end, aside_left}
 use Rattle.client_core.specs.Asides as asides
-use Rattle.client_core.specs.Lefts.{CoreHad, HeardLeft, IsOfKind, LeftHad, LeftHadOn, left_end}
+use Rattle.returns.specs.Returns.{ReturnHad, TellsReturn}
+use Rattle.routes.specs.Publishes.{PublishHad, TellsPublish}
+use Rattle.client_core.specs.Lefts.{DeclareHad, DeclareTells, PopsHad, PopTells, EndHad, EndTells_, PassesHad, PassTells, CoreHad, HeardLeft, IsOfKind, LeftHad, LeftHadOn, left_end}
 use Rattle.client_core.specs.Works.{ClientHad, ClientHeard, HeardWork, WorkHad, WorkTaken, client_ended, client_left, core_client, lacked, live_end, live_left, work_end, work_left}
 use Rattle.client_core.specs.declared.aside.AsideCore.{AsideCore}
 use Rattle.client_core.specs.declared.aside.AsideState.{AsideState}
@@ -164,12 +166,12 @@ PlanTold plan calls e = (plan_kind plan ≡ end_kind e) × TellsPlan plan calls 
 
 left_tells : (s p : ℕ) (plan : Plan) (calls : List Call) (l : BlockLeft) → LeftHad s p plan calls l → IfSome (left_end l) (PlanTold plan calls)
 left_tells s p plan calls left.Over h = tt
-left_tells s p plan calls (left.Declare c) h = core_tells end.Declare (PlanTold plan calls) _ _ calls (λ e t. (h.0, t)) c.value.state h.1.tells
-left_tells s p plan calls (left.Publish c) h = core_tells end.Publish (PlanTold plan calls) _ _ calls (λ e t. (h.0, t)) c.value.state h.1.tells
-left_tells s p plan calls (left.Pop c) h = core_tells end.Pop (PlanTold plan calls) _ _ calls (λ e t. (h.0, t)) c.value.state h.1.tells
-left_tells s p plan calls (left.End c) h = core_tells end.End (PlanTold plan calls) _ _ calls (λ e t. (h.0, t)) c.value.state h.1.tells
-left_tells s p plan calls (left.Return c) h = core_tells end.Return (PlanTold plan calls) _ _ calls (λ e t. (h.0, t)) c.value.state h.1.tells
-left_tells s p plan calls (left.Pass c) h = core_tells end.Pass (PlanTold plan calls) _ _ calls (λ e t. (h.0, t)) c.value.state h.1.tells
+left_tells s p plan calls (left.Declare c) h = core_tells end.Declare (PlanTold plan calls) (DeclareHad plan) (DeclareTells plan) calls (λ e t. (h.0, t)) c.value.state h.1.tells
+left_tells s p plan calls (left.Publish c) h = core_tells end.Publish (PlanTold plan calls) (PublishHad plan) (TellsPublish plan) calls (λ e t. (h.0, t)) c.value.state h.1.tells
+left_tells s p plan calls (left.Pop c) h = core_tells end.Pop (PlanTold plan calls) (PopsHad plan) (PopTells plan) calls (λ e t. (h.0, t)) c.value.state h.1.tells
+left_tells s p plan calls (left.End c) h = core_tells end.End (PlanTold plan calls) (EndHad plan) (EndTells_ plan) calls (λ e t. (h.0, t)) c.value.state h.1.tells
+left_tells s p plan calls (left.Return c) h = core_tells end.Return (PlanTold plan calls) (ReturnHad plan) (TellsReturn plan) calls (λ e t. (h.0, t)) c.value.state h.1.tells
+left_tells s p plan calls (left.Pass c) h = core_tells end.Pass (PlanTold plan calls) (PassesHad plan) (PassTells plan) calls (λ e t. (h.0, t)) c.value.state h.1.tells
 
 aside_tells : (words : Words) (trips : List RoundTrip) (q : AsideState) → asides.StateTells trips q → IfSome (asides.state_end q) (EndTells (Aside words) trips)
 aside_tells words trips (aside.Saying command) t = tt

@@ -1,5 +1,5 @@
 //! A client whole.
-ghost use Rattle.std.specs.Prelude.{◌≡◌, ◌<◌, Some, None, false, OnOk, IfErr, IsSome, Ok, Err, alloc_error};
+ghost use Rattle.std.specs.Prelude.{◌≡◌, ◌<◌, Some, None, false, suc, OnOk, IfErr, IsSome, Ok, Err, alloc_error};
 ghost use Rattle.serde_json.specs.View.{view as data_of};
 ghost use Rattle.delivery_tags.specs.Tags.{tag_number};
 ghost use Rattle.envelope.specs.Envelopes.{parts_in};
@@ -112,6 +112,24 @@ impl ClientCore {
         let Some(counter) = self.drawn.checked_add(1) else {
             return self.lack();
         };
+        self.send_under(alloc, self.seed, counter, envelope)
+    }
+
+    /// Publishes an envelope that has the next tag, which is that of this seed and this counter.
+    fn send_under(
+        &mut self,
+        alloc: Global,
+        seed: u64,
+        counter: u64,
+        envelope: Envelope,
+    ) -> Result<(), BeginFault>
+        requires idle { client_left self.old ≡ Over }
+        requires seed { seed ≡ self.old.seed }
+        requires counter { counter ≡ suc self.old.drawn }
+        requires way { IsPublishable (data_of envelope) }
+        requires tag { next_tag_of (core_client self.old) ≡ Some (parts_in (data_of envelope)).tag }
+        ensures { Began self.old self.new (Ok (publish_errand (data_of envelope))) result }
+    {
         // The text is read again as the same envelope.
         let _text = envelope.text();
         self.take_up(publishing(alloc, envelope))?;
