@@ -1,5 +1,5 @@
 -- Round trips one after the other.
-use Rattle.std.proofs.Common.{◌≡◌, ◌⊎◌, Bool, true, false, Result, Ok, Err, IsErrAnd, IsSome, OnOk, inl, inr, ℕ, ◌<◌, ◌^◌, List, [], ◌∷◌, ◌++◌, map, Option, None, Some, refl, sym, subst, ap, ◌∙◌, append_assoc}
+use Rattle.std.proofs.Common.{◌≡◌, ◌⊎◌, Bool, true, false, Result, Ok, Err, IfErr, IsErrAnd, IsSome, OnOk, inl, inr, ℕ, ◌<◌, ◌≤◌, ◌^◌, arith, List, [], ◌∷◌, ◌++◌, map, Option, None, Some, refl, sym, subst, ap, ◌∙◌, append_assoc}
 use Rattle.std.proofs.lemmas.List.{append-nil}
 use Rattle.std.proofs.lemmas.Result.{err_from_is_err_and}
 use Rattle.std.specs.Prelude.{⊤}
@@ -12,7 +12,9 @@ use Rattle.block_laws.proofs.Traces.{first_trace, next_trace}
 use Rattle.block_core.specs.declared.fault.ReplyFault.{ReplyFault}
 use Rattle.block_core.specs.declared.fault.ReplyFault.TheVariants as taken
 use Rattle.desks.specs.Deeds.{Deed, DidAsk}
-use Rattle.desks.specs.Faults.{IsOpen}
+use Rattle.desks.specs.Faults.{HasShown, IsFaultOf, IsNotEnded, IsOpen, IsTimely, first_fault}
+use Rattle.desks.specs.declared.desk.DeskFault.TheVariants as desk_
+use Rattle.links.specs.Causes.{Rose}
 use Rattle.desks.specs.declared.desk.DeskFault.{DeskFault}
 use Rattle.sessions.specs.Talks.{IsClocked}
 use Rattle.steps.specs.Clients.{Client}
@@ -25,7 +27,7 @@ use Rattle.steps.specs.declared.begun.BeginFault.{BeginFault}
 use Rattle.steps.specs.declared.ended.BlockEnd.{BlockEnd}
 use Rattle.steps.specs.declared.begun.BeginFault.TheVariants as begin_
 use Rattle.block_runs.specs.Faults.{begin_fault, reply_fault}
-use Rattle.block_runs.specs.Runs.{AreClocked, HasRest, HasRunBlock, IsBlockTo, IsRestTo, HasSaid, HasSaidNext, HadMore, IsOn, WasAsked, trip_deed, trip_deeds}
+use Rattle.block_runs.specs.Runs.{AreClocked, IsDeskFault, HasRest, HasRunBlock, IsBlockTo, IsRestTo, HasSaid, HasSaidNext, HadMore, IsOn, WasAsked, trip_deed, trip_deeds}
 use Rattle.block_runs.specs.declared.fault.BlockFault.{BlockFault}
 use Rattle.block_runs.specs.declared.fault.BlockFault.TheVariants as fault_
 
@@ -92,7 +94,7 @@ pub refused_next : {D T : Type 0} (goes : D → List Deed → D → Type 0) (fau
     → HasSaidNext goes fault stopped left had ended at desk desk2 steps steps2 result
 refused_next goes fault stopped left spent had ended at desk desk2 steps steps2 words reply (taken.Refused given) result is asked is_open h =
     at_fault (HasSaidNext goes fault stopped left had ended at desk desk2 steps steps2) result (fault_.Refused given) is
-    (words, subst (λ r. WasAsked goes desk desk2 (left steps) at words r) (sym h.2) asked, is_open, ap (λ r. script_after (left steps) r) h.2 ∙ sym h.0 ∙ h.1)
+    (words, subst (λ r. WasAsked goes desk desk2 (left steps) at words r) (sym h.2) asked, is_open, ap (λ r. script_after (left steps) r) h.2 ∙ sym h.0 ∙ h.1, h.1)
 refused_next goes fault stopped left spent had ended at desk desk2 steps steps2 words reply taken.Memory result is asked is_open h =
     at_fault (HasSaidNext goes fault stopped left had ended at desk desk2 steps steps2) result fault_.Memory is (is_open, inr (words, reply, asked))
 
@@ -114,12 +116,12 @@ rest_stops {D} {T} goes joins gives fault stopped left had ended desk mid desk2 
 
   by : (f : BlockFault) → HasSaidNext goes fault stopped left had ended at mid desk2 midst steps2 (Err f) → HasRest goes fault stopped left had ended gives desk desk2 steps steps2 (Err f)
   by (fault_.Begin b) n = absurd n
-  by (fault_.Desk d) n = record { trips = trips; rest = left midst; said = said_none goes joins gives desk mid desk2 (left steps) (left midst) trips h n.0; come = (n.1, on); more = tt }
+  by (fault_.Desk d) n = record { trips = trips; rest = left midst; said = said_none goes joins gives desk mid desk2 (left steps) (left midst) trips h n.2; come = (n.3, ap left n.4, (at, n.0, n.1)); more = tt }
   by (fault_.Refused r) n = record {
     trips = trips ++ trip at n.0 r ∷ [];
     rest = script_after (left midst) r;
     said = asked n.0 r n.1;
-    come = (n.2, n.3, (trips, trip at n.0 r, refl, refl));
+    come = (n.2, n.4, n.3, (trips, trip at n.0 r, refl, refl));
     more = tt;
   }
   by fault_.Memory n = lacked n.0 n.1
@@ -152,9 +154,9 @@ run_whole goes gives fault stopped client left spent had ended says desk desk2 s
 pub run_stops : {D T : Type 0} (goes : D → List Deed → D → Type 0) (gives : ℕ → Type 0) (fault : D → Option DeskFault) (stopped : D → Bool) (client : T → Client) (left : T → Script) (spent : T → Bool) (had : T → Client → Errand → List RoundTrip → Type 0) (ended : T → Option BlockEnd)
     (says : (s : T) (c : Client) (errand : Errand) (trips : List RoundTrip) → had s c errand trips → HasSaidOf c errand trips (left s))
     (desk desk2 : D) (steps begun said : T) (errand : Result Errand BeginFault) (f : BlockFault) (result : Result BlockEnd BlockFault) → IsErrAnd result (λ x. x ≡ f)
-    → HasBegun client left had spent steps begun errand (Ok tt) → HasRest goes fault stopped left had ended gives desk desk2 begun said (Err f)
+    → HasBegun client left had spent steps begun errand (Ok tt) → HasRest goes fault stopped left had ended gives desk desk2 begun said (Err f) → client said ≡ client begun
     → HasRunBlock goes fault stopped client left gives desk desk2 steps said errand result
-run_stops {D} {T} goes gives fault stopped client left spent had ended says desk desk2 steps begun said errand f result is b r =
+run_stops {D} {T} goes gives fault stopped client left spent had ended says desk desk2 steps begun said errand f result is b r same =
     at_fault (HasRunBlock goes fault stopped client left gives desk desk2 steps said errand) result f is
     (subst (λ e. HasRunBlock goes fault stopped client left gives desk desk2 steps said e (Err f)) (sym b.1) (record {
       trips = r.trips;
@@ -165,8 +167,8 @@ run_stops {D} {T} goes gives fault stopped client left spent had ended says desk
     })) where
   by : (f : BlockFault) → IsRestTo (fault desk2) (stopped desk2) left ended said r.trips r.rest (Err f) → IsBlockTo (fault desk2) (stopped desk2) client left said (client steps) b.0 r.trips r.rest (Err f)
   by (fault_.Begin g) n = n
-  by (fault_.Desk d) n = n
-  by (fault_.Refused given) n = n
+  by (fault_.Desk d) n = (same ∙ b.2.client_is, n.0, n.1, n.2)
+  by (fault_.Refused given) n = (same ∙ b.2.client_is, n.0, n.1, n.2, n.3)
   by fault_.Memory n = n
 
 -- a block that wasn't begun
@@ -190,3 +192,60 @@ run_not_begun {D} {T} goes stays gives fault stopped client left spent had desk 
   by (begin_.Draft g) h = not (begin_.Draft g) h.0 h.1
   by begin_.BadNeutral h = not begin_.BadNeutral h.0 h.1
   by begin_.Memory h = lacked errand
+
+-- ---- faults of desks
+
+-- the desk didn't take the next command
+pub desk_next : {D T : Type 0} (goes : D → List Deed → D → Type 0) (fault : D → Option DeskFault) (stopped : D → Bool) (left : T → Script) (had : T → Client → Errand → List RoundTrip → Type 0) (ended : T → Option BlockEnd)
+    (at : ℕ) (desk desk2 : D) (steps : T) (words : Words) (f : DeskFault) (result : Result Bool BlockFault) → IsErrAnd result (λ x. x ≡ fault_.Desk f) → next_words (left steps) at ≡ Some words → goes desk [] desk2
+    → IsOpen (fault desk) (stopped desk) → HasShown {T = Reply} (fault desk) (stopped desk) (fault desk2) (stopped desk2) (Err f) → HasSaidNext goes fault stopped left had ended at desk desk2 steps steps result
+desk_next goes fault stopped left had ended at desk desk2 steps words f result is next go is_open shown =
+    at_fault (HasSaidNext goes fault stopped left had ended at desk desk2 steps steps) result (fault_.Desk f) is (words, next, go, shown.1 ∙ ap (λ o. first_fault o f) is_open.no_fault, refl)
+
+-- an open desk's fault isn't that it wasn't open
+timely_open : (fault : Option DeskFault) (stopped : Bool) (f : DeskFault) → IsOpen fault stopped → IsTimely fault stopped f → IsNotEnded f
+timely_open fault stopped f o t = subst (λ s. IsTimely None s f) o.no_stop (subst (λ x. IsTimely x stopped f) o.no_fault t)
+
+pub desk_kind : {X : Type 0} (remote shared : Bool) (a b c d : ℕ) (fault : Option DeskFault) (stopped : Bool) (f : DeskFault) (result : Result X BlockFault) → IsErrAnd result (λ x. x ≡ fault_.Desk f) → IsFaultOf remote shared a b c d f → IsOpen fault stopped → IsTimely fault stopped f → IfErr result (IsDeskFault remote shared a b c d)
+desk_kind remote shared a b c d fault stopped f result is kind o t = at_fault (λ r. IfErr r (IsDeskFault remote shared a b c d)) result (fault_.Desk f) is (kind, timely_open fault stopped f o t)
+
+-- a reply that wasn't taken is no desk's fault, nor is a block that wasn't begun
+pub taken_kind : {X : Type 0} (remote shared : Bool) (a b c d : ℕ) (f : ReplyFault) (result : Result X BlockFault) → IsErrAnd result (λ x. x ≡ reply_fault f) → IfErr result (IsDeskFault remote shared a b c d)
+taken_kind remote shared a b c d (taken.Refused given) result is = at_fault (λ r. IfErr r (IsDeskFault remote shared a b c d)) result (fault_.Refused given) is tt
+taken_kind remote shared a b c d taken.Memory result is = at_fault (λ r. IfErr r (IsDeskFault remote shared a b c d)) result fault_.Memory is tt
+
+pub begun_kind : {X : Type 0} (remote shared : Bool) (a b c d : ℕ) (f : BeginFault) (result : Result X BlockFault) → IsErrAnd result (λ x. x ≡ begin_fault f) → IfErr result (IsDeskFault remote shared a b c d)
+begun_kind {X} remote shared a b c d f result is = at_fault (λ r. IfErr r (IsDeskFault remote shared a b c d)) result (begin_fault f) is (by f) where
+  by : (f : BeginFault) → IsDeskFault remote shared a b c d (begin_fault f)
+  by begin_.NoTag = tt
+  by (begin_.Name g) = tt
+  by (begin_.Draft g) = tt
+  by begin_.BadNeutral = tt
+  by begin_.Memory = tt
+
+-- a fault handed on is of its kind
+pub handed_kind : {X : Type 0} (remote shared : Bool) (a b c d : ℕ) (f : BlockFault) (result : Result X BlockFault) → IsErrAnd result (λ x. x ≡ f) → IsDeskFault remote shared a b c d f → IfErr result (IsDeskFault remote shared a b c d)
+handed_kind remote shared a b c d f result is kind = at_fault (λ r. IfErr r (IsDeskFault remote shared a b c d)) result f is kind
+
+-- a count that rose later rose
+rose_before : (a b c : ℕ) → a ≤ b → Rose b c → Rose a c
+rose_before a b c l r = ?
+
+-- counts before are lower
+pub earlier_kind : (remote shared : Bool) (a b c d e f : ℕ) (g : BlockFault) → a ≤ b → d ≤ e → IsDeskFault remote shared b c e f g → IsDeskFault remote shared a c d f g
+earlier_kind remote shared a b c d e f (fault_.Begin x) l m k = tt
+earlier_kind remote shared a b c d e f (fault_.Refused x) l m k = tt
+earlier_kind remote shared a b c d e f fault_.Memory l m k = tt
+earlier_kind remote shared a b c d e f (fault_.Desk g) l m k = (by g k.0, k.1) where
+  rose : Rose b c ⊎ Rose e f → Rose a c ⊎ Rose d f
+  rose (inl x) = inl (rose_before a b c l x)
+  rose (inr x) = inr (rose_before d e f m x)
+
+  by : (g : DeskFault) → IsFaultOf remote shared b c e f g → IsFaultOf remote shared a c d f g
+  by desk_.Link k = (k.0, rose k.1)
+  by (desk_.Wire x y) k = k
+  by desk_.Flood k = k
+  by (desk_.Full x y) k = k
+  by desk_.Closed k = k
+  by desk_.Ended k = tt
+  by desk_.Memory k = tt

@@ -5,7 +5,7 @@ use Rattle.store_model.specs.declared.reply.Reply.{Reply}
 use Rattle.command_blocks.specs.Scripts.{Script, Over, Off, next_words}
 use Rattle.block_laws.specs.Traces.{IsTrace}
 use Rattle.desks.specs.Deeds.{Deed, DidAsk}
-use Rattle.desks.specs.Faults.{IsOpen}
+use Rattle.desks.specs.Faults.{IsFaultOf, IsNotEnded, IsOpen}
 use Rattle.desks.specs.declared.desk.DeskFault.{DeskFault}
 use Rattle.sessions.specs.Talks.{IsClocked}
 use Rattle.steps.specs.Clients.{Client}
@@ -40,6 +40,17 @@ pub record HasSaid {D : Type 0} (goes : D → List Deed → D → Type 0) (gives
 abbrev pub EndsWith : List RoundTrip → Reply → Type 0
 EndsWith trips reply = (before : List RoundTrip) × (t : RoundTrip) × (trips ≡ before ++ t ∷ []) × (t.reply ≡ reply)
 
+-- a command was next, which the desk didn't take
+abbrev pub IsCut : Script → Type 0
+IsCut rest = (at : ℕ) × (words : Words) × (next_words rest at ≡ Some words)
+
+-- a fault that a desk gave in a block came as each of its faults does, by what its link's counts were before the block and after it, and it isn't that the desk wasn't open
+abbrev pub IsDeskFault : Bool → Bool → ℕ → ℕ → ℕ → ℕ → BlockFault → Type 0
+IsDeskFault remote shared faults faults2 ends ends2 (Begin f) = Unit {0}
+IsDeskFault remote shared faults faults2 ends ends2 (Desk f) = IsFaultOf remote shared faults faults2 ends ends2 f × IsNotEnded f
+IsDeskFault remote shared faults faults2 ends ends2 (Refused given) = Unit {0}
+IsDeskFault remote shared faults faults2 ends ends2 Memory = Unit {0}
+
 -- whatever a client had before, it had these round trips more
 abbrev pub HadMore : {T : Type 0} → (T → Client → Errand → List RoundTrip → Type 0) → T → T → List RoundTrip → Type 0
 HadMore had steps steps2 trips = (c : Client) (errand : Errand) (before : List RoundTrip) → had steps c errand before → had steps2 c errand (before ++ trips)
@@ -63,8 +74,8 @@ abbrev pub HasSaidNext : {D T : Type 0} → (D → List Deed → D → Type 0) �
 HasSaidNext goes fault stopped left had ended at desk desk2 steps steps2 (Ok true) = (words : Words) × (reply : Reply) × WasAsked goes desk desk2 (left steps) at words reply × IsOpen (fault desk2) (stopped desk2) × IsOn left had ended steps steps2 (trip at words reply)
 HasSaidNext goes fault stopped left had ended at desk desk2 steps steps2 (Ok false) = (next_words (left steps) at ≡ None) × (desk2 ≡ desk) × (steps2 ≡ steps)
 HasSaidNext goes fault stopped left had ended at desk desk2 steps steps2 (Err (Begin f)) = ⊥
-HasSaidNext goes fault stopped left had ended at desk desk2 steps steps2 (Err (Desk f)) = goes desk [] desk2 × (fault desk2 ≡ Some f)
-HasSaidNext goes fault stopped left had ended at desk desk2 steps steps2 (Err (Refused given)) = (words : Words) × WasAsked goes desk desk2 (left steps) at words given × IsOpen (fault desk2) (stopped desk2) × (script_after (left steps) given ≡ Off)
+HasSaidNext goes fault stopped left had ended at desk desk2 steps steps2 (Err (Desk f)) = (words : Words) × (next_words (left steps) at ≡ Some words) × goes desk [] desk2 × (fault desk2 ≡ Some f) × (steps2 ≡ steps)
+HasSaidNext goes fault stopped left had ended at desk desk2 steps steps2 (Err (Refused given)) = (words : Words) × WasAsked goes desk desk2 (left steps) at words given × IsOpen (fault desk2) (stopped desk2) × (script_after (left steps) given ≡ Off) × (left steps2 ≡ Off)
 HasSaidNext goes fault stopped left had ended at desk desk2 steps steps2 (Err Memory) = IsOpen (fault desk2) (stopped desk2) × (goes desk [] desk2 ⊎ ((words : Words) × (reply : Reply) × WasAsked goes desk desk2 (left steps) at words reply))
 
 -- ---- the rest of a block
@@ -73,8 +84,8 @@ HasSaidNext goes fault stopped left had ended at desk desk2 steps steps2 (Err Me
 abbrev pub IsRestTo : {T : Type 0} → Option DeskFault → Bool → (T → Script) → (T → Option BlockEnd) → T → List RoundTrip → Script → Result ⊤ BlockFault → Type 0
 IsRestTo fault stopped left ended steps2 trips rest (Ok u) = IsOpen fault stopped × (left steps2 ≡ Over) × (rest ≡ Over) × IsSome (ended steps2)
 IsRestTo fault stopped left ended steps2 trips rest (Err (Begin f)) = ⊥
-IsRestTo fault stopped left ended steps2 trips rest (Err (Desk f)) = (fault ≡ Some f) × (rest ≡ Off → ⊥)
-IsRestTo fault stopped left ended steps2 trips rest (Err (Refused given)) = IsOpen fault stopped × (rest ≡ Off) × EndsWith trips given
+IsRestTo fault stopped left ended steps2 trips rest (Err (Desk f)) = (fault ≡ Some f) × (left steps2 ≡ rest) × IsCut rest
+IsRestTo fault stopped left ended steps2 trips rest (Err (Refused given)) = IsOpen fault stopped × (left steps2 ≡ Off) × (rest ≡ Off) × EndsWith trips given
 IsRestTo fault stopped left ended steps2 trips rest (Err Memory) = IsOpen fault stopped
 
 -- what was left was said, whole or in front
@@ -91,8 +102,8 @@ pub record HasRest {D T : Type 0} (goes : D → List Deed → D → Type 0) (fau
 abbrev pub IsBlockTo : {T : Type 0} → Option DeskFault → Bool → (T → Client) → (T → Script) → T → Client → Errand → List RoundTrip → Script → Result BlockEnd BlockFault → Type 0
 IsBlockTo fault stopped client left steps2 c errand trips rest (Ok end) = IsLawfulErrand c errand × IsOpen fault stopped × (client steps2 ≡ client_after c errand) × (left steps2 ≡ Over) × (rest ≡ Over) × EndTells errand trips end
 IsBlockTo fault stopped client left steps2 c errand trips rest (Err (Begin f)) = ⊥
-IsBlockTo fault stopped client left steps2 c errand trips rest (Err (Desk f)) = (fault ≡ Some f) × (rest ≡ Off → ⊥)
-IsBlockTo fault stopped client left steps2 c errand trips rest (Err (Refused given)) = IsOpen fault stopped × (rest ≡ Off) × EndsWith trips given
+IsBlockTo fault stopped client left steps2 c errand trips rest (Err (Desk f)) = (client steps2 ≡ client_after c errand) × (fault ≡ Some f) × (left steps2 ≡ rest) × IsCut rest
+IsBlockTo fault stopped client left steps2 c errand trips rest (Err (Refused given)) = (client steps2 ≡ client_after c errand) × IsOpen fault stopped × (left steps2 ≡ Off) × (rest ≡ Off) × EndsWith trips given
 IsBlockTo fault stopped client left steps2 c errand trips rest (Err Memory) = IsOpen fault stopped
 
 -- an errand was said at the desk, whole where it ended, else in front; it is lawful, where anything was asked

@@ -1,14 +1,14 @@
 //! The commands of a block, one after the other.
-ghost use Rattle.std.specs.Prelude.{List as Listed, IsSome, OnOk, Some, ◌<◌, ◌≡◌};
+ghost use Rattle.std.specs.Prelude.{List as Listed, IfErr, IsSome, OnOk, Some, ◌<◌, ◌≡◌};
 ghost use Rattle.store_model.specs.Limits.{moment_limit};
 ghost use Rattle.command_blocks.specs.Scripts.{Over, Off};
-ghost use Rattle.desks.specs.Faults.{IsOpen};
+ghost use Rattle.desks.specs.Faults.{HasCounts, IsOpen};
 ghost use Rattle.steps.specs.Begins.{IsLawfulBlock, errand_of};
 ghost use Rattle.steps.specs.Clients.{Client};
 ghost use Rattle.steps.specs.Ends.{EndTells};
 ghost use Rattle.steps.specs.Errands.{Errand};
 ghost use Rattle.steps.specs.Trips.{RoundTrip};
-ghost use Rattle.block_runs.specs.Runs.{HasRest, HasRunBlock, HasSaidNext};
+ghost use Rattle.block_runs.specs.Runs.{IsDeskFault, HasRest, HasRunBlock, HasSaidNext};
 
 use crate::BlockFault;
 use desks::Desk;
@@ -37,6 +37,9 @@ pub fn run_block<D: Desk, T: Steps, C: Clock>(
     // The next block may begin.
     ensures open { OnOk result (IsOpen (D.fault desk.new) (D.stopped desk.new)) }
     ensures idle { OnOk result (T.left steps.new ≡ Over) }
+    // A fault of the desk comes as each of its faults does.
+    ensures counts { HasCounts (D.faults desk.old) (D.faults desk.new) (D.ends desk.old) (D.ends desk.new) }
+    ensures kinds { IfErr result (IsDeskFault D.remote D.shared (D.faults desk.old) (D.faults desk.new) (D.ends desk.old) (D.ends desk.new)) }
 {
     steps.begin(alloc, block)?;
     say_all(alloc, desk, steps, clock)?;
@@ -55,6 +58,8 @@ fn say_all<D: Desk, T: Steps, C: Clock>(
     requires end { T.left steps.old ≡ Over → IsSome (T.ended steps.old) }
     ensures said { HasRest D.goes D.fault D.stopped T.left T.had T.ended (C.gives clock.now) desk.old desk.new steps.old steps.new result }
     ensures client { T.client steps.new ≡ T.client steps.old }
+    ensures counts { HasCounts (D.faults desk.old) (D.faults desk.new) (D.ends desk.old) (D.ends desk.new) }
+    ensures kinds { IfErr result (IsDeskFault D.remote D.shared (D.faults desk.old) (D.faults desk.new) (D.ends desk.old) (D.ends desk.new)) }
 {
     'more: for _ in 0..u64::MAX {
         let at = store_moment(clock.now());
@@ -78,6 +83,8 @@ fn say_next<D: Desk, T: Steps>(
     requires open { IsOpen (D.fault desk.old) (D.stopped desk.old) }
     ensures said { HasSaidNext D.goes D.fault D.stopped T.left T.had T.ended at desk.old desk.new steps.old steps.new result }
     ensures client { T.client steps.new ≡ T.client steps.old }
+    ensures counts { HasCounts (D.faults desk.old) (D.faults desk.new) (D.ends desk.old) (D.ends desk.new) }
+    ensures kinds { IfErr result (IsDeskFault D.remote D.shared (D.faults desk.old) (D.faults desk.new) (D.ends desk.old) (D.ends desk.new)) }
 {
     let Some(words) = steps.next(alloc, at)? else {
         return Ok(false);
