@@ -1,5 +1,5 @@
 -- A client begins a block.
-use Rattle.std.proofs.Common.{◌≡◌, ℕ, suc, ◌+◌, ◌<◌, ◌≤◌, ◌^◌, List, [], ◌∷◌, Bool, true, false, nat_lt, Option, None, Some, IsSome, is_none, Result, Ok, Err, IsErrAnd, refl, sym, subst, ap, ◌∙◌, arith}
+use Rattle.std.proofs.Common.{◌≡◌, ℕ, suc, ◌+◌, ◌<◌, ◌≤◌, ◌^◌, List, [], ◌∷◌, Bool, true, false, nat_lt, Option, None, Some, IsSome, is_none, Result, Ok, Err, refl, sym, subst, ap, ◌∙◌, arith}
 use Rattle.std.specs.Prelude.{⊤, IfOk, OnOk, cond, option_and_then}
 use Rattle.std.specs.Result.{result_ok}
 use Rattle.std.specs.declared.alloc.AllocError.{AllocError}
@@ -9,16 +9,14 @@ use Rattle.std.proofs.lemmas.Slice.Eq.{bytes_eq-Decides}
 use Rattle.serde_json.specs.Data.{Data}
 use Rattle.serde_json.specs.Written.{compact_text}
 use Rattle.delivery_tags.specs.Tags.{tag, tag_number, tag_text}
-use Rattle.envelope.specs.Envelopes.{Parts, envelope_at, parts_in, parts_or_none, said_by}
+use Rattle.envelope.specs.Envelopes.{Parts, envelope_at, parts_in, parts_or_none}
 use Rattle.envelope_laws.proofs.SealsSay.{seals_say}
-use Rattle.envelope_trees.specs.declared.fault.EnvelopeFault.{EnvelopeFault}
 use Rattle.queue_keys.proofs.NameFaults.{lawful_none}
-use Rattle.queue_keys.specs.NameFaults.{name_fault}
 use Rattle.queue_keys.specs.Names.{Bytes, is_name, same}
 use Rattle.sealed_drafts.specs.Sealed.{seal_of}
 use Rattle.sealed_drafts.specs.declared.sealing.Draft.{Draft}
 use Rattle.block_laws.specs.Rows.{IsLawfulPlan}
-use Rattle.command_blocks.specs.Blocks.{CounterUse, Other, drawn, passes_after}
+use Rattle.command_blocks.specs.Blocks.{Other, drawn, passes_after}
 use Rattle.command_blocks.specs.EnvelopeTexts.{plain_setting, tag_as_written}
 use Rattle.command_blocks.specs.Scripts.{Off, Over, Say, Plan, Declare, Undeclare, Publish, Pop, End, Return, Pass, Script, asking_script, counter_use, pop_script, popping, pushes, script_of}
 use Rattle.command_blocks.specs.TakeBlocks.{IsPop}
@@ -31,7 +29,7 @@ use Rattle.routes.specs.declared.declaration.Change.TheVariants.{Add, Remove}
 use Rattle.steps.specs.Begins.{drafted_errand, if_named, neutral_errand, publish_errand, sealed_errand, way_name_fault}
 use Rattle.steps.specs.Clients.{Client, next_tag_of}
 use Rattle.steps.specs.Errands.{Errand, Planned, Aside, IsLawfulErrand, client_after, errand_script}
-use Rattle.steps.specs.Neutrals.{is_neutral, is_neutral_pair, is_neutral_triple}
+use Rattle.steps.specs.Neutrals.{is_neutral}
 use Rattle.steps.specs.Goings.{IsBegun}
 use Rattle.steps.specs.declared.begun.BeginFault.{BeginFault}
 use Rattle.steps.specs.declared.begun.BeginFault.TheVariants as fault
@@ -41,10 +39,8 @@ use Rattle.store_model.specs.Words.{Words}
 use Rattle.client_core.proofs.Neutral.{neutral_found}
 use Rattle.client_core.specs.Begun.{Began, IsMade, TookUp}
 use Rattle.client_core.specs.Laws.{left_trace}
-use Rattle.client_core.specs.Lefts.{LeftHad}
 use Rattle.client_core.specs.Works.{ClientHad, WorkHad, client_ended, client_left, core_client, live_left}
 use Rattle.client_core.specs.declared.client.ClientCore.{ClientCore}
-use Rattle.client_core.specs.declared.work.Work.{Work}
 use Rattle.client_core.specs.declared.work.Work.TheVariants as work
 
 -- ---- ways and tags

@@ -1,10 +1,9 @@
 -- A client goes on by replies, and tells its ends.
-use Rattle.std.proofs.Common.{◌≡◌, ℕ, ◌<◌, ◌^◌, List, [], ◌∷◌, ◌++◌, map, Bool, true, false, Option, None, Some, IsSome, IfSome, Result, Ok, Err, refl, sym, subst, ap, ◌∙◌}
-use Rattle.std.specs.Prelude.{⊤, OnOk, option_map, if◌then◌else◌, cond}
+use Rattle.std.proofs.Common.{◌≡◌, ℕ, ◌<◌, ◌^◌, List, [], ◌∷◌, ◌++◌, map, Bool, true, false, None, Some, IsSome, IfSome, Result, Ok, Err, refl, sym, subst, ap, ◌∙◌}
+use Rattle.std.specs.Prelude.{⊤, OnOk, option_map, cond}
 use Rattle.store_model.specs.Words.{Words}
 use Rattle.store_model.specs.declared.reply.Reply.{Reply}
-use Rattle.block_core.specs.Cores.{HasHad, StateTells, core_end, state_end}
-use Rattle.block_core.specs.declared.block.BlockCore.{BlockCore}
+use Rattle.block_core.specs.Cores.{StateTells, state_end}
 use Rattle.block_core.specs.declared.block.CoreState.{CoreState}
 use Rattle.block_core.specs.declared.block.CoreState.TheVariants as core
 use Rattle.block_core.specs.declared.fault.ReplyFault.{ReplyFault}
@@ -17,8 +16,8 @@ use Rattle.command_blocks.specs.Scripts.{Plan, Script, Over, Off, Say, after_cal
 use Rattle.client_blocks.specs.declared.left.BlockLeft.{BlockLeft}
 use Rattle.client_blocks.specs.declared.left.BlockLeft.TheVariants as left
 use Rattle.steps.specs.Clients.{Client}
-use Rattle.steps.specs.Ends.{BlockKind, EndTells, HasReplied, TellsPlan, end_kind, plan_kind}
-use Rattle.steps.specs.Errands.{Errand, Planned, Aside, aside_script, on_no_error}
+use Rattle.steps.specs.Ends.{EndTells, TellsPlan, end_kind, plan_kind}
+use Rattle.steps.specs.Errands.{Errand, Planned, Aside, aside_script}
 use Rattle.steps.specs.Goings.{HasHeard, HasHeardOn, script_after}
 use Rattle.steps.specs.Trips.{RoundTrip, trip, trip_call, trip_calls}
 use Rattle.steps.specs.declared.ended.BlockEnd.{BlockEnd}
@@ -27,8 +26,8 @@ use Rattle.client_core.specs.Asides.{AsideHeard, HasAside, aside_end, aside_left
 use Rattle.client_core.specs.Asides as asides
 use Rattle.returns.specs.Returns.{ReturnHad, TellsReturn}
 use Rattle.routes.specs.Publishes.{PublishHad, TellsPublish}
-use Rattle.client_core.specs.Lefts.{DeclareHad, DeclareTells, PopsHad, PopTells, EndHad, EndTells_, PassesHad, PassTells, CoreHad, HeardLeft, IsOfKind, LeftHad, LeftHadOn, left_end}
-use Rattle.client_core.specs.Works.{ClientHad, ClientHeard, HeardWork, WorkHad, WorkTaken, client_ended, client_left, core_client, lacked, live_end, live_left, work_end, work_left}
+use Rattle.client_core.specs.Lefts.{DeclareHad, DeclareTells, PopsHad, PopTells, EndHad, EndTells_, PassesHad, PassTells, HeardLeft, LeftHad, LeftHadOn, left_end}
+use Rattle.client_core.specs.Works.{ClientHad, ClientHeard, HeardWork, WorkHad, WorkTaken, client_ended, client_left, lacked, live_end, live_left, work_end, work_left}
 use Rattle.client_core.specs.declared.aside.AsideCore.{AsideCore}
 use Rattle.client_core.specs.declared.aside.AsideState.{AsideState}
 use Rattle.client_core.specs.declared.aside.AsideState.TheVariants as aside

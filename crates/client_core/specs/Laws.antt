@@ -1,8 +1,7 @@
 -- What holds of each client. Serves the proofs of code.
-use Rattle.std.specs.Prelude.{◌≡◌, ℕ, Bool, true, false, refl, List, Option, None, Some, option_map}
-use Rattle.std.proofs.Common.{ap, sym, subst, ◌∙◌}
-use Rattle.block_core.specs.Cores.{HasHad, core_end, core_left, state_end, state_left}
-use Rattle.block_core.specs.declared.block.BlockCore.{BlockCore}
+use Rattle.std.specs.Prelude.{◌≡◌, ℕ, Bool, true, false, refl, List, None, Some, option_map}
+use Rattle.std.proofs.Common.{ap, sym, subst}
+use Rattle.block_core.specs.Cores.{state_end, state_left}
 use Rattle.block_core.specs.declared.block.CoreState.{CoreState}
 use Rattle.block_core.specs.declared.block.CoreState.TheVariants as core
 use Rattle.block_laws.specs.Traces.{IsTrace}

@@ -1,4 +1,4 @@
-use Rattle.std.proofs.Common.{◌≡◌, ◌<◌, ◌^◌, Ok, sym, subst, arith}
+use Rattle.std.proofs.Common.{◌≡◌, ◌<◌, ◌^◌, Ok, subst, arith}
 use Rattle.delivery_tags.specs.Tags.{tag_number}
 use Rattle.sealed_drafts.specs.Sealed.{seal_of}
 use Rattle.serde_json.specs.View.{view as data_of}

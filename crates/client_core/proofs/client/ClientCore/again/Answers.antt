@@ -1,4 +1,4 @@
-use Rattle.std.proofs.Common.{refl, sym, ap, ◌∙◌}
+use Rattle.std.proofs.Common.{sym}
 use Rattle.serde_json.specs.View.{view as data_of}
 use Rattle.client_core.proofs.Beginning.{publishable}
 use Rattle.client_core.proofs.client.ClientCore.again.Goals as goal

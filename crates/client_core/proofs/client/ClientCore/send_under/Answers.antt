@@ -1,4 +1,4 @@
-use Rattle.std.proofs.Common.{◌≡◌, ◌<◌, ◌^◌, refl, sym, subst, ap, ◌∙◌}
+use Rattle.std.proofs.Common.{◌≡◌, ◌<◌, ◌^◌, refl, subst}
 use Rattle.std.proofs.Common.{Ok}
 use Rattle.envelope.specs.Envelopes.{envelope_at}
 use Rattle.serde_json.specs.View.{view as data_of}
