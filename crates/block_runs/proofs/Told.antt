@@ -229,7 +229,7 @@ handed_kind remote shared a b c d f result is kind = at_fault (λ r. IfErr r (Is
 
 -- a count that rose later rose
 rose_before : (a b c : ℕ) → a ≤ b → Rose b c → Rose a c
-rose_before a b c l r = ?
+rose_before a b c l r = omega (arith, l, r)
 
 -- counts before are lower
 pub earlier_kind : (remote shared : Bool) (a b c d e f : ℕ) (g : BlockFault) → a ≤ b → d ≤ e → IsDeskFault remote shared b c e f g → IsDeskFault remote shared a c d f g

@@ -1,7 +1,7 @@
-use Rattle.std.proofs.Common.{◌≡◌, ◌++◌, ◌∷◌, [], Ok, true, sym, subst, ◌∙◌}
+use Rattle.std.proofs.Common.{◌≡◌, ◌++◌, ◌∷◌, [], Ok, true, arith, sym, subst, ◌∙◌}
 use Rattle.steps.specs.Trips.{trip}
 use Rattle.block_runs.specs.Runs.{HasSaid, HasSaidNext}
-use Rattle.block_runs.proofs.Told.{had_more, rest_stops, said_on}
+use Rattle.block_runs.proofs.Told.{earlier_kind, had_more, handed_kind, rest_stops, said_on}
 use Rattle.block_runs.proofs.saying.say_all.Goals as goal
 
 pub returns-in_err-is_on-clause-said : goal.returns-in_err-is_on-clause-said
@@ -22,5 +22,14 @@ more-preserved g c =
       is_open = n.3;
       client = c.in_ok-is_on.ensures.client ∙ i.client;
       on = n.4.on;
+      counts = record { later_faults = omega (arith, i.counts.later_faults, c.in_ok-is_on.ensures.counts.later_faults); later_ends = omega (arith, i.counts.later_ends, c.in_ok-is_on.ensures.counts.later_ends) };
       end = n.4.end;
     }
+
+pub returns-in_err-is_on-clause-kinds : goal.returns-in_err-is_on-clause-kinds
+returns-in_err-is_on-clause-kinds g c =
+    let i = c.more.invariant in
+    let faults = g.D.Desk.faults in
+    let ends = g.D.Desk.ends in
+    handed_kind g.D.Desk.remote g.D.Desk.shared (faults c.args.desk.now) (faults c.say_next.new.desk) (ends c.args.desk.now) (ends c.say_next.new.desk) c.in_err-is_on.field-0.0 c.from_residual.result c.from_residual.ensures.1
+    (earlier_kind g.D.Desk.remote g.D.Desk.shared (faults c.args.desk.now) (faults c.more.desk) (faults c.say_next.new.desk) (ends c.args.desk.now) (ends c.more.desk) (ends c.say_next.new.desk) c.in_err-is_on.field-0.0 i.counts.later_faults i.counts.later_ends c.in_err-is_on.ensures.kinds)

@@ -1,6 +1,6 @@
 use Rattle.std.proofs.Common.{◌≡◌, List, IsSome}
 use Rattle.command_blocks.specs.Scripts.{Over, Off}
-use Rattle.desks.specs.Faults.{IsOpen}
+use Rattle.desks.specs.Faults.{HasCounts, IsOpen}
 use Rattle.steps.specs.Trips.{RoundTrip}
 use Rattle.block_runs.specs.Runs.{HasSaid, HadMore}
 use Rattle.block_runs.proofs.saying.say_all.Given as goal
@@ -12,5 +12,6 @@ invariant-more g l = record {
   is_open : IsOpen (g.D.Desk.fault l.desk) (g.D.Desk.stopped l.desk);
   client : g.T.Steps.client l.steps ≡ g.T.Steps.client l.fn.steps;
   on : g.T.Steps.left l.steps ≡ Off → ⊥;
+  counts : HasCounts (g.D.Desk.faults l.fn.desk) (g.D.Desk.faults l.desk) (g.D.Desk.ends l.fn.desk) (g.D.Desk.ends l.desk);
   end : g.T.Steps.left l.steps ≡ Over → IsSome (g.T.Steps.ended l.steps);
 }
