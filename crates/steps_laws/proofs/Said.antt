@@ -17,7 +17,7 @@ use Rattle.command_blocks.specs.Scripts.{Script, Over, Off, Say, after_call, res
 use Rattle.command_blocks.specs.Setting.{IsLawful}
 use Rattle.block_laws.specs.Rows.{AreTimely, IsGood}
 use Rattle.block_laws.specs.Traces.{IsTrace, IsFrontOf}
-use Rattle.block_laws.proofs.Fronts.{BlocksTo, IsPutOff, end_of, good_on, part_front, rest-append, rest_good, said-append, timely-append}
+use Rattle.block_laws.proofs.Fronts.{BlocksTo, IsPutOff, end_of, good_on, part_front, rest-append, rest_good, said-append, timely-append, whole_front}
 use Rattle.block_laws.proofs.PlanRows.{plan_row}
 use Rattle.block_laws.proofs.Said.{plan_off}
 use Rattle.block_laws.proofs.Talks.{Talks, off_talks, over_talks, say_talks, says_on, talks}
@@ -78,11 +78,11 @@ off_ends : (l : List Call) → rest_of Off l ≡ Off
 off_ends [] = refl
 off_ends (x ∷ xs) = off_ends xs
 
-head_or : List Call → Call → Call
+abbrev head_or : List Call → Call → Call
 head_or [] y = y
 head_or (x ∷ xs) y = x
 
-tail_of : List Call → List Call
+abbrev tail_of : List Call → List Call
 tail_of [] = []
 tail_of (x ∷ xs) = xs
 
@@ -162,6 +162,7 @@ timely_all c [] d h = tt
 timely_all c (e ∷ es) d h = timely-append e.calls (said_calls es) h.1.timely (timely_all (client_after c e.errand) es d h.2)
 
 decides : (s : ℕ) (l : List Call) → AreTimely l → IsFrontOfBlocks plain_setting s l ⊎ (IsFrontOfBlocks plain_setting s l → ⊥)
+unfolding same
 decides = fronts_decided plain_setting (exchange_of_key plain) plain_lawful (readable plain refl)
 
 module _ (s : ℕ) (es : List ErrandSaid) (c : Client) (errand : Errand) (calls : List Call) (left : Script) (before : AreSaid (new_client s) es c) (lawful : IsLawfulErrand c errand) (t : IsTrace (errand_script c errand) calls left) where
@@ -171,7 +172,7 @@ module _ (s : ℕ) (es : List ErrandSaid) (c : Client) (errand : Errand) (calls 
   abbrev its_script : Script
   its_script = errand_script c errand
 
-  all : List Call
+  abbrev all : List Call
   all = said_calls es ++ calls
 
   bs : AreBlocksOf (new_client s) es c
@@ -217,3 +218,7 @@ module _ (s : ℕ) (es : List ErrandSaid) (c : Client) (errand : Errand) (calls 
     by (inl g) = let e = end_of (rest_of its_script calls) g in
         inl (part calls e.0 (timely-append calls e.0 t.timely e.1) (said-append its_script calls e.0 t.said e.2) (rest-append its_script calls e.0 ∙ e.3))
     by (inr h) = off_mannered h.1
+
+-- whole errands alone
+pub whole_mannered : (s : ℕ) (es : List ErrandSaid) (c : Client) → AreSaid (new_client s) es c → IsMannered plain_setting s (said_calls es)
+whole_mannered s es c before = inl (subst (IsFrontOfBlocks plain_setting s) (sym (calls_are es)) (whole_front plain_setting s c.drawn c.passes (parts es) (said_blocks (new_client s) es c before).blocks))

@@ -35,6 +35,10 @@ abbrev pub ClientsAreMannered : Type 0
 ClientsAreMannered = (s : ℕ) (before : List ErrandSaid) (c : Client) (errand : Errand) (calls : List Call) (left : Script) → AreSaid (new_client s) before c → IsLawfulErrand c errand
     → IsTrace (errand_script c errand) calls left → IsMannered plain_setting s (said_calls before ++ calls)
 
+-- so are those of whole errands alone
+abbrev pub IdleClientsAreMannered : Type 0
+IdleClientsAreMannered = (s : ℕ) (before : List ErrandSaid) (c : Client) → AreSaid (new_client s) before c → IsMannered plain_setting s (said_calls before)
+
 -- the test finds the commands that concern no message, and no others
 abbrev pub NeutralsAre : Type 0
 NeutralsAre = (words : Words) → (is_neutral words ≡ true → IsNeutral plain_setting words) × (IsNeutral plain_setting words → is_neutral words ≡ true)

@@ -1,7 +1,7 @@
 //! What a client that says blocks does is its manner, as laws: functions whose bodies are empty.
 #![tactic(auto)]
 
-ghost use Rattle.steps_laws.specs.Manners.{ClientsAreMannered, ErrandsBegin, NeutralsAre};
+ghost use Rattle.steps_laws.specs.Manners.{ClientsAreMannered, ErrandsBegin, IdleClientsAreMannered, NeutralsAre};
 
 /// What was said so far of a lawful errand begins its block, and is a whole one where nothing is left to say; where the last
 /// answer isn't listed it begins none.
@@ -12,7 +12,8 @@ pub fn errands_begin()
 /// Whatever a client said, errand after errand, each lawful by its counters then, the last perhaps only begun: its calls are
 /// the manner of a client of its seed.
 pub fn clients_are_mannered()
-    ensures { ClientsAreMannered }
+    ensures busy { ClientsAreMannered }
+    ensures idle { IdleClientsAreMannered }
 {}
 
 /// The test of commands that concern no message finds just those of the grammar of blocks.
