@@ -107,24 +107,24 @@ pub rest_stops : {D T : Type 0} (goes : D → List Deed → D → Type 0) (joins
     → HasRest goes fault stopped left had ended gives desk desk2 steps steps2 result
 rest_stops {D} {T} goes joins gives fault stopped left had ended desk mid desk2 steps midst steps2 at trips f result is soon given h on next =
     at_fault (HasRest goes fault stopped left had ended gives desk desk2 steps steps2) result f is (by f next) where
-  asked : (words : Words) (reply : Reply) → WasAsked goes mid desk2 (left midst) at words reply → HasSaid goes gives desk desk2 (left steps) (trips ++ trip at words reply ∷ []) (script_after (left midst) reply)
-  asked words reply a = said_more goes joins gives desk mid desk2 (left steps) (left midst) trips at words reply h a soon given
+      asked : (words : Words) (reply : Reply) → WasAsked goes mid desk2 (left midst) at words reply → HasSaid goes gives desk desk2 (left steps) (trips ++ trip at words reply ∷ []) (script_after (left midst) reply)
+      asked words reply a = said_more goes joins gives desk mid desk2 (left steps) (left midst) trips at words reply h a soon given
 
-  lacked : IsOpen (fault desk2) (stopped desk2) → goes mid [] desk2 ⊎ ((words : Words) × (reply : Reply) × WasAsked goes mid desk2 (left midst) at words reply) → HasRest goes fault stopped left had ended gives desk desk2 steps steps2 (Err fault_.Memory)
-  lacked is_open (inl go) = record { trips = trips; rest = left midst; said = said_none goes joins gives desk mid desk2 (left steps) (left midst) trips h go; come = is_open; more = tt }
-  lacked is_open (inr a) = record { trips = trips ++ trip at a.0 a.1 ∷ []; rest = script_after (left midst) a.1; said = asked a.0 a.1 a.2; come = is_open; more = tt }
+      lacked : IsOpen (fault desk2) (stopped desk2) → goes mid [] desk2 ⊎ ((words : Words) × (reply : Reply) × WasAsked goes mid desk2 (left midst) at words reply) → HasRest goes fault stopped left had ended gives desk desk2 steps steps2 (Err fault_.Memory)
+      lacked is_open (inl go) = record { trips = trips; rest = left midst; said = said_none goes joins gives desk mid desk2 (left steps) (left midst) trips h go; come = is_open; more = tt }
+      lacked is_open (inr a) = record { trips = trips ++ trip at a.0 a.1 ∷ []; rest = script_after (left midst) a.1; said = asked a.0 a.1 a.2; come = is_open; more = tt }
 
-  by : (f : BlockFault) → HasSaidNext goes fault stopped left had ended at mid desk2 midst steps2 (Err f) → HasRest goes fault stopped left had ended gives desk desk2 steps steps2 (Err f)
-  by (fault_.Begin b) n = absurd n
-  by (fault_.Desk d) n = record { trips = trips; rest = left midst; said = said_none goes joins gives desk mid desk2 (left steps) (left midst) trips h n.2; come = (n.3, ap left n.4, (at, n.0, n.1)); more = tt }
-  by (fault_.Refused r) n = record {
-    trips = trips ++ trip at n.0 r ∷ [];
-    rest = script_after (left midst) r;
-    said = asked n.0 r n.1;
-    come = (n.2, n.4, n.3, (trips, trip at n.0 r, refl, refl));
-    more = tt;
-  }
-  by fault_.Memory n = lacked n.0 n.1
+      by : (f : BlockFault) → HasSaidNext goes fault stopped left had ended at mid desk2 midst steps2 (Err f) → HasRest goes fault stopped left had ended gives desk desk2 steps steps2 (Err f)
+      by (fault_.Begin b) n = absurd n
+      by (fault_.Desk d) n = record { trips = trips; rest = left midst; said = said_none goes joins gives desk mid desk2 (left steps) (left midst) trips h n.2; come = (n.3, ap left n.4, (at, n.0, n.1)); more = tt }
+      by (fault_.Refused r) n = record {
+        trips = trips ++ trip at n.0 r ∷ [];
+        rest = script_after (left midst) r;
+        said = asked n.0 r n.1;
+        come = (n.2, n.4, n.3, (trips, trip at n.0 r, refl, refl));
+        more = tt;
+      }
+      by fault_.Memory n = lacked n.0 n.1
 
 -- one more round trip of the rest of a block
 pub said_on : {D T : Type 0} (goes : D → List Deed → D → Type 0) (joins : (s t u : D) (l m : List Deed) → goes s l t → goes t m u → goes s (l ++ m) u) (gives : ℕ → Type 0) (left : T → Script)
@@ -165,11 +165,11 @@ run_stops {D} {T} goes gives fault stopped client left spent had ended says desk
       said = subst (λ p. HasSaid goes gives desk desk2 p r.trips r.rest) b.2.left_is r.said;
       come = by f r.come;
     })) where
-  by : (f : BlockFault) → IsRestTo (fault desk2) (stopped desk2) left ended said r.trips r.rest (Err f) → IsBlockTo (fault desk2) (stopped desk2) client left said (client steps) b.0 r.trips r.rest (Err f)
-  by (fault_.Begin g) n = n
-  by (fault_.Desk d) n = (same ∙ b.2.client_is, n.0, n.1, n.2)
-  by (fault_.Refused given) n = (same ∙ b.2.client_is, n.0, n.1, n.2, n.3)
-  by fault_.Memory n = n
+      by : (f : BlockFault) → IsRestTo (fault desk2) (stopped desk2) left ended said r.trips r.rest (Err f) → IsBlockTo (fault desk2) (stopped desk2) client left said (client steps) b.0 r.trips r.rest (Err f)
+      by (fault_.Begin g) n = n
+      by (fault_.Desk d) n = (same ∙ b.2.client_is, n.0, n.1, n.2)
+      by (fault_.Refused given) n = (same ∙ b.2.client_is, n.0, n.1, n.2, n.3)
+      by fault_.Memory n = n
 
 -- a block that wasn't begun
 pub run_not_begun : {D T : Type 0} (goes : D → List Deed → D → Type 0) (stays : (s : D) → goes s [] s) (gives : ℕ → Type 0) (fault : D → Option DeskFault) (stopped : D → Bool) (client : T → Client) (left : T → Script) (spent : T → Bool) (had : T → Client → Errand → List RoundTrip → Type 0)

@@ -62,9 +62,10 @@ impl From<BeginFault> for BlockFault {
 
     fn from(given: BeginFault) -> BlockFault {
         match given {
-            BeginFault::NoTag | BeginFault::Name(_) | BeginFault::Draft(_) | BeginFault::BadNeutral => {
-                BlockFault::Begin(given)
-            }
+            BeginFault::NoTag
+            | BeginFault::Name(_)
+            | BeginFault::Draft(_)
+            | BeginFault::BadNeutral => { BlockFault::Begin(given) }
             BeginFault::Memory => BlockFault::Memory,
         }
     }

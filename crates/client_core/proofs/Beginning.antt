@@ -83,8 +83,7 @@ pub sealed_is : (draft : Draft) (n : ℕ) (d : Data) → n < 2 ^ 128 → seal_of
     → (drafted_errand draft (Some n) ≡ Ok (publish_errand d)) × (◌≡◌ {A = Option ℕ} (Some n) (Some (parts_in d).tag)) × IsPublishable d
 sealed_is draft n d small e way =
     let p = seals_say draft n d small e in
-    let q = ap parts_or_none p.1 in
-    (
+    let q = ap parts_or_none p.1 in (
       ap (λ w. if_named w (sealed_errand (seal_of draft n))) way ∙ ap sealed_errand e,
       ap (λ (z : Parts). Some z.tag) (sym q),
       publishable draft.exchange draft.routing_key d way (ap (λ (z : Parts). z.exchange) q) (ap (λ (z : Parts). z.routing_key) q),
@@ -140,9 +139,12 @@ ok_err e = absurd (cc e)
 
 pub pass_began : (old mid new : ClientCore) (v number : ℕ) (made : Result BlockLeft AllocError) → client_left old ≡ Over → TookUp old mid made (Ok tt) → number ≡ suc old.passes
     → IfOk made (λ left. (c : Client) → c.seed ≡ old.seed → suc c.passes ≡ number → IsMade c (Pass v) left) → new ≡ record mid { passes = number } → Began old new (Ok (Planned (Pass v))) (Ok tt)
-pass_began old mid new v number (Ok left) idle h e made n =
-    (Planned (Pass v), refl, began_plan old new (Pass v) left (not_spent old idle) (made (core_client old) refl (sym e)) (ap (λ (s : ClientCore). s.spent) n ∙ ap (λ (s : ClientCore). s.spent) h.0) (ap (λ (s : ClientCore). s.work) n ∙ ap (λ (s : ClientCore). s.work) h.0)
-    (ap core_client n ∙ (λ i. record { seed = (h.0 i).seed; drawn = (h.0 i).drawn; passes = e i })))
+pass_began old mid new v number (Ok left) idle h e made n = (
+  Planned (Pass v),
+  refl,
+  began_plan old new (Pass v) left (not_spent old idle) (made (core_client old) refl (sym e)) (ap (λ (s : ClientCore). s.spent) n ∙ ap (λ (s : ClientCore). s.spent) h.0) (ap (λ (s : ClientCore). s.work) n ∙ ap (λ (s : ClientCore). s.work) h.0)
+      (ap core_client n ∙ (λ i. record { seed = (h.0 i).seed; drawn = (h.0 i).drawn; passes = e i })),
+)
 pass_began old mid new v number (Err f) idle h e made n = ok_err h.1
 
 pub send_began : (old mid new : ClientCore) (d : Data) (number : ℕ) (made : Result BlockLeft AllocError) → client_left old ≡ Over → TookUp old mid made (Ok tt) → number ≡ suc old.drawn → old.seed < 2 ^ 64 → number < 2 ^ 64
@@ -151,18 +153,25 @@ pub send_began : (old mid new : ClientCore) (d : Data) (number : ℕ) (made : Re
 send_began old mid new d number (Ok left) idle h e small low again tag made n =
     let room : old.drawn + 1 < 2 ^ 64 = omega (arith, e, low) in
     let is : (parts_in d).tag ≡ tag_number old.seed (suc old.drawn) = some_same (parts_in d).tag (tag_number old.seed (suc old.drawn)) (sym tag ∙ next_is (core_client old) room ∙ ap (λ m. Some (tag_number old.seed m)) (omega arith)) in
-    let top : suc old.drawn < 2 ^ 64 = omega (arith, e, low) in
-    (publish_errand d, refl, began_plan old new (Publish (compact_text d)) left (not_spent old idle) (made (core_client old) (written_is d old.seed (suc old.drawn) small top again is)) (ap (λ (s : ClientCore). s.spent) n ∙ ap (λ (s : ClientCore). s.spent) h.0) (ap (λ (s : ClientCore). s.work) n ∙ ap (λ (s : ClientCore). s.work) h.0)
-    (ap core_client n ∙ (λ i. record { seed = (h.0 i).seed; drawn = e i; passes = (h.0 i).passes })))
+    let top : suc old.drawn < 2 ^ 64 = omega (arith, e, low) in (
+      publish_errand d,
+      refl,
+      began_plan old new (Publish (compact_text d)) left (not_spent old idle) (made (core_client old) (written_is d old.seed (suc old.drawn) small top again is)) (ap (λ (s : ClientCore). s.spent) n ∙ ap (λ (s : ClientCore). s.spent) h.0) (ap (λ (s : ClientCore). s.work) n ∙ ap (λ (s : ClientCore). s.work) h.0)
+          (ap core_client n ∙ (λ i. record { seed = (h.0 i).seed; drawn = e i; passes = (h.0 i).passes })),
+    )
 send_began old mid new d number (Err f) idle h e small low again tag made n = ok_err h.1
 
 -- a command that concerns no message
 pub aside_began : (old new : ClientCore) (words : Words) (core : AsideCore) → client_left old ≡ Over → is_neutral words ≡ true → HasAside words [] core → new ≡ record old { work = work.Beside core } → Began old new (neutral_errand words) (Ok tt)
-aside_began old new words core idle e had n = (Aside words, ap (λ b. cond b (Ok (Aside words)) (Err fault.BadNeutral)) e, record {
-  client_is = ap core_client n;
-  left_is = ap client_left n ∙ ap (λ b. live_left b (work.Beside core)) (not_spent old idle) ∙ had.trace.left;
-  had_none = subst (λ s. ClientHad s (core_client old) (Aside words) []) (sym n) (record { live = not_spent old idle; lawful = neutral_found words e; had = had });
-})
+aside_began old new words core idle e had n = (
+  Aside words,
+  ap (λ b. cond b (Ok (Aside words)) (Err fault.BadNeutral)) e,
+  record {
+    client_is = ap core_client n;
+    left_is = ap client_left n ∙ ap (λ b. live_left b (work.Beside core)) (not_spent old idle) ∙ had.trace.left;
+    had_none = subst (λ s. ClientHad s (core_client old) (Aside words) []) (sym n) (record { live = not_spent old idle; lawful = neutral_found words e; had = had });
+  },
+)
 
 -- ---- nothing that was begun is over
 

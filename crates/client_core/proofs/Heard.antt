@@ -30,7 +30,6 @@ module _ {S E X : Type 0} (left : S → Script) (had : Plan → List Call → S 
     (script_is : (x : X) → script_left (K x) ≡ core_left left (v x)) (end_is : (x : X) → left_end (K x) ≡ option_map wrap (core_end (v x)))
     (opened : (s p : ℕ) (plan : Plan) (calls : List Call) (x : X) → LeftHad s p plan calls (K x) → (plan_kind plan ≡ kind) × HasHad left had tell s p plan calls (v x))
     (closed : (s p : ℕ) (plan : Plan) (calls : List Call) (x : X) → (plan_kind plan ≡ kind) × HasHad left had tell s p plan calls (v x) → LeftHad s p plan calls (K x)) where
-
   taken_as : (x y : X) (at : ℕ) (r : Reply) (result : Result ⊤ ReplyFault) → HasTaken left (v x) (v y) at r result → LeftTaken (K x) (K y) r result
   taken_as x y at r result h = by result h where
     goes : core_left left (v y) ≡ after_call (core_left left (v x)) (call at [] r.answer) → script_left (K y) ≡ script_after (script_left (K x)) r

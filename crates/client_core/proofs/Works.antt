@@ -102,10 +102,10 @@ module _ (o : AsideCore) (at : ℕ) (soon : at < 2 ^ 40) (asked : IsSome (next_w
   aside_trace : (n : AsideCore) (words said : Words) (trips : List RoundTrip) → HasAside words trips o → next_words (aside_left o) at ≡ Some said → aside_left n ≡ script_after (aside_left o) r → IsTrace (aside_script words) (trip_calls (trips ++ trip at said r ∷ [])) (aside_left n)
   aside_trace n words said trips h next e = subst (λ l. IsTrace (aside_script words) l (aside_left n)) (sym (map-more trip_call trips (trip at said r)))
       (next_trace (aside_script words) (trip_calls trips) (aside_left o) (aside_left n) (trip_call (trip at said r)) soon h.trace next (e ∙ same (aside_left o))) where
-    same : (q : Script) → script_after q r ≡ after_call q (trip_call (trip at said r))
-    same Over = refl
-    same Off = refl
-    same (Say w go) = refl
+        same : (q : Script) → script_after q r ≡ after_call q (trip_call (trip at said r))
+        same Over = refl
+        same Off = refl
+        same (Say w go) = refl
 
   pub aside_heard : (n : AsideCore) (result : Result ⊤ ReplyFault) → AsideHeard n r result → HeardWork (work.Beside o) (work.Beside n) at r result
   aside_heard n result h = record { taken = taken result h; traced = traced } where

@@ -31,7 +31,6 @@ pub(crate) enum AsideState {
 }
 
 impl AsideCore {
-
     /// This command, which is within the limits of one.
     pub(crate) fn new(words: Words) -> AsideCore
         requires { IsWithinLimits words }

@@ -27,7 +27,8 @@ fn are_neutral(words: &[Bytes]) -> bool
         [name] => are_same(b"PING", name.as_slice()),
         [name, word] => is_neutral_pair(name.as_slice(), word.as_slice()),
         [name, word, _] => is_neutral_triple(name.as_slice(), word.as_slice()),
-        [name, word, _, _, ..] => are_same(b"LPUSH", name.as_slice()) && is_reply_key(word.as_slice()),
+        [name, word, _, _, ..] => are_same(b"LPUSH", name.as_slice())
+            && is_reply_key(word.as_slice()),
     }
 }
 
@@ -45,7 +46,8 @@ fn is_neutral_triple(name: &[u8], word: &[u8]) -> bool
     ensures { result ≡ is_neutral_triple name.now word.now }
 {
     (are_same(b"PUBLISH", name) && is_channel(word))
-        || ((are_same(b"LPUSH", name) || are_same(b"BRPOP", name) || are_same(b"EXPIRE", name)) && is_reply_key(word))
+        || ((are_same(b"LPUSH", name) || are_same(b"BRPOP", name) || are_same(b"EXPIRE", name))
+            && is_reply_key(word))
 }
 
 /// Whether it is the channel of control messages.

@@ -201,7 +201,10 @@ impl Steps for ClientCore {
 
     fn begin(&mut self, alloc: Global, block: Block) -> Result<(), BeginFault> {
         match block {
-            Block::Declare(declaration) => self.take_up(declaring(alloc, Box::into_inner(declaration))),
+            Block::Declare(declaration) => self.take_up(declaring(
+                alloc,
+                Box::into_inner(declaration),
+            )),
             Block::Publish(draft) => self.publish(alloc, &draft),
             Block::Again(envelope) => self.again(alloc, Box::into_inner(envelope)),
             Block::Pop(queues) => self.take_up(popping(alloc, queues)),
@@ -248,7 +251,11 @@ fn sealed(alloc: Global, seed: u64, drawn: u64, draft: &Draft) -> Result<Envelop
     let Some(counter) = drawn.checked_add(1) else {
         return Err(BeginFault::NoTag);
     };
-    match check_way(alloc, draft.exchange.as_slice(), draft.routing_key.as_slice()) {
+    match check_way(
+        alloc,
+        draft.exchange.as_slice(),
+        draft.routing_key.as_slice(),
+    ) {
         Ok(()) => sealed_under(alloc, seed, counter, draft),
         Err(NameFault::Memory) => Err(BeginFault::Memory),
         Err(fault) => Err(BeginFault::Name(fault)),

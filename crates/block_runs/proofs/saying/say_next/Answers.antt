@@ -11,13 +11,18 @@ returns-in_err-took-clause-said g c =
 
 pub returns-clause-said : goal.returns-clause-said
 returns-clause-said g c =
-    let n : next_words (g.T.Steps.left c.args.steps.now) c.args.at ≡ Some c.in-Some.words = sym c.in_ok-words.ensures.words ∙ c.in-Some.is in
-    (c.in-Some.words, c.in_ok-reply.reply, record { next = n; went = c.in_ok-reply.ensures.ok }, c.in_ok-reply.ensures.shown.1, record {
-      left_is = c.in_ok-took.ensures.taken.0;
-      on = c.in_ok-took.ensures.taken.1;
-      end = c.in_ok-took.ensures.end;
-      more = λ client errand before old. c.in_ok-took.ensures.had client errand before c.in-Some.words old n;
-    })
+    let n : next_words (g.T.Steps.left c.args.steps.now) c.args.at ≡ Some c.in-Some.words = sym c.in_ok-words.ensures.words ∙ c.in-Some.is in (
+      c.in-Some.words,
+      c.in_ok-reply.reply,
+      record { next = n; went = c.in_ok-reply.ensures.ok },
+      c.in_ok-reply.ensures.shown.1,
+      record {
+        left_is = c.in_ok-took.ensures.taken.0;
+        on = c.in_ok-took.ensures.taken.1;
+        end = c.in_ok-took.ensures.end;
+        more = λ client errand before old. c.in_ok-took.ensures.had client errand before c.in-Some.words old n;
+      },
+    )
 
 pub returns-in_err-reply-clause-said : goal.returns-in_err-reply-clause-said
 returns-in_err-reply-clause-said g c =
