@@ -1,0 +1,4 @@
+mod Heard
+mod Works
+mod Neutral
+mod Beginning

@@ -1,0 +1,5 @@
+pub mod Asides
+pub mod Lefts
+pub mod Works
+pub mod Begun
+pub mod Laws
