@@ -6,4 +6,5 @@
 mod asked;
 mod line;
 
+pub use asked::asked_in;
 pub use line::line_of;
