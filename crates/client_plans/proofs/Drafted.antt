@@ -61,7 +61,7 @@ may_be j d h = go (json_at j) h
     go None f = cc
     go (Some e) f = same e _ refl f
 
-fit : (d : Data) → if_arguments d ≡ Some d → (is_some (as_array d) && not (has_float d) && nat_le (depth d) 90) ≡ true
+pub fit : (d : Data) → if_arguments d ≡ Some d → (is_some (as_array d) && not (has_float d) && nat_le (depth d) 90) ≡ true
 fit d h = go _ h
   where
     go : (t : Bool) → (if t then Some d else None) ≡ Some d → t ≡ true

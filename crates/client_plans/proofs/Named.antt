@@ -21,7 +21,7 @@ use Rattle.envelope.proofs.Told.{told_by}
 use Rattle.queue_keys.specs.Names.{Bytes}
 use Rattle.client_plans.specs.Tasks.{Names}
 
-same_some : {A : Type 0} (x y : A) → ◌≡◌ {A = Option A} (Some x) (Some y) → x ≡ y
+pub same_some : {A : Type 0} (x y : A) → ◌≡◌ {A = Option A} (Some x) (Some y) → x ≡ y
 same_some x y e = cc
 
 same_ok : (x y : Data) → ◌≡◌ {A = Result Data EnvelopeFault} (Ok x) (Ok y) → x ≡ y
@@ -41,7 +41,7 @@ names_said body headers x k id priority t p e =
     (sym (exchange ∙ told.exchange_is), sym (key ∙ told.routing_key_is))
 
 -- what was sealed is the draft's tree
-sealed_is_draft : (draft : Draft) (n : ℕ) (d : Data) → seal_of draft n ≡ Ok d → sealed draft n ≡ d
+pub sealed_is_draft : (draft : Draft) (n : ℕ) (d : Data) → seal_of draft n ≡ Ok d → sealed draft n ≡ d
 unfolding seal_of
 sealed_is_draft draft n d e =
     let a = bind_ok (wanted TooDeep (nat_le (depth (data_of draft.headers)) 99)) _ d e in

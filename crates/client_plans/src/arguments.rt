@@ -13,7 +13,7 @@ const MAX_LEVELS: u32 = 90;
 
 /// The arguments that a JSON text spells: an array without a float, nested at most 90 deep. None where it is no such
 /// array. Of a key that stands twice the last counts.
-pub(crate) fn arguments_of(alloc: Global, text: &[u8]) -> Result<Option<Tree>, AllocError>
+pub fn arguments_of(alloc: Global, text: &[u8]) -> Result<Option<Tree>, AllocError>
     ensures { IfOk result (λ found. option_map data_of found ≡ arguments_of text.now) }
 {
     match Value::from_slice(alloc, text) {

@@ -42,7 +42,7 @@ pub(crate) fn declaring(
 }
 
 /// Whether these aren't the parts of a binding, or no queue's name is spelled so, reserved or not.
-fn is_no_binding(exchange: &Bytes, routing_key: &Bytes, pattern: &Bytes, queue: &Bytes) -> bool
+pub fn is_no_binding(exchange: &Bytes, routing_key: &Bytes, pattern: &Bytes, queue: &Bytes) -> bool
     ensures { result ≡ is_no_binding exchange.now routing_key.now pattern.now queue.now }
 {
     are_no_parts(exchange, routing_key, pattern) || is_no_name(queue)
@@ -58,7 +58,7 @@ fn are_no_parts(exchange: &Bytes, routing_key: &Bytes, pattern: &Bytes) -> bool
 }
 
 /// The declaration of a lawful binding.
-fn declaration_of(
+pub fn declaration_of(
     alloc: Global,
     change: Change,
     exchange: &Bytes,

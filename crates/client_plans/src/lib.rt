@@ -10,5 +10,9 @@ mod names;
 mod plan;
 mod task;
 
+pub use arguments::arguments_of;
+pub use binding::{declaration_of, is_no_binding};
 pub use fault::PlanFault;
+pub use names::way_fault;
 pub use plan::{BegunBlock, prepared};
+pub use task::is_text;

@@ -19,7 +19,7 @@ pub(crate) fn is_no_name(name: &Bytes) -> bool
 }
 
 /// Why a message doesn't go this way: on the empty exchange its routing key isn't the lawful name of a queue.
-pub(crate) fn way_fault(exchange: &Bytes, routing_key: &Bytes) -> Option<Reason>
+pub fn way_fault(exchange: &Bytes, routing_key: &Bytes) -> Option<Reason>
     ensures { result ≡ way_reason exchange.now routing_key.now }
 {
     if exchange.is_empty() {

@@ -64,7 +64,7 @@ fn are_texts(asked: &Publication) -> bool
 }
 
 /// Whether the bytes are UTF-8.
-fn is_text(bytes: &[u8]) -> bool
+pub fn is_text(bytes: &[u8]) -> bool
     ensures { result ≡ is_utf8 bytes.now }
 {
     match str::from_utf8(bytes) {

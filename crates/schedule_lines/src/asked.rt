@@ -14,11 +14,7 @@ use std::alloc::{AllocError, Global};
 use wire_values::Bytes;
 
 /// What these words begin, the word of the block before the others. None where they spell nothing that can be begun.
-pub(crate) fn asked_in(
-    alloc: Global,
-    block: &str,
-    words: &[&str],
-) -> Result<Option<Asked>, AllocError>
+pub fn asked_in(alloc: Global, block: &str, words: &[&str]) -> Result<Option<Asked>, AllocError>
     ensures { IfOk result (λ found. found
         ≡ asked_in block.now (map (λ word. word.now) words.now)) }
 {

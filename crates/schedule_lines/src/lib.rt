@@ -7,5 +7,6 @@ mod asked;
 mod built;
 mod line;
 
+pub use asked::asked_in;
 pub use built::waits;
 pub use line::line_of;
