@@ -25,7 +25,7 @@ use Rattle.routes.specs.declared.declaration.Change.{Change}
 use Rattle.routes.specs.declared.declaration.Change.TheVariants as change
 use Rattle.routes.specs.declared.publish.PublishEnd.{PublishEnd}
 use Rattle.publish_run.specs.Blocks.{BeginsNext, IsBlockTold, IsLineOf, IsRefusedNext, IsUnlistedIn, end_line}
-use Rattle.publish_run.specs.Publishings.{HasSaidPlan, HasTaken, HasToldEnd, HasWritten, IsCause, IsEndAt, IsLinks}
+use Rattle.publish_run.specs.Publishings.{HasSaidPlan, HasToldBlock, HasToldEnd, HasWritten, IsCause, IsEndAt, IsLinks}
 use Rattle.publish_run.specs.Saids.{DeskShows, EndsWith, HasSaidBlock, IsSaidBlock, calls_said}
 use Rattle.publish_run.specs.declared.ending.PublishingEnd.{PublishingEnd}
 use Rattle.publish_run.specs.declared.ending.PublishingEnd.TheVariants as ending
@@ -148,7 +148,7 @@ module _ {D : Type 0} (goes : D → List Deed → D → Type 0) (remote shared :
       line : IsBlockTold s n (Publish v) (calls_said h.deeds) (end_line s counter end)
       line = (block, (end, h.come.2, ap (λ m. end_line s m end) is))
 
-      by : (result : Result ⊤ PublishingEnd) → HasWritten (end_line s counter end) old new result → HasTaken remote shared s n (Publish v) (calls_said h.deeds) shows shows2 old new result
+      by : (result : Result ⊤ PublishingEnd) → HasWritten (end_line s counter end) old new result → HasToldBlock remote shared s n (Publish v) (calls_said h.deeds) shows shows2 old new result
       by (Ok u) k = ((end_line s counter end, line, k.0), k.1, h.come.0)
       by (Err ending.WriteFault) k = ((end_line s counter end, line, k.0), k.1, k.2)
       by (Err ending.Memory) k = (inr (inl ([], subst (IsPlanBlock plain_setting s n 0 (Publish v)) (sym (append-nil (calls_said h.deeds))) block)), k)

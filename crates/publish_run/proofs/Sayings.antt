@@ -17,7 +17,7 @@ use Rattle.desks.specs.Deeds.{Deed, DidAsk, DidNote, DidStop}
 use Rattle.desks.specs.Faults.{HasCounts, IsFaultOf}
 use Rattle.desks.specs.declared.desk.DeskFault.{DeskFault}
 use Rattle.desks.specs.declared.desk.DeskFault.TheVariants as fault
-use Rattle.publish_run.specs.Saids.{DeskShows, EndsWith, HasFailed, HasHeard, HasSaidBlock, HasSaidOne, IsAmid, IsLater, IsSaidBlock, IsSaidOne, StandsOpen, calls_said}
+use Rattle.publish_run.specs.Saids.{DeskShows, EndsWith, HasFailed, HasHeardReply, HasSaidBlock, HasSaidOne, IsAmid, IsLater, IsSaidBlock, IsSaidOne, StandsOpen, calls_said}
 use Rattle.publish_run.specs.declared.saying.SayFault.{SayFault}
 use Rattle.publish_run.specs.declared.saying.SayFault.TheVariants.{Desk, Memory, Refused}
 
@@ -120,7 +120,7 @@ module _ {D S E : Type 0} (goes : D → List Deed → D → Type 0) (joins : (s 
 
   -- one command was said, and this came of its reply
   pub said_one : (desk desk2 : D) (core core2 : BlockCore S E) (shows shows2 : DeskShows) (calls : List Call) (words : Words) (reply : Reply) (result : Result ⊤ SayFault)
-      → goes desk (DidAsk 0 words reply ∷ []) desk2 → StandsOpen shows2 → HasHad left had tell s p plan calls core → next_words (core_left left core) 0 ≡ Some words → HasHeard left had tell s p plan calls words reply core2 result
+      → goes desk (DidAsk 0 words reply ∷ []) desk2 → StandsOpen shows2 → HasHad left had tell s p plan calls core → next_words (core_left left core) 0 ≡ Some words → HasHeardReply left had tell s p plan calls words reply core2 result
       → HasSaidOne goes remote shared left had tell s p plan calls desk desk2 shows shows2 core2 result
   said_one desk desk2 core core2 shows shows2 calls words reply (Ok u) went opened h next heard = record {
     deeds = DidAsk 0 words reply ∷ [];

@@ -84,13 +84,13 @@ HasSaidOver s plans before after old new end =
     (IsUnlinked before after end × ClosesNone before after × (new ≡ old)) ⊎ HasLinked s plans before after old new end
 
 -- a reading gave the script, or ended publishing
-abbrev pub HasRead : SourceView → SourceView → Result Bytes PublishingEnd → Type 0
-HasRead src src2 (Ok bytes) = HasScript src src2 bytes
-HasRead src src2 (Err end) = IsUnread src src2 end
+abbrev pub HasReadScript : SourceView → SourceView → Result Bytes PublishingEnd → Type 0
+HasReadScript src src2 (Ok bytes) = HasScript src src2 bytes
+HasReadScript src src2 (Err end) = IsUnread src src2 end
 
 -- how publishing these bytes ends: nothing of them is said; or their blocks are, over one link, as far as it came
-abbrev pub IsPublished : ℕ → Bytes → NetShows → NetShows → SinkView → SinkView → PublishingEnd → Type 0
-IsPublished s bytes before after old new end =
+abbrev pub HasPublishedBytes : ℕ → Bytes → NetShows → NetShows → SinkView → SinkView → PublishingEnd → Type 0
+HasPublishedBytes s bytes before after old new end =
     (IsUnsaid s bytes end × (after ≡ before) × (new ≡ old))
     ⊎ ((plans : List Plan) × (script_told s bytes ≡ Blocks plans) × HasSaidOver s plans before after old new end)
 
@@ -98,4 +98,4 @@ IsPublished s bytes before after old new end =
 abbrev pub HasPublishedRun : ℕ → SourceView → SourceView → NetShows → NetShows → SinkView → SinkView → PublishingEnd → Type 0
 HasPublishedRun s src src2 before after old new end =
     (IsUnread src src2 end × (after ≡ before) × (new ≡ old))
-    ⊎ ((bytes : Bytes) × HasScript src src2 bytes × IsPublished s bytes before after old new end)
+    ⊎ ((bytes : Bytes) × HasScript src src2 bytes × HasPublishedBytes s bytes before after old new end)

@@ -66,14 +66,14 @@ pub record IsAmidScript {D : Type 0} (goes : D → List Deed → D → Type 0) (
 -- ---- one line
 
 -- the block of a plan was said and told; or saying ended amid it
-abbrev pub HasTaken : Bool → Bool → ℕ → ℕ → Plan → List Call → DeskShows → DeskShows → SinkView → SinkView → Result ⊤ PublishingEnd → Type 0
-HasTaken remote shared s n p calls shows shows2 old new (Ok u) = ((line : List ℕ) × IsBlockTold s n p calls line × Appends old.taken new.taken line) × (new.faults ≡ old.faults) × StandsOpen shows2
-HasTaken remote shared s n p calls shows shows2 old new (Err end) = IsCause remote shared s n (p ∷ []) calls shows shows2 old new end
+abbrev pub HasToldBlock : Bool → Bool → ℕ → ℕ → Plan → List Call → DeskShows → DeskShows → SinkView → SinkView → Result ⊤ PublishingEnd → Type 0
+HasToldBlock remote shared s n p calls shows shows2 old new (Ok u) = ((line : List ℕ) × IsBlockTold s n p calls line × Appends old.taken new.taken line) × (new.faults ≡ old.faults) × StandsOpen shows2
+HasToldBlock remote shared s n p calls shows shows2 old new (Err end) = IsCause remote shared s n (p ∷ []) calls shows shows2 old new end
 
 pub record HasSaidPlan {D : Type 0} (goes : D → List Deed → D → Type 0) (remote shared : Bool) (s n : ℕ) (p : Plan) (desk desk2 : D) (shows shows2 : DeskShows) (old new : SinkView) (result : Result ⊤ PublishingEnd) : Type 0 where
   pub deeds : List Deed
   pub went : goes desk deeds desk2
-  pub taken : HasTaken remote shared s n p (calls_said deeds) shows shows2 old new result
+  pub taken : HasToldBlock remote shared s n p (calls_said deeds) shows shows2 old new result
 
 -- a line was taken: nothing is said of it, or the block that it says was said and told
 abbrev pub HasSaidLine : {D : Type 0} → (D → List Deed → D → Type 0) → Bool → Bool → ℕ → ℕ → ScriptStep → ScriptReader → D → D → DeskShows → DeskShows → SinkView → SinkView → Result ⊤ PublishingEnd → Type 0

@@ -81,11 +81,11 @@ pub record HasSaidOne {D S E : Type 0} (goes : D → List Deed → D → Type 0)
   pub kept : HasHadMore (λ l. HasHad left had tell s p plan l core2) (calls ++ calls_said deeds) result
 
 -- a reply was taken, and the block goes on or is over; or its answer isn't listed; of want of memory nothing is told
-abbrev pub HasHeard : {S E : Type 0} → (S → Script) → (Plan → List Call → S → Type 0) → (Plan → List Call → E → Type 0) → ℕ → ℕ → Plan → List Call → Words → Reply → BlockCore S E → Result ⊤ SayFault → Type 0
-HasHeard left had tell s p plan calls words reply core (Ok u) = HasHad left had tell s p plan (calls ++ call 0 words reply.answer ∷ []) core × (core_left left core ≡ Off → ⊥)
-HasHeard left had tell s p plan calls words reply core (Err (Refused answer)) = (answer ≡ reply.answer) × HasHad left had tell s p plan (calls ++ call 0 words reply.answer ∷ []) core × (core_left left core ≡ Off)
-HasHeard left had tell s p plan calls words reply core (Err Memory) = Unit {0}
-HasHeard left had tell s p plan calls words reply core (Err (Desk f)) = ⊥
+abbrev pub HasHeardReply : {S E : Type 0} → (S → Script) → (Plan → List Call → S → Type 0) → (Plan → List Call → E → Type 0) → ℕ → ℕ → Plan → List Call → Words → Reply → BlockCore S E → Result ⊤ SayFault → Type 0
+HasHeardReply left had tell s p plan calls words reply core (Ok u) = HasHad left had tell s p plan (calls ++ call 0 words reply.answer ∷ []) core × (core_left left core ≡ Off → ⊥)
+HasHeardReply left had tell s p plan calls words reply core (Err (Refused answer)) = (answer ≡ reply.answer) × HasHad left had tell s p plan (calls ++ call 0 words reply.answer ∷ []) core × (core_left left core ≡ Off)
+HasHeardReply left had tell s p plan calls words reply core (Err Memory) = Unit {0}
+HasHeardReply left had tell s p plan calls words reply core (Err (Desk f)) = ⊥
 
 -- ---- a block
 

@@ -5,7 +5,7 @@ ghost use Rattle.net_links.specs.LinkViews.{link_view};
 ghost use Rattle.command_blocks.specs.Scripts.{Plan};
 ghost use Rattle.desks.specs.Faults.{IsOpen};
 ghost use Rattle.publish_script.specs.Scripts.{Blocks, script_told};
-ghost use Rattle.publish_run.specs.PublishRuns.{HasCarried, HasPublishedRun, HasRead, HasSaidOver, IsPublished, net_shows};
+ghost use Rattle.publish_run.specs.PublishRuns.{HasCarried, HasPublishedRun, HasReadScript, HasSaidOver, HasPublishedBytes, net_shows};
 ghost use Rattle.publish_run.specs.Publishings.{HasSaidScript};
 ghost use Rattle.publish_run.specs.Saids.{desk_shows};
 
@@ -47,7 +47,7 @@ pub fn publish_told<S: Source, K: Sink, N: Net>(
 
 /// Reads a script to its end, or to one byte past its limit.
 fn read_script<S: Source>(alloc: Global, src: &mut S) -> Result<Bytes, PublishingEnd>
-    ensures { HasRead
+    ensures { HasReadScript
         (source_view S.left S.read_faults S.ends src.old) (source_view S.left S.read_faults S.ends src.new) result }
 {
     match read_to_end(alloc, src, INPUT_LIMIT as u64) {
@@ -67,7 +67,7 @@ fn publish_checked<K: Sink, N: Net>(
     seed: u64,
     bytes: &[u8],
 ) -> PublishingEnd
-    ensures { IsPublished seed bytes.now
+    ensures { HasPublishedBytes seed bytes.now
         (net_shows N.closed N.faults N.closed_faults net.old) (net_shows N.closed N.faults N.closed_faults net.new)
         (sink_view K.taken K.write_faults out.old) (sink_view K.taken K.write_faults out.new) result }
 {

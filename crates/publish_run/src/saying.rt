@@ -6,7 +6,7 @@ ghost use Rattle.command_blocks.specs.Cores.{is_saying};
 ghost use Rattle.command_blocks.specs.Scripts.{Plan, next_words};
 ghost use Rattle.block_core.specs.Cores.{HasHad, core_left};
 ghost use Rattle.desks.specs.Faults.{IsOpen};
-ghost use Rattle.publish_run.specs.Saids.{HasHeard, HasSaidBlock, HasSaidOne, IsLater, desk_shows};
+ghost use Rattle.publish_run.specs.Saids.{HasHeardReply, HasSaidBlock, HasSaidOne, IsLater, desk_shows};
 
 use block_core::{BlockCore, ReplyFault, Stage};
 use desks::{Desk, DeskFault};
@@ -95,7 +95,7 @@ fn hear<S: Stage>(
     requires busy { is_saying (core_left S.left core.old) ≡ true }
     ensures heard { (s p : ℕ) (plan : Plan) (calls : Listed Call) (words : Said) → HasHad S.left S.had S.tells s p plan calls core.old
         → next_words (core_left S.left core.old) 0 ≡ Some words
-        → HasHeard S.left S.had S.tells s p plan calls words reply.now core.new result }
+        → HasHeardReply S.left S.had S.tells s p plan calls words reply.now core.new result }
 {
     match core.took(alloc, MOMENT, reply) {
         Ok(()) => Ok(()),

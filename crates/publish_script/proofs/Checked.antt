@@ -11,7 +11,7 @@ use Rattle.queue_keys.specs.Names.{Bytes}
 use Rattle.command_blocks.specs.Scripts.{Plan}
 use Rattle.client_plans.specs.declared.fault.PlanFault.{PlanFault}
 use Rattle.client_plans.specs.declared.fault.PlanFault.TheVariants.{Bad, Memory}
-use Rattle.publish_script.specs.Readings.{IsChecked, IsLineRead, fault_at, from_first, plan_said}
+use Rattle.publish_script.specs.Readings.{IsChecked, IsLineRead, script_fault_at, from_first, plan_said}
 use Rattle.publish_script.specs.Scripts.{Blocks, Noted, PublishScript, Says, ScriptReader, ScriptStep, Wrong, Wrong_line, is_cut_before, line_step, lines_script, plan_before, script_on, unless_long}
 use Rattle.publish_script.specs.declared.reader.PublishStep.{PublishStep}
 use Rattle.publish_script.proofs.Numbered.{left_first}
@@ -77,8 +77,8 @@ module _ (s : ℕ) (cut : Bool) (d : ScriptReader) (n : ℕ) (line : Bytes) (ls 
   good_on a m new o h e is = same_on a all (go new) h (good_line m new o e is)
 
   -- what is answered at the line's fault
-  pub fault_on : (a : PublishScript) (m : ℕ) (new : ScriptReader) (f : PlanFault) → SameEnd a all → is_cut_before cut ls ≡ false → IsLineRead s m (line_step s d line) new (Err f) → IsChecked a (Err (fault_at n f))
-  fault_on a m new (Bad r) h e is = checked_by a all (Err (fault_at n (Bad r))) h (bad_line r e is)
+  pub fault_on : (a : PublishScript) (m : ℕ) (new : ScriptReader) (f : PlanFault) → SameEnd a all → is_cut_before cut ls ≡ false → IsLineRead s m (line_step s d line) new (Err f) → IsChecked a (Err (script_fault_at n f))
+  fault_on a m new (Bad r) h e is = checked_by a all (Err (script_fault_at n (Bad r))) h (bad_line r e is)
   fault_on a m new Memory h e is = tt
 
 pub wrong_checked : (a : PublishScript) (n : ℕ) (r : Reason) (f : TextFault) → f ≡ text.Bad (record { line = n; reason = r }) → a ≡ Wrong_line n r → IsChecked a (Err f)
@@ -106,18 +106,18 @@ module _ (all : PublishScript) (s r : ℕ) (cut : Bool) (d : ScriptReader) (pres
   goes_on_unless m new (Err f) b off e calm h = absurd (cc calm)
 
   -- it has one
-  pub ends_with : (m : ℕ) (new : ScriptReader) (res : Result (Option PublishStep) PlanFault) (f : PlanFault) (g : TextFault) (b : Bool) → b ≡ false → b ≡ is_cut_before cut ls → Some f ≡ result_err res → IsLineRead r m (line_step r d line.now) new res → g ≡ fault_at n f → IsChecked all (Err g)
+  pub ends_with : (m : ℕ) (new : ScriptReader) (res : Result (Option PublishStep) PlanFault) (f : PlanFault) (g : TextFault) (b : Bool) → b ≡ false → b ≡ is_cut_before cut ls → Some f ≡ result_err res → IsLineRead r m (line_step r d line.now) new res → g ≡ script_fault_at n f → IsChecked all (Err g)
   ends_with m new (Ok o) f g b off e found h is = absurd (cc found)
   ends_with m new (Err x) f g b off e found h is =
       let same : f ≡ x = cc in
-      subst (λ y. IsChecked all (Err y)) (sym is) (subst (λ y. IsChecked all (Err (fault_at n y))) (sym same) (fault_on s cut d n line.now ls all m new x here (sym e ∙ off) (read_so m new (Err x) h)))
+      subst (λ y. IsChecked all (Err y)) (sym is) (subst (λ y. IsChecked all (Err (script_fault_at n y))) (sym same) (fault_on s cut d n line.now ls all m new x here (sym e ∙ off) (read_so m new (Err x) h)))
 
   -- the line isn't bad
   pub goes_on : (m : ℕ) (new : ScriptReader) (o : Option PublishStep) → false ≡ is_cut_before cut ls → IsLineRead r m (line_step r d line.now) new (Ok o) → SameEnd all (lines_script s cut new ls)
   goes_on m new o e h = good_on s cut d n line.now ls all m new o here (sym e) (read_so m new (Ok o) h)
 
   -- it is
-  pub ends_at : (m : ℕ) (new : ScriptReader) (f : PlanFault) → false ≡ is_cut_before cut ls → IsLineRead r m (line_step r d line.now) new (Err f) → IsChecked all (Err (fault_at n f))
+  pub ends_at : (m : ℕ) (new : ScriptReader) (f : PlanFault) → false ≡ is_cut_before cut ls → IsLineRead r m (line_step r d line.now) new (Err f) → IsChecked all (Err (script_fault_at n f))
   ends_at m new f e h = fault_on s cut d n line.now ls all m new f here (sym e) (read_so m new (Err f) h)
 
   -- the input is cut off amid it

@@ -74,6 +74,6 @@ from_first None ls = []
 from_first (Some l) ls = (l.0, l.1.now) ∷ ls
 
 -- the fault of the line of this number, as one of the script
-abbrev pub fault_at : ℕ → PlanFault → TextFault
-fault_at n (Bad r) = text.Bad (record { line = n; reason = r })
-fault_at n Memory = text.Memory
+abbrev pub script_fault_at : ℕ → PlanFault → TextFault
+script_fault_at n (Bad r) = text.Bad (record { line = n; reason = r })
+script_fault_at n Memory = text.Memory

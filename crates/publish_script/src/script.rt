@@ -5,7 +5,7 @@ ghost use Rattle.line_text.specs.Lines.{lines_of, numbered, text_fault};
 ghost use Rattle.line_text.specs.LinesLeft.{lines_left};
 ghost use Rattle.line_text.specs.declared.reason.TextFault.TheVariants.{Bad};
 ghost use Rattle.schedule_model.specs.Schedules.{max_input, max_line};
-ghost use Rattle.publish_script.specs.Readings.{IsChecked, fault_at, from_first};
+ghost use Rattle.publish_script.specs.Readings.{IsChecked, script_fault_at, from_first};
 ghost use Rattle.publish_script.specs.Scripts.{cut_fault, is_cut_before, header_reason, header_script, lines_script, new_reader, script_told};
 
 use crate::reader::PublishReader;
@@ -101,15 +101,15 @@ fn check_lines<'a>(
             return Err(bad(number, Reason::Long));
         }
         if let Some(fault) = reader.line(alloc, line).err() {
-            return Err(fault_at(number, fault));
+            return Err(script_fault_at(number, fault));
         }
     }
     Ok(())
 }
 
 /// The fault of a line, as one of the script.
-fn fault_at(line: u64, fault: PlanFault) -> TextFault
-    ensures { result ≡ fault_at line fault }
+fn script_fault_at(line: u64, fault: PlanFault) -> TextFault
+    ensures { result ≡ script_fault_at line fault }
 {
     match fault {
         PlanFault::Bad(reason) => bad(line, reason),
