@@ -1,0 +1,4 @@
+mod Amid
+mod Goings
+mod Linked
+mod Sayings

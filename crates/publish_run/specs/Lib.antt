@@ -1,0 +1,4 @@
+pub mod Blocks
+pub mod Publishings
+pub mod PublishRuns
+pub mod Saids

@@ -1,0 +1,5 @@
+mod Begun
+mod Checked
+pub mod Numbered
+mod Sealing
+mod Tagged

@@ -1,0 +1,12 @@
+use Rattle.std.proofs.Common.{rules}
+use Rattle.serde_json.specs.View.{view as data_of}
+use Rattle.client_plans.proofs.Named.{names_sealed}
+use Rattle.publish_script.proofs.Tagged.{written_under}
+use Rattle.publish_script.proofs.draft.sealed_under.Goals as goal
+
+pub returns-in-Ok-clause-names : goal.returns-in-Ok-clause-names
+returns-in-Ok-clause-names c = names_sealed c.args.draft.now c.args.tag.0 (data_of c.in-Ok.envelope) c.in-Ok.ensures c.tree-tree.ensures.said
+
+pub returns-in-Ok-clause-tag : goal.returns-in-Ok-clause-tag
+returns-in-Ok-clause-tag c =
+    written_under c.args.draft.now c.args.tag.0 (data_of c.in-Ok.envelope) c.requires.tag c.in-Ok.ensures c.tree-tree.ensures.said (search rules)
