@@ -41,6 +41,28 @@ def worked(count):
         yield "run 2"
 
 
+def returned(count):
+    """Messages that workers pop, ten each, before they stop; passes return them an hour later, and client 2 pops and ends them."""
+    yield from HEADER
+    yield from publications(count, lambda number: "celery")
+    for worker in range(3, 3 + count // 10):
+        yield f"client {worker} seed {worker + 100}"
+        for _ in range(10):
+            yield f"begin {worker} pop celery"
+            yield f"run {worker}"
+        yield f"stop {worker}"
+    yield "at 3700"
+    for _ in range(count // 10):
+        yield "begin 2 pass 3600"
+        yield "run 2"
+    for _ in range(count):
+        yield "begin 2 pop celery"
+        yield "run 2"
+    for number in range(1, count + 1):
+        yield f"begin 2 ack 7:{number}"
+        yield "run 2"
+
+
 def polled(count):
     """Pops of a queue that has nothing."""
     yield "celery-schedule 1"
@@ -61,6 +83,8 @@ RUNS = [
     ("published 10000", lambda: published(10_000), 10_000, 0, totals(10_000, 0)),
     ("worked 1000", lambda: worked(1_000), 10_000, 0, totals(0, 1_000)),
     ("worked 10000", lambda: worked(10_000), 100_000, 0, totals(0, 10_000)),
+    ("returned 1000", lambda: returned(1_000), 22_800, 0, totals(0, 1_000)),
+    ("returned 10000", lambda: returned(10_000), 228_000, 0, totals(0, 10_000)),
     ("polled", lambda: polled(1_000_001), 1_000_000, 9, "history full 1000000 83000000"),
 ]
 

@@ -16,7 +16,6 @@ from collections import Counter
 from concurrent.futures import ProcessPoolExecutor
 
 import model
-import schedules
 from random_schedules import Maker, crowded_schedule, full_schedule
 from reached import Reached
 
@@ -48,7 +47,7 @@ def differing_example(program):
 def schedule_of(seed, full):
     if full:
         return full_schedule(seed)
-    return crowded_schedule(seed) if seed % CROWDED == 0 and not schedules.PUT_OFF else Maker(seed).schedule()
+    return crowded_schedule(seed) if seed % CROWDED == 0 else Maker(seed).schedule()
 
 
 def first_difference(wanted, given):
@@ -59,9 +58,8 @@ def first_difference(wanted, given):
     return "one text is a front of the other"
 
 
-def differs(program, seed, full, put_off):
+def differs(program, seed, full):
     """Whether program and model differ over the schedule of a seed, and what to print; else what both ended with and reached."""
-    schedules.PUT_OFF.update(put_off)
     data = schedule_of(seed, full)
     status, text, world = model.replay(data)
     given = ran(program, data) if program else (status, text)
@@ -81,20 +79,18 @@ def main():
     words.add_argument("--seed", type=int, default=1, help="the first seed; the others follow it")
     words.add_argument("--full", action="store_true", help="histories filled up instead; each takes a minute")
     words.add_argument("--jobs", type=int, default=2, help="how many runs side by side")
-    words.add_argument("--later", action="append", default=[], help="a block, or stop or exchange, that isn't built yet")
     given = words.parse_args()
     program = None if given.alone else given.program
     wrong_example = differing_example(program)
     if wrong_example:
         sys.exit("examples/%s: the report beside it is another one" % wrong_example)
-    put_off = [word.encode() for word in given.later]
     end = time.monotonic() + given.seconds
     endings, names, entries = Counter(), Counter(), 0
     with ProcessPoolExecutor(given.jobs) as pool:
         # Few at a time, so that the clock is looked at in between.
         for first in range(given.seed, given.seed + given.count, 200):
             seeds = range(first, min(first + 200, given.seed + given.count))
-            runs = pool.map(differs, *zip(*((program, seed, given.full, put_off) for seed in seeds)), chunksize=10)
+            runs = pool.map(differs, *zip(*((program, seed, given.full) for seed in seeds)), chunksize=10)
             for difference, ending, length, reached in runs:
                 if difference:
                     sys.exit(difference)

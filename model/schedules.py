@@ -15,8 +15,6 @@ COST_LIMIT = 2**30
 MOMENT_LIMIT = 2**40
 DECIMAL = re.compile(rb"0|[1-9][0-9]*")
 NAME = re.compile(rb"[\x21-\x7e]+")
-PUT_OFF = set()
-"""What isn't built yet, as b"pass", b"stop" or b"exchange": its lines are bad as `later`."""
 
 
 class Bad(Exception):
@@ -78,15 +76,6 @@ def read_args(text):
         raise Bad("json") from None
     needs(isinstance(args, list) and not has_float(args) and depth_of(args) <= 90, "json")
     return args
-
-
-def is_put_off(words):
-    """Whether a line is one that isn't built yet."""
-    if words[0] != b"begin" or len(words) < 3:
-        return words[0] == b"stop" and b"stop" in PUT_OFF
-    if words[2] == b"publish" and b"exchange" in PUT_OFF:
-        return len(words) > 3 and words[3] != b"-"
-    return words[2] in PUT_OFF
 
 
 # --- What a line begins: each reading checks the form of the words and gives what makes the block of a client at rest
@@ -200,7 +189,6 @@ class World:
     def line(self, text):
         """Does one line after the header; a bad one changes nothing."""
         words = check_text(text)
-        needs(not is_put_off(words), "later")
         lines = {b"client": self.client, b"at": self.at, b"begin": self.begin, b"step": self.step_line, b"run": self.run,
                  b"stop": self.stop}
         needs(words[0] in lines, "syntax")

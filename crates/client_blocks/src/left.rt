@@ -1,7 +1,7 @@
 //! What is left of a client's block.
 ghost use Rattle.std.specs.Prelude.{◌≡◌, ◌<◌, ◌≤◌, ℕ, IfOk, IfSome, OnOk, length, true};
 ghost use Rattle.command_blocks.specs.EnvelopeTexts.{plain_setting};
-ghost use Rattle.command_blocks.specs.Scripts.{Over, end_script, next_words, pop_script, publish_script, return_script, script_of};
+ghost use Rattle.command_blocks.specs.Scripts.{Over, end_script, next_words, pass_script, pop_script, publish_script, return_script, script_of};
 ghost use Rattle.store_model.specs.Limits.{moment_limit};
 ghost use Rattle.delivery_tags.specs.Tags.{tag_text};
 ghost use Rattle.routes.specs.Declares.{declaration_plan};
@@ -11,18 +11,19 @@ ghost use Rattle.client_blocks.specs.Blocks.{script_left};
 ghost use Rattle.client_blocks.specs.Lefts.{after_answer, heard_by};
 ghost use Rattle.serde_json.specs.View.{view as data_of};
 ghost use Rattle.serde_json.specs.Written.{compact_text};
-ghost use Rattle.wire_grammar.specs.Fits.{IsWithinLimits};
+ghost use Rattle.wire_grammar.specs.Fits.{IsShort, IsWithinLimits};
 
 use block_core::ReplyFault;
 use command_blocks::Side;
 use envelope::{Envelope, Tag};
+use passes::{PassCore, pass_core};
 use queue_keys::QueueName;
 use returns::{ReturnCore, return_core};
 use routes::{Declaration, DeclareCore, PublishCore, declare_core, publish_core};
 use std::alloc::{AllocError, Global};
 use store_model::Reply;
 use unacked::{EndCore, PopCore, end_core, pop_core};
-use wire_values::{List, Words};
+use wire_values::{Bytes, List, Words};
 
 /// What is left of a client's block: nothing, or what a core has to say. After want of memory in `took` nothing more is
 /// told.
@@ -34,6 +35,7 @@ pub enum BlockLeft {
     Pop(Box<PopCore>),
     End(Box<EndCore>),
     Return(Box<ReturnCore>),
+    Pass(Box<PassCore>),
 }
 
 impl BlockLeft {
@@ -82,6 +84,15 @@ impl BlockLeft {
         Ok(BlockLeft::Return(Box::new(alloc, return_core(tag, side))?))
     }
 
+    /// A pass under a visibility timeout in seconds, which has the mutex under this token, a short one as `pass_token`
+    /// makes it.
+    pub fn passing(alloc: Global, visibility: u32, token: Bytes) -> Result<BlockLeft, AllocError>
+        requires { IsShort token }
+        ensures { IfOk result (λ left. script_left left ≡ pass_script plain_setting token visibility) }
+    {
+        Ok(BlockLeft::Pass(Box::new(alloc, pass_core(visibility, token))?))
+    }
+
     /// Whether an answer wasn't listed.
     pub fn is_off(&self) -> bool
         ensures { result ≡ is_script_off (script_left self.now) }
@@ -93,6 +104,7 @@ impl BlockLeft {
             BlockLeft::Pop(core) => core.is_off(),
             BlockLeft::End(core) => core.is_off(),
             BlockLeft::Return(core) => core.is_off(),
+            BlockLeft::Pass(core) => core.is_off(),
         }
     }
 
@@ -107,6 +119,7 @@ impl BlockLeft {
             BlockLeft::Pop(core) => core.is_busy(),
             BlockLeft::End(core) => core.is_busy(),
             BlockLeft::Return(core) => core.is_busy(),
+            BlockLeft::Pass(core) => core.is_busy(),
         }
     }
 
@@ -122,6 +135,7 @@ impl BlockLeft {
             BlockLeft::Pop(core) => core.next(alloc, at),
             BlockLeft::End(core) => core.next(alloc, at),
             BlockLeft::Return(core) => core.next(alloc, at),
+            BlockLeft::Pass(core) => core.next(alloc, at),
         }
     }
 
@@ -138,6 +152,7 @@ impl BlockLeft {
             BlockLeft::Pop(core) => heard(core.took(alloc, at, reply)),
             BlockLeft::End(core) => heard(core.took(alloc, at, reply)),
             BlockLeft::Return(core) => heard(core.took(alloc, at, reply)),
+            BlockLeft::Pass(core) => heard(core.took(alloc, at, reply)),
         }
     }
 }

@@ -1,7 +1,7 @@
 //! What is left of a client's block: one type over the cores of all blocks.
 //!
-//! A declaration, a publication, a pop, an acknowledgement and a return are said command by command; a client has one of
-//! them at a time, or none.
+//! A declaration, a publication, a pop, an acknowledgement, a return and a pass are said command by command; a client
+//! has one of them at a time, or none.
 #![tactic(auto)]
 
 mod left;

@@ -9,7 +9,8 @@ use Rattle.delivery_tags.specs.Tags.{tag, tag_number, tag_text}
 use Rattle.command_blocks.specs.EnvelopeTexts.{plain_setting}
 use Rattle.queue_keys.specs.Bindings.{is_part}
 use Rattle.queue_keys.specs.Names.{Bytes, all_free, has_length, is_name, is_reserved}
-use Rattle.command_blocks.specs.Scripts.{Declare, End, Publish, Pop, Return, Undeclare, end_script, pop_script, publish_script, return_script, script_of}
+use Rattle.queue_keys.specs.Texts.{token}
+use Rattle.command_blocks.specs.Scripts.{Declare, End, Pass, Publish, Pop, Return, Undeclare, end_script, pass_script, pop_script, publish_script, return_script, script_of}
 use Rattle.command_blocks.specs.declared.side.Side.{Side}
 use Rattle.command_blocks.specs.declared.side.Side.TheVariants.{Left, Right}
 use Rattle.routes.specs.Declares.{declared_plan}
@@ -25,6 +26,7 @@ use Rattle.client_blocks.specs.Blocks.{script_left}
 use Rattle.client_plans.specs.Plans.{IsPrepared, are_no_parts, asked_binding, asked_return, is_no_binding, way_reason}
 use Rattle.client_plans.specs.Tasks.{Names}
 use Rattle.client_blocks.specs.declared.left.BlockLeft.{BlockLeft}
+use Rattle.client_plans.specs.declared.counts.ClientCounts.{ClientCounts}
 use Rattle.client_plans.specs.declared.fault.PlanFault.{PlanFault}
 use Rattle.client_plans.specs.declared.plan.BegunBlock.{BegunBlock}
 use Rattle.std.proofs.lemmas.List.Folds.{list_all_at}
@@ -78,15 +80,17 @@ module _ (s n : ℕ) (x k : Bytes) (p : ℕ) (t j : Bytes) where
   no_fault d v a e f = spelled d a e ∙ ap (λ o. first_reason (more false (is_none o))) (sym f)
 
 -- what is begun of a sealed envelope
-pub published : (s n : ℕ) (x k : Bytes) (p : ℕ) (t j : Bytes) (args : Data) (v : Bytes) (l : BlockLeft) (d : ℕ) → way_reason x k ≡ None
-    → Some args ≡ arguments_of j → Some v ≡ sealed_task s (suc n) x k p t j → script_left l ≡ publish_script plain_setting v → d ≡ suc n → IsPrepared s n (asked.Publish x k p t j) (Ok (record { left = l; drawn = d }))
-published s n x k p t j args v l d way e f left drawn =
-    (no_fault s (suc n) x k p t j args v way e f, (Publish v, ap publish_plan (sym f), (left, drawn)))
+pub published : (w : ClientCounts) (x k : Bytes) (p : ℕ) (t j : Bytes) (args : Data) (v : Bytes) (l : BlockLeft) (d : ℕ) → way_reason x k ≡ None
+    → Some args ≡ arguments_of j → Some v ≡ sealed_task w.seed (suc w.drawn) x k p t j → script_left l ≡ publish_script plain_setting v → d ≡ suc w.drawn
+    → IsPrepared w (asked.Publish x k p t j) (Ok (record { left = l; counts = record { seed = w.seed; drawn = d; passes = w.passes } }))
+published w x k p t j args v l d way e f left drawn =
+    let with_drawn : ℕ → ClientCounts = λ n. record { seed = w.seed; drawn = n; passes = w.passes } in
+    (no_fault w.seed (suc w.drawn) x k p t j args v way e f, (Publish v, ap publish_plan (sym f), (left, ap with_drawn drawn)))
 
 -- an answer to a publication by names that are the same
-pub same_prepared : (s n : ℕ) (x y k l : Bytes) (p : ℕ) (t u j : Bytes) (r : Result BegunBlock PlanFault) → x ≡ y → k ≡ l → t ≡ u → IsPrepared s n (asked.Publish x k p t j) r → IsPrepared s n (asked.Publish y l p u j) r
-same_prepared s n x y k l p t u j r a b e h =
-    subst (λ z. IsPrepared s n (asked.Publish y l p z j) r) e (subst (λ z. IsPrepared s n (asked.Publish y z p t j) r) b (subst (λ z. IsPrepared s n (asked.Publish z k p t j) r) a h))
+pub same_prepared : (w : ClientCounts) (x y k l : Bytes) (p : ℕ) (t u j : Bytes) (r : Result BegunBlock PlanFault) → x ≡ y → k ≡ l → t ≡ u → IsPrepared w (asked.Publish x k p t j) r → IsPrepared w (asked.Publish y l p u j) r
+same_prepared w x y k l p t u j r a b e h =
+    subst (λ z. IsPrepared w (asked.Publish y l p z j) r) e (subst (λ z. IsPrepared w (asked.Publish y z p t j) r) b (subst (λ z. IsPrepared w (asked.Publish z k p t j) r) a h))
 
 -- ---- a pop
 
@@ -100,18 +104,18 @@ pub pop_reserved : (s n : ℕ) (qs : List Bytes) → list_any is_no_name qs ≡ 
 pop_reserved s n qs a b = ap (λ y. first_reason (two y (list_any is_reserved qs))) a ∙ ap (λ y. first_reason (two false y)) b
 
 -- what is begun of names that passed
-pub popped : (s n : ℕ) (qs : List Bytes) (l : BlockLeft) (d : ℕ) → list_any is_no_name qs ≡ false → list_any is_reserved qs ≡ false
-    → script_left l ≡ pop_script plain_setting qs → d ≡ n → IsPrepared s n (asked.Pop qs) (Ok (record { left = l; drawn = d }))
-popped s n qs l d a c left drawn =
-    (ap (λ y. first_reason (two y (list_any is_reserved qs))) a ∙ ap (λ y. first_reason (two false y)) c, (Pop qs, refl, (left, drawn)))
+pub popped : (w : ClientCounts) (qs : List Bytes) (l : BlockLeft) → list_any is_no_name qs ≡ false → list_any is_reserved qs ≡ false
+    → script_left l ≡ pop_script plain_setting qs → IsPrepared w (asked.Pop qs) (Ok (record { left = l; counts = w }))
+popped w qs l a c left =
+    (ap (λ y. first_reason (two y (list_any is_reserved qs))) a ∙ ap (λ y. first_reason (two false y)) c, (Pop qs, refl, (left, refl)))
 
 -- ---- an acknowledgement
 
 -- what is begun of a tag
-pub acknowledged : (s n of counter m : ℕ) (l : BlockLeft) (d : ℕ) → of < 2 ^ 64 → counter < 2 ^ 64 → m ≡ tag_number of counter
-    → script_left l ≡ end_script plain_setting (tag_text m) → d ≡ n → IsPrepared s n (asked.Ack of counter) (Ok (record { left = l; drawn = d }))
-acknowledged s n of counter m l d h i e left drawn =
-    (refl, (End (tag of counter), refl, (left ∙ ap (λ t. end_script plain_setting t) (ap tag_text e ∙ text_of_tag of counter h i), drawn)))
+pub acknowledged : (w : ClientCounts) (of counter m : ℕ) (l : BlockLeft) → of < 2 ^ 64 → counter < 2 ^ 64 → m ≡ tag_number of counter
+    → script_left l ≡ end_script plain_setting (tag_text m) → IsPrepared w (asked.Ack of counter) (Ok (record { left = l; counts = w }))
+acknowledged w of counter m l h i e left =
+    (refl, (End (tag of counter), refl, (left ∙ ap (λ t. end_script plain_setting t) (ap tag_text e ∙ text_of_tag of counter h i), refl)))
 
 -- ---- names
 
@@ -186,17 +190,26 @@ lawful_parts x k p q e f =
     (not_false (is_part x) c.0, not_false (is_part k) c.1, not_false (is_part p) b.1, lawful q a.1 f)
 
 -- what is begun of a lawful binding
-pub declared : (s n : ℕ) (change : Change) (x k p q : Bytes) (l : BlockLeft) (d : ℕ) → is_no_binding x k p q ≡ false → is_reserved q ≡ false
-    → script_left l ≡ script_of plain_setting s 0 (declared_plan change x k p q) → d ≡ n → IsPrepared s n (asked_binding change x k p q) (Ok (record { left = l; drawn = d }))
-declared s n Add x k p q l d e f left drawn = (two_known (is_no_binding x k p q) (is_reserved q) false false e f, (Declare x k p q, refl, (left, drawn)))
-declared s n Remove x k p q l d e f left drawn = (two_known (is_no_binding x k p q) (is_reserved q) false false e f, (Undeclare x k p q, refl, (left, drawn)))
+pub declared : (w : ClientCounts) (change : Change) (x k p q : Bytes) (l : BlockLeft) → is_no_binding x k p q ≡ false → is_reserved q ≡ false
+    → script_left l ≡ script_of plain_setting w.seed w.passes (declared_plan change x k p q) → IsPrepared w (asked_binding change x k p q) (Ok (record { left = l; counts = w }))
+declared w Add x k p q l e f left = (two_known (is_no_binding x k p q) (is_reserved q) false false e f, (Declare x k p q, refl, (left, refl)))
+declared w Remove x k p q l e f left = (two_known (is_no_binding x k p q) (is_reserved q) false false e f, (Undeclare x k p q, refl, (left, refl)))
 
 -- ---- a return
 
 -- what is begun of a tag
-pub returned : (s n : ℕ) (side : Side) (of counter m : ℕ) (l : BlockLeft) (d : ℕ) → of < 2 ^ 64 → counter < 2 ^ 64 → m ≡ tag_number of counter
-    → script_left l ≡ return_script plain_setting side (tag_text m) → d ≡ n → IsPrepared s n (asked_return side of counter) (Ok (record { left = l; drawn = d }))
-returned s n Left of counter m l d h i e left drawn =
-    (refl, (Return Left (tag of counter), refl, (left ∙ ap (λ t. return_script plain_setting Left t) (ap tag_text e ∙ text_of_tag of counter h i), drawn)))
-returned s n Right of counter m l d h i e left drawn =
-    (refl, (Return Right (tag of counter), refl, (left ∙ ap (λ t. return_script plain_setting Right t) (ap tag_text e ∙ text_of_tag of counter h i), drawn)))
+pub returned : (w : ClientCounts) (side : Side) (of counter m : ℕ) (l : BlockLeft) → of < 2 ^ 64 → counter < 2 ^ 64 → m ≡ tag_number of counter
+    → script_left l ≡ return_script plain_setting side (tag_text m) → IsPrepared w (asked_return side of counter) (Ok (record { left = l; counts = w }))
+returned w Left of counter m l h i e left =
+    (refl, (Return Left (tag of counter), refl, (left ∙ ap (λ t. return_script plain_setting Left t) (ap tag_text e ∙ text_of_tag of counter h i), refl)))
+returned w Right of counter m l h i e left =
+    (refl, (Return Right (tag of counter), refl, (left ∙ ap (λ t. return_script plain_setting Right t) (ap tag_text e ∙ text_of_tag of counter h i), refl)))
+
+-- ---- a pass
+
+-- what is begun under the token of the client's next pass
+pub passing_begun : (w : ClientCounts) (v m : ℕ) (t : Bytes) (l : BlockLeft) → m ≡ suc w.passes → t ≡ token w.seed m → script_left l ≡ pass_script plain_setting t v
+    → IsPrepared w (asked.Pass v) (Ok (record { left = l; counts = record { seed = w.seed; drawn = w.drawn; passes = m } }))
+passing_begun w v m t l next made left =
+    let with_passes : ℕ → ClientCounts = λ n. record { seed = w.seed; drawn = w.drawn; passes = n } in
+    (refl, (Pass v, refl, (left ∙ ap (λ k. pass_script plain_setting k v) (made ∙ ap (token w.seed) next), ap with_passes next)))

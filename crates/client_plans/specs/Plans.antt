@@ -1,6 +1,6 @@
 -- What preparing a plan answers, and what may be begun.
 use Rattle.std.specs.Prelude.{◌≡◌, ◌≤◌, ℕ, suc, Bool, not, ◌&&◌, ◌||◌, if◌then◌else◌, length, [], ◌∷◌, Option, Result, Ok, Err, None, Some}
-use Rattle.command_blocks.specs.Blocks.{drawn}
+use Rattle.command_blocks.specs.Blocks.{drawn, passes_after}
 use Rattle.command_blocks.specs.EnvelopeTexts.{plain_setting}
 use Rattle.command_blocks.specs.Scripts.{Plan, counter_use, script_of}
 use Rattle.command_blocks.specs.declared.side.Side.{Side}
@@ -17,16 +17,16 @@ use Rattle.schedule_model.specs.Schedules.{plan_of}
 use Rattle.schedule_model.specs.declared.line.Asked.{Asked}
 use Rattle.schedule_model.specs.declared.line.Asked.TheVariants as asked
 use Rattle.client_blocks.specs.Blocks.{script_left}
+use Rattle.client_plans.specs.declared.counts.ClientCounts.{ClientCounts}
 use Rattle.client_plans.specs.declared.fault.PlanFault.{PlanFault}
 use Rattle.client_plans.specs.declared.fault.PlanFault.TheVariants.{Bad, Memory}
 use Rattle.client_plans.specs.declared.plan.BegunBlock.{BegunBlock}
 
--- what is begun is built, and spelled by a line: a published task has a name, a pop goes over 1 to 1,023 queues; a pass is no such block
-abbrev pub IsBuiltBlock : Asked → Type 0
-IsBuiltBlock (asked.Publish x k p t j) = 1 ≤ length t
-IsBuiltBlock (asked.Pop qs) = (1 ≤ length qs) × (length qs ≤ 1023)
-IsBuiltBlock (asked.Pass v) = ⊥
-IsBuiltBlock other = Unit {0}
+-- a line can ask for it: a published task has a name, a pop goes over 1 to 1,023 queues
+abbrev pub IsAskable : Asked → Type 0
+IsAskable (asked.Publish x k p t j) = 1 ≤ length t
+IsAskable (asked.Pop qs) = (1 ≤ length qs) × (length qs ≤ 1023)
+IsAskable other = Unit {0}
 
 -- ---- what is asked
 
@@ -60,12 +60,16 @@ is_no_binding x k p q = are_no_parts x k p || is_no_name q
 
 -- ---- answers
 
--- what is begun by the plan of a client of this seed that drew n tags
-abbrev pub IsBegun : ℕ → ℕ → Plan → BegunBlock → Type 0
-IsBegun s n p b = (script_left b.left ≡ script_of plain_setting s 0 p) × (b.drawn ≡ drawn (counter_use p) n)
+-- a client's counts after it began a plan
+abbrev pub counts_after : Plan → ClientCounts → ClientCounts
+counts_after p w = record { seed = w.seed; drawn = drawn (counter_use p) w.drawn; passes = passes_after (counter_use p) w.passes }
 
--- an answer to what a client of this seed that drew n tags asks to begin: its plan is begun, or the first of its tests that holds; want of memory may be answered at any time
-abbrev pub IsPrepared : ℕ → ℕ → Asked → Result BegunBlock PlanFault → Type 0
-IsPrepared s n a (Ok b) = (first_reason (asked_tests program_craft s (suc n) a) ≡ None) × ((p : Plan) × (plan_of program_craft s (suc n) a ≡ Some p) × IsBegun s n p b)
-IsPrepared s n a (Err (Bad r)) = first_reason (asked_tests program_craft s (suc n) a) ≡ Some r
-IsPrepared s n a (Err Memory) = Unit {0}
+-- what is begun by the plan of a client with these counts
+abbrev pub IsBegun : ClientCounts → Plan → BegunBlock → Type 0
+IsBegun w p b = (script_left b.left ≡ script_of plain_setting w.seed w.passes p) × (b.counts ≡ counts_after p w)
+
+-- an answer to what a client with these counts asks to begin: its plan is begun, or the first of its tests that holds; want of memory may be answered at any time
+abbrev pub IsPrepared : ClientCounts → Asked → Result BegunBlock PlanFault → Type 0
+IsPrepared w a (Ok b) = (first_reason (asked_tests program_craft w.seed (suc w.drawn) a) ≡ None) × ((p : Plan) × (plan_of program_craft w.seed (suc w.drawn) a ≡ Some p) × IsBegun w p b)
+IsPrepared w a (Err (Bad r)) = first_reason (asked_tests program_craft w.seed (suc w.drawn) a) ≡ Some r
+IsPrepared w a (Err Memory) = Unit {0}

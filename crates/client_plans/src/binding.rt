@@ -5,9 +5,9 @@ ghost use Rattle.queue_keys.specs.Names.{is_name};
 ghost use Rattle.routes.specs.Declares.{declaration_plan, declared_plan};
 ghost use Rattle.client_plans.specs.Plans.{IsPrepared, are_no_parts, asked_binding, is_no_binding};
 
-use crate::PlanFault;
 use crate::names::{is_no_name, queue_name};
 use crate::plan::BegunBlock;
+use crate::{ClientCounts, PlanFault};
 use client_blocks::BlockLeft;
 use line_text::Reason;
 use lookups::is_part;
@@ -19,15 +19,14 @@ use wire_values::Bytes;
 /// A binding that goes into its exchange's set, or out of it.
 pub(crate) fn declaring(
     alloc: Global,
-    seed: u64,
-    drawn: u64,
+    counts: ClientCounts,
     change: Change,
     exchange: &Bytes,
     routing_key: &Bytes,
     pattern: &Bytes,
     queue: &Bytes,
 ) -> Result<BegunBlock, PlanFault>
-    ensures { IsPrepared seed drawn
+    ensures { IsPrepared counts
         (asked_binding change exchange.now routing_key.now pattern.now queue.now) result }
 {
     if is_no_binding(exchange, routing_key, pattern, queue) {
@@ -38,7 +37,7 @@ pub(crate) fn declaring(
     }
     let declaration = declaration_of(alloc, change, exchange, routing_key, pattern, queue)?;
     let left = BlockLeft::declaration(alloc, declaration)?;
-    Ok(BegunBlock { left, drawn })
+    Ok(BegunBlock { left, counts })
 }
 
 /// Whether these aren't the parts of a binding, or no queue's name is spelled so, reserved or not.

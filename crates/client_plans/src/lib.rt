@@ -5,10 +5,12 @@
 
 mod arguments;
 mod binding;
+mod counts;
 mod fault;
 mod names;
 mod plan;
 mod task;
 
+pub use counts::ClientCounts;
 pub use fault::PlanFault;
 pub use plan::{BegunBlock, prepared};

@@ -7,47 +7,48 @@ ghost use Rattle.command_blocks.specs.Scripts.{publish_script};
 ghost use Rattle.schedule_model.specs.Drafts.{arguments_of, if_arguments};
 ghost use Rattle.routes.specs.Publishes.{IsPublishable};
 ghost use Rattle.client_blocks.specs.Blocks.{script_left};
-ghost use Rattle.schedule_model.specs.declared.line.Asked.TheVariants.{Ack, Pop, Publish};
-ghost use Rattle.client_plans.specs.Plans.{IsBuiltBlock, IsPrepared, asked_return, way_reason};
+ghost use Rattle.schedule_model.specs.declared.line.Asked.TheVariants.{Ack, Pass, Pop, Publish};
+ghost use Rattle.client_plans.specs.Plans.{IsAskable, IsPrepared, asked_return, way_reason};
 ghost use Rattle.client_plans.specs.Tasks.{envelope_text};
 
-use crate::PlanFault;
 use crate::arguments::arguments_of;
 use crate::binding::declaring;
 use crate::names::{has_no_name, has_reserved, queue_names, way_fault};
 use crate::task::{Publication, sealed_task};
+use crate::{ClientCounts, PlanFault};
 use client_blocks::BlockLeft;
 use command_blocks::Side;
 use envelope::{Envelope, Tag, Tree};
 use letters::Letters;
 use line_text::Reason;
+use passes::pass_token;
 use routes::Change;
 use schedule_model::Asked;
 use std::alloc::{AllocError, Global};
 use wire_values::{Bytes, Words};
 
-/// A block that was begun, and how many tags its client drew by then.
+/// A block that was begun, and its client's counts from then on.
 #[derive(Drop)]
 pub struct BegunBlock {
     /// What its client has left to say of it.
     pub left: BlockLeft,
-    /// How many tags its client drew.
-    pub drawn: u64,
+    /// The counts of its client.
+    pub counts: ClientCounts,
 }
 
-/// What a client of a seed that drew so many tags asks to begin.
+/// What a client with these counts asks to begin.
 ///
 /// # Errors
-/// `Bad` with the first reason that holds; `Memory` is want of memory, or of a tag that the client could draw.
+/// `Bad` with the first reason that holds; `Memory` is want of memory, or of a tag or a token that the client could
+/// draw.
 pub fn prepared(
     alloc: Global,
     letters: &mut Letters,
-    seed: u64,
-    drawn: u64,
+    counts: ClientCounts,
     asked: &Asked,
 ) -> Result<BegunBlock, PlanFault>
-    requires { IsBuiltBlock asked.now }
-    ensures { IsPrepared seed drawn asked.now result }
+    requires { IsAskable asked.now }
+    ensures { IsPrepared counts asked.now result }
 {
     match asked {
         Asked::Publish {
@@ -60,8 +61,7 @@ pub fn prepared(
             publication(
                 alloc,
                 letters,
-                seed,
-                drawn,
+                counts,
                 exchange,
                 routing_key,
                 *priority,
@@ -77,8 +77,7 @@ pub fn prepared(
         } => {
             declaring(
                 alloc,
-                seed,
-                drawn,
+                counts,
                 Change::Add,
                 exchange,
                 routing_key,
@@ -94,8 +93,7 @@ pub fn prepared(
         } => {
             declaring(
                 alloc,
-                seed,
-                drawn,
+                counts,
                 Change::Remove,
                 exchange,
                 routing_key,
@@ -103,25 +101,17 @@ pub fn prepared(
                 queue,
             )
         }
-        Asked::Pop { queues } => popping(alloc, seed, drawn, queues),
-        Asked::Ack { seed: of, counter } => acknowledging(alloc, seed, drawn, *of, *counter),
+        Asked::Pop { queues } => popping(alloc, counts, queues),
+        Asked::Ack { seed: of, counter } => acknowledging(alloc, counts, *of, *counter),
         Asked::Restore { seed: of, counter } => returning(
             alloc,
-            seed,
-            drawn,
+            counts,
             Side::Right,
             *of,
             *counter,
         ),
-        Asked::Requeue { seed: of, counter } => returning(
-            alloc,
-            seed,
-            drawn,
-            Side::Left,
-            *of,
-            *counter,
-        ),
-        Asked::Pass { .. } => unreachable!(),
+        Asked::Requeue { seed: of, counter } => returning(alloc, counts, Side::Left, *of, *counter),
+        Asked::Pass { visibility } => passing(alloc, counts, *visibility),
     }
 }
 
@@ -129,8 +119,7 @@ pub fn prepared(
 fn publication(
     alloc: Global,
     letters: &mut Letters,
-    seed: u64,
-    drawn: u64,
+    counts: ClientCounts,
     exchange: &Bytes,
     routing_key: &Bytes,
     priority: u8,
@@ -138,7 +127,7 @@ fn publication(
     text: &Bytes,
 ) -> Result<BegunBlock, PlanFault>
     requires { 1 ≤ length task.now }
-    ensures { IsPrepared seed drawn (Publish exchange.now routing_key.now priority task.now text.now) result }
+    ensures { IsPrepared counts (Publish exchange.now routing_key.now priority task.now text.now) result }
 {
     if let Some(reason) = way_fault(exchange, routing_key) {
         return Err(PlanFault::Bad(reason));
@@ -152,15 +141,14 @@ fn publication(
         priority,
         task: task.as_slice(),
     };
-    sealing(alloc, letters, seed, drawn, &asked, arguments)
+    sealing(alloc, letters, counts, &asked, arguments)
 }
 
 /// A publication with these arguments; on the empty exchange its routing key is the lawful name of a queue.
 fn sealing(
     alloc: Global,
     letters: &mut Letters,
-    seed: u64,
-    drawn: u64,
+    counts: ClientCounts,
     asked: &Publication,
     arguments: Tree,
 ) -> Result<BegunBlock, PlanFault>
@@ -168,21 +156,23 @@ fn sealing(
     requires task { 1 ≤ length asked.now.task.now }
     requires lawful { if_arguments (data_of arguments) ≡ Some (data_of arguments) }
     // Whatever text spells the arguments.
-    ensures { (j : Bytes) → arguments_of j ≡ Some (data_of arguments) → IsPrepared seed drawn
+    ensures { (j : Bytes) → arguments_of j ≡ Some (data_of arguments) → IsPrepared counts
         (Publish asked.now.exchange.now asked.now.routing_key.now asked.now.priority asked.now.task.now j) result }
 {
     // No history has room for 2^64 tags.
-    let Some(counter) = drawn.checked_add(1) else {
+    let Some(counter) = counts.drawn.checked_add(1) else {
         return Err(PlanFault::Memory);
     };
-    let Some(envelope) = sealed_task(alloc, seed, counter, asked, arguments)? else {
+    let Some(envelope) = sealed_task(alloc, counts.seed, counter, asked, arguments)? else {
         return Err(PlanFault::Bad(Reason::Task));
     };
     let left = sent(alloc, letters, envelope)?;
-    Ok(BegunBlock {
-        left,
+    let counts = ClientCounts {
+        seed: counts.seed,
         drawn: counter,
-    })
+        passes: counts.passes,
+    };
+    Ok(BegunBlock { left, counts })
 }
 
 /// An envelope on its way to its queues, which is noted.
@@ -196,10 +186,10 @@ fn sent(alloc: Global, letters: &mut Letters, envelope: Envelope) -> Result<Bloc
 }
 
 /// A pop over queues.
-fn popping(alloc: Global, seed: u64, drawn: u64, queues: &Words) -> Result<BegunBlock, PlanFault>
+fn popping(alloc: Global, counts: ClientCounts, queues: &Words) -> Result<BegunBlock, PlanFault>
     requires some { 1 ≤ length queues.now }
     requires few { length queues.now ≤ 1023 }
-    ensures { IsPrepared seed drawn (Pop queues.now) result }
+    ensures { IsPrepared counts (Pop queues.now) result }
 {
     if has_no_name(queues.as_slice()) {
         return Err(PlanFault::Bad(Reason::Name));
@@ -209,34 +199,50 @@ fn popping(alloc: Global, seed: u64, drawn: u64, queues: &Words) -> Result<Begun
     }
     let names = queue_names(alloc, queues.as_slice())?;
     let left = BlockLeft::pop(alloc, names)?;
-    Ok(BegunBlock { left, drawn })
+    Ok(BegunBlock { left, counts })
 }
 
 /// An acknowledgement of a tag.
 fn acknowledging(
     alloc: Global,
-    seed: u64,
-    drawn: u64,
+    counts: ClientCounts,
     of: u64,
     counter: u64,
 ) -> Result<BegunBlock, PlanFault>
-    ensures { IsPrepared seed drawn (Ack of counter) result }
+    ensures { IsPrepared counts (Ack of counter) result }
 {
     let left = BlockLeft::acknowledgement(alloc, Tag::of(of, counter))?;
-    Ok(BegunBlock { left, drawn })
+    Ok(BegunBlock { left, counts })
 }
 
 /// A return of a tag's message to its queues, at this side of them.
 fn returning(
     alloc: Global,
-    seed: u64,
-    drawn: u64,
+    counts: ClientCounts,
     side: Side,
     of: u64,
     counter: u64,
 ) -> Result<BegunBlock, PlanFault>
-    ensures { IsPrepared seed drawn (asked_return side of counter) result }
+    ensures { IsPrepared counts (asked_return side of counter) result }
 {
     let left = BlockLeft::returning(alloc, Tag::of(of, counter), side)?;
-    Ok(BegunBlock { left, drawn })
+    Ok(BegunBlock { left, counts })
+}
+
+/// A pass over the messages that have been unacknowledged for so many seconds.
+fn passing(alloc: Global, counts: ClientCounts, visibility: u32) -> Result<BegunBlock, PlanFault>
+    ensures { IsPrepared counts (Pass visibility) result }
+{
+    // No history has room for 2^64 passes.
+    let Some(number) = counts.passes.checked_add(1) else {
+        return Err(PlanFault::Memory);
+    };
+    let token = pass_token(alloc, counts.seed, number)?;
+    let left = BlockLeft::passing(alloc, visibility, token)?;
+    let counts = ClientCounts {
+        seed: counts.seed,
+        drawn: counts.drawn,
+        passes: number,
+    };
+    Ok(BegunBlock { left, counts })
 }

@@ -1,14 +1,13 @@
 -- Why a line is bad, as a program prints it.
 use Rattle.std.specs.Prelude.{ℕ, List, codes}
 use Rattle.line_text.specs.declared.reason.Reason.{Reason}
-use Rattle.line_text.specs.declared.reason.Reason.TheVariants.{Long, Text, Header, Later, Syntax, UnknownClient, Stopped, Busy, Idle, Repeated, Moment, Name, Reserved, Json, Task, Illegal, Unmannered, Cron, Queue}
+use Rattle.line_text.specs.declared.reason.Reason.TheVariants.{Long, Text, Header, Syntax, UnknownClient, Stopped, Busy, Idle, Repeated, Moment, Name, Reserved, Json, Task, Illegal, Unmannered, Cron, Queue}
 
 -- the text of a reason
 abbrev pub reason_text : Reason → List ℕ
 reason_text Long = codes "long"
 reason_text Text = codes "text"
 reason_text Header = codes "header"
-reason_text Later = codes "later"
 reason_text Syntax = codes "syntax"
 reason_text UnknownClient = codes "unknown client"
 reason_text Stopped = codes "stopped"

@@ -10,8 +10,6 @@ pub enum Reason {
     Text,
     /// The first line isn't the header of this kind of text.
     Header,
-    /// The line is of a kind that this program doesn't take yet.
-    Later,
     /// A word is missing, too much, or none that may stand there.
     Syntax,
     /// The client wasn't named by a client line before.
@@ -56,7 +54,6 @@ impl Reason {
             Reason::Long => "long",
             Reason::Text => "text",
             Reason::Header => "header",
-            Reason::Later => "later",
             Reason::Syntax => "syntax",
             Reason::UnknownClient => "unknown client",
             Reason::Stopped => "stopped",

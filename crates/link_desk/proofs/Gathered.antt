@@ -1,6 +1,5 @@
 -- Pushed values, one after the other, and what ends them.
-use Rattle.std.proofs.Common.{List, Ok, Err, Result, Option, None, Some, [], append-nil, append_assoc, ap, arith, inl, inr, length, length-append, refl, subst, sym, true, false, ℕ, ◌+◌, ◌++◌, ◌<◌, ◌≤◌, ◌∙◌, ◌∷◌, ◌≡◌}
-use Rattle.std.specs.Prelude.{⊤}
+use Rattle.std.proofs.Common.{List, Ok, Err, Option, [], append-nil, arith, length, length-append, subst, sym, true, ℕ, ◌+◌, ◌++◌, ◌≤◌, ◌∷◌, ◌≡◌}
 use Rattle.wire_values.specs.declared.value.Value.{Value}
 use Rattle.resp_wire.specs.Stands.{Stands}
 use Rattle.resp_wire.specs.declared.decoder.Decoder.{Decoder}
@@ -44,7 +43,7 @@ module _ (before : ℕ) (rest : List ℕ) (a b c : Option (List ℕ)) (d e : Dec
         record { values = vs ++ v ∷ []; from = h.0; left = h.1; come = h.2; pushed = pushed_more vs v pushed is; why = omega (arith, few, k.1, length-append vs (v ∷ [])) }
     gathered_over ws Memory pushed few is k =
         let h = came_behind v (came g.0 g.1 g.3) in
-        record { values = vs ++ v ∷ []; from = h.0; left = h.1; come = h.2; pushed = pushed_more vs v pushed is; why = tt }
+        record { values = vs ++ v ∷ []; from = h.0; left = h.1; come = h.2; pushed = pushed_more vs v pushed is; why = (omega (arith, k, length-append vs (v ∷ [])), tt) }
     gathered_over ws Link pushed few is k = absurd k
     gathered_over ws (Wire kind place) pushed few is k = absurd k
     gathered_over ws (Full entries bytes) pushed few is k = absurd k
@@ -60,7 +59,7 @@ module _ (before : ℕ) (rest : List ℕ) (a b c : Option (List ℕ)) (d e : Dec
     by : (f : DeskFault) → HasValue g.0 g.1 b c e (Err f) → HasNoReply before rest a c f
     by Link n = record { values = vs; from = n.0; left = n.1; come = joined n.0 n.1 n.2; pushed = pushed; why = (few, n.3) }
     by (Wire kind place) n = record { values = vs; from = n.0; left = n.1; come = joined n.0 n.1 n.2; pushed = pushed; why = (few, n.3) }
-    by Memory n = record { values = vs; from = n.0; left = n.1; come = joined n.0 n.1 n.2; pushed = pushed; why = tt }
+    by Memory n = record { values = vs; from = n.0; left = n.1; come = joined n.0 n.1 n.2; pushed = pushed; why = (few, tt) }
     by Flood n = absurd n.3
     by (Full entries bytes) n = absurd n.3
     by Closed n = absurd n.3

@@ -1,20 +1,19 @@
 -- What a desk over a link does.
-use Rattle.std.proofs.Common.{Bool, Err, List, None, Ok, Option, Result, Some, [], append-nil, ap, arith, false, flat_map, inl, inr, refl, subst, sym, true, ℕ, ◌++◌, ◌∙◌, ◌∷◌, ◌≡◌}
-use Rattle.std.specs.Io.KnownBytes.{Appends, Keeps}
+use Rattle.std.proofs.Common.{Bool, Err, List, None, Ok, Option, Result, Some, [], append-nil, ap, arith, false, inl, inr, refl, subst, sym, true, ℕ, ◌++◌, ◌∙◌, ◌∷◌, ◌≡◌}
+use Rattle.std.specs.Io.KnownBytes.{Appends}
 use Rattle.std.proofs.KnownBytes.{Appends-kept, Appends-nil}
-use Rattle.resp_wire.specs.Stands.{Stands}
 use Rattle.resp_wire.specs.declared.decoder.Decoder.{Decoder}
 use Rattle.store_model.specs.Words.{Words}
 use Rattle.store_model.specs.declared.reply.Reply.{Reply}
 use Rattle.place_model.specs.declared.heard.Heard.{Heard}
-use Rattle.desks.specs.Deeds.{Deed, DidAsk, DidNote, DidStop}
+use Rattle.desks.specs.Deeds.{DidAsk, DidNote, DidStop}
 use Rattle.desks.specs.Faults.{HasCounts, IsFaultOf, IsNotEnded, IsOpen, IsTimely, first_fault}
 use Rattle.desks.specs.declared.desk.DeskFault.{DeskFault}
 use Rattle.desks.specs.declared.desk.DeskFault.TheVariants.{Closed, Ended, Flood, Full, Link, Memory, Wire}
 use Rattle.link_desk.specs.CarriesLaws.{come_none}
 use Rattle.link_desk.specs.Exchanges.{HasExchanged}
 use Rattle.link_desk.specs.Hearings.{HasCome, HasLinkCause, reply_values}
-use Rattle.link_desk.specs.LinkDeeds.{CarriesDeeds, CarriesBy, CarriesOpen, HasAsked, HasAskedMore, LinkDeskView, SendsPart, command_bytes, is_open, link_desk_view, notes_told, values_told}
+use Rattle.link_desk.specs.LinkDeeds.{CarriesDeeds, HasAskedMore, command_bytes, is_open, link_desk_view}
 
 -- a desk that answered no fault and wasn't stopped takes something
 shown : (fault : Option DeskFault) (stopped : Bool) → IsOpen fault stopped → is_open fault stopped ≡ true

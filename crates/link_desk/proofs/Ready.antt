@@ -1,5 +1,5 @@
 -- Where a decoder stands, after each of its calls.
-use Rattle.std.proofs.Common.{List, Ok, Err, Result, Option, None, Some, arith, inl, inr, [], length, length-append, ℕ, ◌+◌, ◌++◌, ◌<◌, ◌≡◌}
+use Rattle.std.proofs.Common.{List, Ok, Err, Result, Option, None, Some, arith, inl, inr, length, length-append, ℕ, ◌+◌, ◌++◌, ◌<◌, ◌≡◌}
 use Rattle.std.specs.Prelude.{⊤}
 use Rattle.std.specs.Prelude.{IsErr, OnErr, OnOk}
 use Rattle.std.specs.Io.KnownBytes.{Appends}

@@ -1,17 +1,14 @@
 -- What a desk's link carried goes on.
-use Rattle.std.specs.Io.KnownBytes.{Appends, Keeps}
+use Rattle.std.specs.Io.KnownBytes.{Appends}
 use Rattle.std.specs.Prelude.{Bool, List, Option, [], false, flat_map, length, refl, true, ℕ, ◌+◌, ◌++◌, ◌∷◌, ◌≡◌}
 use Rattle.std.proofs.Common.{arith, ap, append-nil, append_assoc, subst, sym, ◌∙◌}
 use Rattle.std.proofs.KnownBytes.{Appends-nil, Appends-trans}
 use Rattle.std.proofs.lemmas.Grind.{flat_map-append}
 use Rattle.wire_values.specs.declared.value.Value.{Value}
-use Rattle.wire_grammar.specs.Spells.{Spells}
 use Rattle.wire_grammar.specs.Streams.{Leads}
-use Rattle.resp_wire.specs.Stands.{Stands}
-use Rattle.resp_wire.specs.declared.decoder.Decoder.{Decoder}
 use Rattle.desks.specs.Deeds.{Deed, DidAsk, DidNote, DidStop}
 use Rattle.link_desk.specs.Hearings.{HasCome}
-use Rattle.link_desk.specs.LinkDeeds.{AreReplies, CarriesDeeds, CarriesBy, CarriesOpen, HasAsked, HasAskedMore, LinkDeskView, bytes_asked, command_bytes, notes_told, values_told}
+use Rattle.link_desk.specs.LinkDeeds.{AreReplies, CarriesDeeds, CarriesBy, CarriesOpen, HasAsked, HasAskedMore, LinkDeskView, bytes_asked, notes_told, values_told}
 
 -- values after values
 leads_joins : (p : ℕ) (s : List ℕ) (vs : List Value) (q : ℕ) (left t : List ℕ) (ws : List Value) (r : ℕ) (end : List ℕ) → Leads p s vs q left → Leads q (left ++ t) ws r end → Leads p (s ++ t) (vs ++ ws) r end

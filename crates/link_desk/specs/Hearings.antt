@@ -58,15 +58,18 @@ GivesNone from left (Full entries bytes) = ⊥
 GivesNone from left Closed = ⊥
 GivesNone from left Ended = ⊥
 
--- the next value came; or none did
+-- a piece was received only where no value was whole: what there was before the last one is the front of a value
+abbrev pub IsWanted : List ℕ → List ℕ → Type 0
+IsWanted rest stream = (stream ≡ []) ⊎ ((early : List ℕ) × (last : List ℕ) × (stream ≡ early ++ last) × IsFront (rest ++ early))
+
+-- the next value came, and no piece behind it was asked for; or none did
 abbrev pub HasValue : ℕ → List ℕ → Option (List ℕ) → Option (List ℕ) → Decoder → Result Value DeskFault → Type 0
-HasValue before rest old new d (Ok v) = (from : ℕ) × (left : List ℕ) × HasCome before rest old new (v ∷ []) from left × Stands d from left
+HasValue before rest old new d (Ok v) = (from : ℕ) × (left : List ℕ) × (come : HasCome before rest old new (v ∷ []) from left) × Stands d from left × IsWanted rest come.stream
 HasValue before rest old new d (Err fault) = (from : ℕ) × (left : List ℕ) × HasCome before rest old new [] from left × GivesNone from left fault
 
--- why there is no reply after pushed values: there is one too many of them; or there was no memory; or they are within the limit, and what follows gives no value
+-- why there is no reply after pushed values: there is one too many of them; or they are within the limit, and what follows gives no value
 abbrev pub GivesNoReply : List Value → ℕ → List ℕ → DeskFault → Type 0
 GivesNoReply pushed from left Flood = length pushed ≡ pushed_limit + 1
-GivesNoReply pushed from left Memory = ⊤
 GivesNoReply pushed from left fault = (length pushed ≤ pushed_limit) × GivesNone from left fault
 
 -- pushed values came, and no reply
@@ -78,11 +81,11 @@ pub record HasNoReply (before : ℕ) (rest : List ℕ) (old new : Option (List �
   pub pushed : ArePushed values
   pub why : GivesNoReply values from left fault
 
--- a pushed value was kept, within the limit; or there were as many as may be; or there was no memory
+-- a pushed value was kept, within the limit; or there were as many as may be; or there was no memory for one within the limit
 abbrev pub KeepsPushed : List Value → List Value → Value → Result ⊤ DeskFault → Type 0
 KeepsPushed old new v (Ok done) = (new ≡ old ++ v ∷ []) × (length old < pushed_limit)
 KeepsPushed old new v (Err Flood) = (new ≡ old) × (pushed_limit ≤ length old)
-KeepsPushed old new v (Err Memory) = Unit {0}
+KeepsPushed old new v (Err Memory) = length old < pushed_limit
 KeepsPushed old new v (Err Link) = ⊥
 KeepsPushed old new v (Err (Wire kind place)) = ⊥
 KeepsPushed old new v (Err (Full entries bytes)) = ⊥

@@ -33,7 +33,8 @@ impl Hearing {
         }
     }
 
-    /// Receives values until one is whole, and gives it; what came behind it is kept for the next call.
+    /// Receives values until one is whole, and gives it; what came behind it is kept for the next call. Where a value is
+    /// whole already, nothing is received.
     ///
     /// `Link` comes where the link failed or ended before, `Wire` where what came is no RESP2, `Memory` where there is no
     /// memory.

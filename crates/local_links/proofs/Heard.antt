@@ -56,7 +56,7 @@ module _ (first now : PlainDesk) (sent piece replies : List ℕ) (t : Talking) w
   served_after fault (Ok done) a opened = (a, opened)
   served_after fault (Err NotWords) (h, answered, none) opened = (h, answered, inl none)
   served_after fault (Err (Wire kind place)) (h, answered, wrong) opened = (h, answered, inr (kind, place, wrong))
-  served_after fault (Err Memory) (h, answered) opened = (piece, h, answered)
+  served_after fault (Err Memory) (h, answered, short) opened = (piece, h, answered)
   served_after fault (Err (Full entries bytes)) (h, answered, next, is) opened = no_truth is.0
   served_after fault (Err Closed) (h, answered, next, is) opened = no_truth is.0
   served_after fault (Err Ended) never opened = absurd never

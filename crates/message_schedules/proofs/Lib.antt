@@ -1,3 +1,4 @@
 pub mod TaskTrees
 pub mod Seals
 pub mod Program
+pub mod Companions

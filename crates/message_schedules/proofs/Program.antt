@@ -20,7 +20,7 @@ use Rattle.schedule_laws.proofs.Determined.{schedule_sound}
 use Rattle.message_schedules.specs.Laws.{ArePlaced, HistoriesPlaced, HistoriesSound}
 use Rattle.message_schedules.proofs.Seals.{seals_tell}
 
-lawful : is_layout plain ≡ true
+pub lawful : is_layout plain ≡ true
 unfolding same
 lawful = refl
 

@@ -1,1 +1,2 @@
+pub mod Companions
 pub mod Laws

@@ -73,6 +73,9 @@ fn a_client_stops_after_each_command(rt: HostRuntime) -> Result<(), Fail> {
     for row in stops::acknowledgements() {
         expect_stopped(&rt, rt.alloc(), row)?;
     }
+    for row in stops::passes() {
+        expect_stopped(&rt, rt.alloc(), row)?;
+    }
     Ok(())
 }
 

@@ -1,5 +1,5 @@
 //! The rows, run by the top call.
-use crate::rows::{bad_lines, limits, reports, returned};
+use crate::rows::{bad_lines, limits, overdue, reports, returned};
 use crate::spelled::spelled;
 use line_text::number_in;
 use links::{MemorySink, MemorySource};
@@ -23,7 +23,7 @@ pub fn end_of(status: u8, place: u64) -> Ended {
 
 /// A sink that takes pieces of one byte, and fails at the call of this number.
 pub fn sink(alloc: Global, failing: u64) -> Result<MemorySink, AllocError> {
-    MemorySink::new(alloc, 10_000, 1, vec![in alloc; failing]?)
+    MemorySink::new(alloc, 20_000, 1, vec![in alloc; failing]?)
 }
 
 /// A run of `replay` over a schedule in pieces of 7 bytes, of which the read of this number fails, into this sink.
@@ -154,6 +154,9 @@ fn a_schedule_has_its_report(rt: HostRuntime) -> Result<(), Fail> {
         expect_report(&rt, rt.alloc(), schedule, report)?;
     }
     for (schedule, report) in returned::returns() {
+        expect_report(&rt, rt.alloc(), schedule, report)?;
+    }
+    for (schedule, report) in overdue::passes() {
         expect_report(&rt, rt.alloc(), schedule, report)?;
     }
     Ok(())

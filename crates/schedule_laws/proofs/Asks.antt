@@ -1,5 +1,5 @@
 -- What each line keeps of a desk: each client's calls are those of the blocks that it was asked for.
-use Rattle.std.proofs.Common.{◌≡◌, ◌≢◌, ◌⊎◌, inl, inr, ℕ, ◌<◌, ◌+◌, ◌^◌, suc, refl, ap, sym, ◌∙◌, subst, arith, List, [], ◌∷◌, ◌++◌, append_assoc, Bool, true, false, Option, None, Some, if◌then◌else◌}
+use Rattle.std.proofs.Common.{◌≡◌, ◌≢◌, ◌⊎◌, inl, inr, ℕ, ◌<◌, ◌^◌, suc, refl, ap, sym, ◌∙◌, subst, arith, List, [], ◌∷◌, ◌++◌, append_assoc, Bool, true, false, Option, None, Some, if◌then◌else◌}
 use Rattle.std.proofs.lemmas.List.{append-nil}
 use Rattle.std.proofs.lemmas.Grind.{common_steps}
 use Rattle.std.specs.Prelude.{◌==◌, ◌||◌, nat_eq}
@@ -9,7 +9,6 @@ use Rattle.wire_values.specs.declared.value.Value.{Value}
 use Rattle.line_text.specs.Lines.{text_fault}
 use Rattle.line_text.specs.Words.{words_of}
 use Rattle.line_text.specs.declared.reason.Reason.{Reason}
-use Rattle.line_text.specs.declared.reason.Reason.TheVariants.{Later}
 use Rattle.store_model.specs.Words.{Words}
 use Rattle.store_model.specs.Store.{State, apply_of}
 use Rattle.store_model.specs.declared.reply.Reply.{Reply}
@@ -17,7 +16,6 @@ use Rattle.queue_keys.specs.Names.{Bytes}
 use Rattle.command_blocks.specs.Scripts.{Script, Over, Off, Say, Plan}
 use Rattle.place_model.specs.Histories.{calls_of}
 use Rattle.place_model.specs.declared.history.Entry.TheVariants.{Call as Called, Stop as Gone}
-use Rattle.schedule_model.specs.Built.{waits}
 use Rattle.schedule_model.specs.Costs.{is_full}
 use Rattle.schedule_model.specs.Desk.{ScheduleReader, ClientBook, Said, first_desk, with_book, with_call, reader_with_client, begun, said_one, said_all, with_stop}
 use Rattle.schedule_model.specs.Faults.{Craft, first_reason, tests, is_gone, is_busy, is_script_off, has_number, has_seed, asked_tests, client_seed, counter_of}
@@ -309,14 +307,9 @@ by_asks : (κ : Craft) (craft : IsCraft κ) (f : ℕ → List Asked) (d : Schedu
 by_asks κ craft f d soon h None within = tt
 by_asks κ craft f d soon h (Some l) within = unless_asks κ craft f d l soon h within (first_reason (tests κ d l)) refl
 
-if_asks : (κ : Craft) (f : ℕ → List Asked) (b : Bool) (x y : Led) → LedAsks κ f x → LedAsks κ f y → LedAsks κ f (if b then x else y)
-if_asks κ f true x y h k = h
-if_asks κ f false x y h k = k
-
 text_asks : (κ : Craft) (craft : IsCraft κ) (f : ℕ → List Asked) (d : ScheduleReader) (line : Bytes) → d.moment < 2 ^ 40 → Asks κ f d → (o : Option Reason) → LedAsks κ (and_line f (line_in (words_of line))) (text_led κ d line o)
 text_asks κ craft f d line soon h (Some r) = tt
-text_asks κ craft f d line soon h None =
-    if_asks κ (and_line f (line_in (words_of line))) (waits (words_of line)) (Bad Later) (led_by κ d (line_in (words_of line))) tt (by_asks κ craft f d soon h (line_in (words_of line)) (line_there (words_of line)))
+text_asks κ craft f d line soon h None = by_asks κ craft f d soon h (line_in (words_of line)) (line_there (words_of line))
 
 asked_later : (c : ℕ) (ls : List Bytes) (l : Bytes) → asks_in c (ls ++ l ∷ []) ≡ asks_in c ls ++ asked_at c (line_in (words_of l))
 asked_later c [] l = append-nil (asked_at c (line_in (words_of l)))

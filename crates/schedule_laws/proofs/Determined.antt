@@ -1,17 +1,15 @@
 -- What a schedule determines is sound.
-use Rattle.std.proofs.Common.{◌≡◌, ℕ, ◌<◌, ◌≤◌, ◌+◌, ◌^◌, suc, refl, subst, arith, List, [], ◌∷◌, Bool, true, false, Option, None, Some, if◌then◌else◌}
+use Rattle.std.proofs.Common.{◌≡◌, ℕ, ◌<◌, ◌≤◌, ◌^◌, suc, refl, subst, arith, List, [], ◌∷◌, Bool, true, false, Option, None, Some, if◌then◌else◌}
 use Rattle.std.specs.Prelude.{nat_le, nat_lt}
 use Rattle.std.specs.FinMap.{get}
 use Rattle.std.proofs.lemmas.Grind.{common_steps}
 use Rattle.line_text.specs.Lines.{text_fault}
 use Rattle.line_text.specs.Words.{words_of}
 use Rattle.line_text.specs.declared.reason.Reason.{Reason}
-use Rattle.line_text.specs.declared.reason.Reason.TheVariants.{Later}
 use Rattle.queue_keys.specs.Names.{Bytes}
 use Rattle.place_model.specs.Histories.{calls_of}
 use Rattle.command_blocks.specs.Setting.{Setting}
 use Rattle.command_blocks.specs.Scripts.{Script, Over, Off, Say, Plan}
-use Rattle.schedule_model.specs.Built.{waits}
 use Rattle.schedule_model.specs.Costs.{is_full}
 use Rattle.schedule_model.specs.Desk.{ScheduleReader, ClientBook, Said, first_desk, with_book, begun, said_one, said_all, with_stop}
 use Rattle.schedule_model.specs.Faults.{Craft, first_reason, tests, is_script_off, is_gone, has_more, is_busy, has_number, has_seed, asked_tests, client_seed, counter_of}
@@ -109,13 +107,9 @@ by_holds : (κ : Craft) (craft : IsCraft κ) (d : ScheduleReader) → Holds κ.s
 by_holds κ craft d h None within = tt
 by_holds κ craft d h (Some l) within = unless_holds κ craft d l h within (first_reason (tests κ d l)) refl
 
-if_led : (σ : Setting) (b : Bool) (x y : Led) → LedHolds σ x → LedHolds σ y → LedHolds σ (if b then x else y)
-if_led σ true x y f g = f
-if_led σ false x y f g = g
-
 text_holds : (κ : Craft) (craft : IsCraft κ) (d : ScheduleReader) (line : Bytes) → Holds κ.setting d → (o : Option Reason) → LedHolds κ.setting (text_led κ d line o)
 text_holds κ craft d line h (Some r) = tt
-text_holds κ craft d line h None = if_led κ.setting (waits (words_of line)) (Bad Later) (led_by κ d (line_in (words_of line))) tt (by_holds κ craft d h (line_in (words_of line)) (line_there (words_of line)))
+text_holds κ craft d line h None = by_holds κ craft d h (line_in (words_of line)) (line_there (words_of line))
 
 -- each line keeps a desk
 pub line_holds : (κ : Craft) (craft : IsCraft κ) (d : ScheduleReader) (line : Bytes) → Holds κ.setting d → LedHolds κ.setting (line_led κ d line)

@@ -4,7 +4,7 @@ use Rattle.queue_keys.specs.Names.{Bytes}
 use Rattle.schedule_model.specs.Desk.{ScheduleReader, first_desk}
 use Rattle.schedule_model.specs.Faults.{Craft}
 use Rattle.schedule_model.specs.Filled.{FilledDesk, IsLedBy, LeadTo, lines_read}
-use Rattle.schedule_model.specs.Schedules.{Filled, Full, Went, line_led, schedule_run}
+use Rattle.schedule_model.specs.Schedules.{Filled, Went, line_led}
 use Rattle.schedule_laws.specs.OneDesk.{FillsOnly, SchedulesFillOne}
 use Rattle.schedule_laws.proofs.Leads.{schedule_leads}
 

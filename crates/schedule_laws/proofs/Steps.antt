@@ -3,9 +3,8 @@ use Rattle.std.proofs.Common.{◌≡◌, ℕ, ◌+◌, zero, suc, refl, ap, sym,
 use Rattle.std.specs.Prelude.{is_none, not, ◌||◌}
 use Rattle.std.specs.FinMap.{get}
 use Rattle.wire_values.specs.declared.value.Value.{Value}
-use Rattle.line_text.specs.Words.{words_of}
 use Rattle.line_text.specs.declared.reason.Reason.{Reason}
-use Rattle.line_text.specs.declared.reason.Reason.TheVariants.{Later, Stopped, Idle, UnknownClient}
+use Rattle.line_text.specs.declared.reason.Reason.TheVariants.{Stopped, Idle, UnknownClient}
 use Rattle.queue_keys.specs.Names.{Bytes}
 use Rattle.store_model.specs.Words.{Words}
 use Rattle.store_model.specs.Store.{apply_of}
@@ -13,7 +12,6 @@ use Rattle.command_blocks.specs.Scripts.{Script, Over, Off, Say}
 use Rattle.schedule_model.specs.Costs.{is_full, total_cost}
 use Rattle.schedule_model.specs.Desk.{ScheduleReader, ClientBook, Said, with_book, with_call, said_one, said_all}
 use Rattle.schedule_model.specs.Faults.{Craft, first_reason, tests, present_tests, is_busy, is_gone, is_script_off, has_more}
-use Rattle.schedule_model.specs.Lines.{line_in}
 use Rattle.schedule_model.specs.Schedules.{Determined, Whole, Full, Bad_line, Led, Went, Filled, Bad, reader_after, stepped, run_through, led_unless, led_by, text_led, line_led, last_led, led_on, lines_led}
 use Rattle.schedule_model.specs.declared.line.Line.{Line}
 use Rattle.schedule_model.specs.declared.line.Line.TheVariants.{Step, Run}
@@ -74,9 +72,7 @@ first_line κ cut n d l (k ∷ ls) h =
 
 spelled_led : (κ : Craft) (d : ScheduleReader) (l : Line) (bytes : Bytes) → SpellsLine l bytes → line_led κ d bytes ≡ led_unless κ d l (first_reason (tests κ d l))
 spelled_led κ d l bytes h =
-    ap (text_led κ d bytes) h.text
-    ∙ (ap (λ b. if b then Bad Later else led_by κ d (line_in (words_of bytes))) h.built
-    ∙ ap (led_by κ d) h.line)
+    ap (text_led κ d bytes) h.text ∙ ap (led_by κ d) h.line
 
 -- ---- what is said is said one by one
 

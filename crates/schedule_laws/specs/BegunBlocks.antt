@@ -16,7 +16,6 @@ use Rattle.command_blocks.specs.ReturnBlocks.{ReturnEnd, IsReturnBlock}
 use Rattle.command_blocks.specs.PassBlocks.{PassEnd, IsPassBlock}
 use Rattle.command_blocks.specs.declared.side.Side.TheVariants.{Left, Right}
 use Rattle.place_model.specs.Histories.{calls_of}
-use Rattle.schedule_model.specs.Built.{waits}
 use Rattle.schedule_model.specs.Desk.{ScheduleReader, first_desk}
 use Rattle.schedule_model.specs.Faults.{Craft, is_busy}
 use Rattle.schedule_model.specs.Lines.{line_in}
@@ -89,10 +88,9 @@ SchedulesSayBlocks = (κ : Craft) → IsCraft κ → (bytes : Bytes) → IsAsked
 
 -- ---- run and step
 
--- the bytes are this line, and it is built
+-- the bytes are this line
 pub record SpellsLine (l : Line) (bytes : Bytes) : Type 0 where
   pub text : text_fault max_line bytes ≡ None
-  pub built : waits (words_of bytes) ≡ false
   pub line : line_in (words_of bytes) ≡ Some l
 
 -- what is determined, whatever the number of a bad line

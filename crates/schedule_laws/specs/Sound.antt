@@ -1,5 +1,5 @@
 -- Soundness of what a schedule determines.
-use Rattle.std.specs.Prelude.{◌≡◌, ℕ, ◌^◌, ◌<◌, ◌≤◌, true, List, [], ◌∷◌, length, min, Option, Some}
+use Rattle.std.specs.Prelude.{◌≡◌, ℕ, ◌<◌, ◌≤◌, true, List, [], ◌∷◌, length, min, Option, Some}
 use Rattle.store_model.specs.Limits.{moment_limit}
 use Rattle.queue_keys.specs.Names.{Bytes, is_name}
 use Rattle.queue_keys.specs.Layouts.{Layout, is_layout}

@@ -1,4 +1,3 @@
-pub mod Built
 pub mod Costs
 pub mod Desk
 pub mod Drafts

@@ -4,13 +4,12 @@ use Rattle.std.specs.FinMap.{get, empty}
 use Rattle.line_text.specs.Lines.{lines_of, text_fault}
 use Rattle.line_text.specs.Words.{words_of}
 use Rattle.line_text.specs.declared.reason.Reason.{Reason}
-use Rattle.line_text.specs.declared.reason.Reason.TheVariants.{Long, Header, Later, Syntax, UnknownClient, Task}
+use Rattle.line_text.specs.declared.reason.Reason.TheVariants.{Long, Header, Syntax, UnknownClient, Task}
 use Rattle.place_model.specs.Histories.{History}
 use Rattle.queue_keys.specs.Names.{Bytes}
 use Rattle.command_blocks.specs.Scripts.{Plan, Declare, Undeclare, Publish, Pop, End, Return, Pass}
 use Rattle.command_blocks.specs.declared.side.Side.TheVariants.{Left, Right}
 use Rattle.place_model.specs.declared.heard.Heard.{Heard}
-use Rattle.schedule_model.specs.Built.{waits}
 use Rattle.schedule_model.specs.Costs.{is_full, total_cost}
 use Rattle.schedule_model.specs.Desk.{ScheduleReader, ClientBook, Said, first_desk, with_book, reader_with_client, begun, said_one, said_all, with_stop}
 use Rattle.schedule_model.specs.Faults.{Craft, first_reason, tests, client_seed, counter_of}
@@ -92,7 +91,7 @@ led_by κ d (Some l) = led_unless κ d l (first_reason (tests κ d l))
 
 -- what words lead to
 abbrev pub words_led : Craft → ScheduleReader → List Bytes → Led
-words_led κ d ws = if waits ws then Bad Later else led_by κ d (line_in ws)
+words_led κ d ws = led_by κ d (line_in ws)
 
 -- a line, by what is wrong with it as a text
 abbrev pub text_led : Craft → ScheduleReader → Bytes → Option Reason → Led

@@ -37,11 +37,11 @@ pub client_led : (d : ScheduleReader) (c s : ℕ) (g b : Bool) → g ≡ false �
 client_led d c s g b e f = ap (λ t. led_unless program_craft d (Client c s) (client_reason t b)) e ∙ ap (λ t. led_unless program_craft d (Client c s) (client_reason false t)) f
 
 -- a client more at a desk
-pub added : (p p' : Past) (m t : Shelf) (c s : ℕ) (l : BlockLeft) → script_left l ≡ Over → t ≡ insert m c (record { seed = s; drawn = 0; left = l; is_stopped = false })
+pub added : (p p' : Past) (m t : Shelf) (c s : ℕ) (l : BlockLeft) → script_left l ≡ Over → t ≡ insert m c (record { counts = record { seed = s; drawn = 0; passes = 0 }; left = l; is_stopped = false })
     → ((bs : FinMap nat_cmp desk.ClientBook) → desk_with p' bs ≡ record (desk_with p bs) { clients = (history_of p.history).clients ++ (c, s) ∷ [] })
     → reader_with_client (desk_with p (books_of m)) c s ≡ desk_with p' (books_of t)
 added p p' m t c s l over e grown =
-    let k : ClientBook = record { seed = s; drawn = 0; left = l; is_stopped = false } in
+    let k : ClientBook = record { counts = record { seed = s; drawn = 0; passes = 0 }; left = l; is_stopped = false } in
     let same : books_of t ≡ insert (books_of m) c (record { seed = s; drawn = 0; passes = 0; left = Over; stopped = false }) =
     ap books_of e ∙ (books_of-insert m c k ∙ ap (λ x. insert (books_of m) c (record { seed = s; drawn = 0; passes = 0; left = x; stopped = false })) over) in
     sym (grown (books_of t) ∙ ap (λ b. record (desk_with p b) { clients = (history_of p.history).clients ++ (c, s) ∷ [] }) same)

@@ -2,13 +2,14 @@
 use Rattle.std.proofs.Common.{◌≡◌, IfOk, Result, Ok, Err, sym, ap, subst, ◌∙◌}
 use Rattle.command_blocks.specs.EnvelopeTexts.{plain_setting}
 use Rattle.queue_keys.specs.Names.{Bytes}
-use Rattle.place_model.specs.Histories.{after}
+use Rattle.place_model.specs.Histories.{History, after}
 use Rattle.place_model.specs.Shown.{history_of}
 use Rattle.place_model.specs.Starts.{IsSound}
+use Rattle.place_model.specs.declared.heard.Heard.{Heard}
 use Rattle.message_schedules.proofs.Program.{whole_placed, whole_sound, whole_store}
 use Rattle.schedule_model.specs.Desk.{ScheduleReader}
 use Rattle.schedule_model.specs.Programs.{program_craft}
-use Rattle.schedule_model.specs.Schedules.{Determined, schedule_run}
+use Rattle.schedule_model.specs.Schedules.{Determined, reader_history, schedule_run}
 use Rattle.schedule_world.specs.Runs.{HasEnded, HasRun, IsEachPlaced, IsRun, history_alone}
 use Rattle.schedule_world.specs.declared.run.ScheduleRun.{ScheduleRun}
 use Rattle.schedule_world.specs.declared.run.RunFault.{RunFault}
@@ -21,6 +22,11 @@ run_sound bytes (Err fault) answer = tt
 pub run_placed : (bytes : Bytes) (result : Result ScheduleRun RunFault) → HasRun (schedule_run program_craft bytes) result → IfOk result (λ ran. IsEachPlaced (history_of ran.history))
 run_placed bytes (Ok ran) answer = subst IsEachPlaced answer.2 (whole_placed bytes answer.0 answer.1)
 run_placed bytes (Err fault) answer = tt
+
+-- so is all that holds of each sound history
+pub run_has : (P : History Heard → Type 0) → ((h : History Heard) → IsSound plain_setting h → P h) → (bytes : Bytes) (result : Result ScheduleRun RunFault) → HasRun (schedule_run program_craft bytes) result → IfOk result (λ ran. P (history_of ran.history))
+run_has P all bytes (Ok ran) answer = subst P answer.2 (all (reader_history answer.0) (whole_sound bytes answer.0 answer.1))
+run_has P all bytes (Err fault) answer = tt
 
 pub run_store : (bytes : Bytes) (result : Result ScheduleRun RunFault) → HasRun (schedule_run program_craft bytes) result → IfOk result (λ ran. ran.store.state ≡ (after (history_of ran.history)).store)
 run_store bytes (Ok ran) answer = sym answer.3 ∙ (sym (whole_store bytes answer.0 answer.1) ∙ ap (λ h. (after h).store) answer.2)

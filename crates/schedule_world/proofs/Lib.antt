@@ -1,5 +1,5 @@
+pub mod AskableLines
 pub mod Begins
-pub mod BuiltLines
 pub mod Clients
 pub mod Here
 pub mod Known

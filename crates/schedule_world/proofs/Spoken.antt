@@ -51,7 +51,7 @@ told_room l d e room (Err (Bad w)) h q = absurd q
 told_room l d e room (Err (Full n k)) h q = (h ∙ ap (λ b. if b then Went e else Filled e) q.0, q.1, q.2)
 told_room l d e room (Err Memory) h q = absurd q
 
-module _ (p p' : Past) (m n : Shelf) (c : ℕ) (k : ClientBook) (l : BlockLeft) (room : Bool) (found : get m c ≡ Some k) (free : idle_reason (option_map book_of (get m c)) ≡ None) (grown : n ≡ insert (remove m c) c (record { seed = k.seed; drawn = k.drawn; left = l; is_stopped = k.is_stopped })) where
+module _ (p p' : Past) (m n : Shelf) (c : ℕ) (k : ClientBook) (l : BlockLeft) (room : Bool) (found : get m c ≡ Some k) (free : idle_reason (option_map book_of (get m c)) ≡ None) (grown : n ≡ insert (remove m c) c (record { counts = k.counts; left = l; is_stopped = k.is_stopped })) where
   abbrev before : ScheduleReader
   before = desk_with p (books_of m)
 
@@ -64,8 +64,8 @@ module _ (p p' : Past) (m n : Shelf) (c : ℕ) (k : ClientBook) (l : BlockLeft) 
   unfaulted : idle_reason (get (books_of m) c) ≡ None
   unfaulted = ap idle_reason (get-books_of m c) ∙ free
 
-  books_grown : insert (books_of m) c (book_of (record { seed = k.seed; drawn = k.drawn; left = l; is_stopped = k.is_stopped })) ≡ books_of n
-  books_grown = sym (ap books_of grown ∙ books_of_again m c (record { seed = k.seed; drawn = k.drawn; left = l; is_stopped = k.is_stopped }))
+  books_grown : insert (books_of m) c (book_of (record { counts = k.counts; left = l; is_stopped = k.is_stopped })) ≡ books_of n
+  books_grown = sym (ap books_of grown ∙ books_of_again m c (record { counts = k.counts; left = l; is_stopped = k.is_stopped }))
 
   heard_so : (s : desk.Said) → s ≡ record { desk = desk_with p' (books_of m); left = script_left l; room = room } → reader_after c (book_of k) s ≡ (if room then Went after else Filled after)
   heard_so s said = ap (reader_after c (book_of k)) said ∙ ap (λ b. if room then Went (desk_with p' b) else Filled (desk_with p' b)) books_grown

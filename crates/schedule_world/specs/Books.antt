@@ -7,9 +7,9 @@ use Rattle.client_blocks.specs.Blocks.{script_left}
 use Rattle.schedule_world.specs.Shelves.{Shelf}
 use Rattle.schedule_world.specs.declared.book.ClientBook.{ClientBook}
 
--- a client's book: it made no passes
+-- a client's book
 abbrev pub book_of : ClientBook → desk.ClientBook
-book_of b = record { seed = b.seed; drawn = b.drawn; passes = 0; left = script_left b.left; stopped = b.is_stopped }
+book_of b = record { seed = b.counts.seed; drawn = b.counts.drawn; passes = b.counts.passes; left = script_left b.left; stopped = b.is_stopped }
 
 -- the books of all clients
 unfoldable pub books_of : Shelf → FinMap nat_cmp desk.ClientBook

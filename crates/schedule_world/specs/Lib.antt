@@ -1,5 +1,5 @@
+pub mod AskableLines
 pub mod Books
-pub mod BuiltLines
 pub mod Desks
 pub mod Rests
 pub mod Runs

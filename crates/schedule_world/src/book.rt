@@ -5,16 +5,16 @@ ghost use Rattle.std.specs.Prelude.{◌≡◌, OnErr, OnOk, Some, true};
 ghost use Rattle.schedule_world.specs.Rests.{IsBusy, IsPresent, IsResting, is_book_gone};
 
 use client_blocks::BlockLeft;
+use client_plans::ClientCounts;
 use line_text::Reason;
 use std::alloc::{AllocError, Global};
 use std::collections::BTreeMap;
 use std::marker::Model;
 
-/// What is kept of a client: its seed, how many tags it drew, what is left of its block, and whether it is stopped.
+/// What is kept of a client: its counts, what is left of its block, and whether it is stopped.
 #[derive(Drop)]
 pub(crate) struct ClientBook {
-    pub(crate) seed: u64,
-    pub(crate) drawn: u64,
+    pub(crate) counts: ClientCounts,
     pub(crate) left: BlockLeft,
     pub(crate) is_stopped: bool,
 }
@@ -64,11 +64,11 @@ impl Books {
         self.kept.get(&client)
     }
 
-    /// The seed of a client that has no block to go on with, and how many tags it drew.
+    /// The counts of a client that has no block to go on with.
     ///
     /// # Errors
     /// `UnknownClient`, `Stopped`, also since an answer wasn't listed, or `Busy`.
-    pub(crate) fn resting(&self, client: u32) -> Result<(u64, u64), Reason>
+    pub(crate) fn resting(&self, client: u32) -> Result<ClientCounts, Reason>
         ensures { IsResting (map.get self.now client) result }
     {
         let book = self.get(client).ok_or(Reason::UnknownClient)?;
@@ -78,7 +78,7 @@ impl Books {
         if book.left.has_more() {
             return Err(Reason::Busy);
         }
-        Ok((book.seed, book.drawn))
+        Ok(book.counts)
     }
 
     /// Takes the book of a client out that has a block to go on with.

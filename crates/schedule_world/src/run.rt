@@ -6,6 +6,7 @@ ghost use Rattle.command_blocks.specs.EnvelopeTexts.{plain_setting};
 ghost use Rattle.place_model.specs.Histories.{after};
 ghost use Rattle.place_model.specs.Shown.{history_of};
 ghost use Rattle.place_model.specs.Starts.{IsSound};
+ghost use Rattle.message_schedules.specs.Companions.{MessagesHaveOneTree, MessagesHaveOrigins, PassesAccount, ReturnsAreWhole, StopsMoveOne};
 ghost use Rattle.schedule_model.specs.Desk.{first_desk};
 ghost use Rattle.schedule_model.specs.Programs.{program_craft};
 ghost use Rattle.schedule_model.specs.Schedules.{header_led, header_on, last_led};
@@ -42,7 +43,8 @@ pub struct ScheduleRun {
     pub letters: Letters,
 }
 
-/// The history that a schedule determines. Of one that is longer than 67,108,864 bytes no more is read than one byte
+/// The history that a schedule determines: it is sound, after each of its prefixes each message that was accepted and is
+/// single is in exactly one place, and of its stops, returns, passes and envelopes holds what follows. Of one that is longer than 67,108,864 bytes no more is read than one byte
 /// past that limit; the line that holds this byte is too long.
 ///
 /// # Errors
@@ -52,6 +54,11 @@ pub fn run_schedule(alloc: Global, bytes: &[u8]) -> Result<History, RunFault>
     ensures answer { IsAnswer bytes.now result }
     ensures sound { IfOk result (λ h. IsSound plain_setting (history_of h)) }
     ensures placed { IfOk result (λ h. IsEachPlaced (history_of h)) }
+    ensures stops { IfOk result (λ h. StopsMoveOne (history_of h)) }
+    ensures whole_returns { IfOk result (λ h. ReturnsAreWhole (history_of h)) }
+    ensures passes { IfOk result (λ h. PassesAccount (history_of h)) }
+    ensures trees { IfOk result (λ h. MessagesHaveOneTree (history_of h)) }
+    ensures origins { IfOk result (λ h. MessagesHaveOrigins (history_of h)) }
 {
     match run_whole(alloc, bytes) {
         Ok(ran) => Ok(ran.history),
@@ -67,6 +74,11 @@ pub fn run_whole(alloc: Global, bytes: &[u8]) -> Result<ScheduleRun, RunFault>
     ensures answer { IsAnswer bytes.now (history_alone result) }
     ensures sound { IfOk result (λ ran. IsSound plain_setting (history_of ran.history)) }
     ensures placed { IfOk result (λ ran. IsEachPlaced (history_of ran.history)) }
+    ensures stops { IfOk result (λ ran. StopsMoveOne (history_of ran.history)) }
+    ensures whole_returns { IfOk result (λ ran. ReturnsAreWhole (history_of ran.history)) }
+    ensures passes { IfOk result (λ ran. PassesAccount (history_of ran.history)) }
+    ensures trees { IfOk result (λ ran. MessagesHaveOneTree (history_of ran.history)) }
+    ensures origins { IfOk result (λ ran. MessagesHaveOrigins (history_of ran.history)) }
     ensures store { IfOk result (λ ran. ran.store.state ≡ (after (history_of ran.history)).store) }
 {
     let is_cut = INPUT_LIMIT < bytes.len();

@@ -7,11 +7,11 @@ use crate::book::{Books, ClientBook};
 use crate::fault::lacked_memory;
 use crate::run::ScheduleRun;
 use client_blocks::BlockLeft;
-use client_plans::prepared;
+use client_plans::{ClientCounts, prepared};
 use letters::Letters;
 use line_text::{LINE_LIMIT, MOMENT_LIMIT, Reason, line_text, words};
 use place_model::History;
-use schedule_lines::{line_of, waits};
+use schedule_lines::line_of;
 use schedule_model::{Asked, Line};
 use schedule_past::Past;
 use std::alloc::Global;
@@ -42,8 +42,8 @@ impl World {
     ghost use Rattle.schedule_world.specs.Books.{book_of};
     ghost use Rattle.schedule_world.specs.Desks.{desk_of, is_world_spent};
     ghost use Rattle.schedule_world.specs.declared.fault.LineFault.TheVariants.{Memory};
-    ghost use Rattle.client_plans.specs.Plans.{IsBuiltBlock};
-    ghost use Rattle.schedule_world.specs.BuiltLines.{IsBuiltLine};
+    ghost use Rattle.client_plans.specs.Plans.{IsAskable};
+    ghost use Rattle.schedule_world.specs.AskableLines.{IsAskableLine};
     ghost use Rattle.schedule_world.specs.Told.{IsRoom, IsTold, lacked_memory};
 
     /// A world before its first line; takes no memory.
@@ -120,19 +120,16 @@ impl World {
     fn worded_line(&mut self, alloc: Global, words: &[&str]) -> Result<(), LineFault>
         ensures { IsTold (words_led program_craft (desk_of self.old) (map (λ word. word.now) words.now)) (desk_of self.old) (desk_of self.new) result }
     {
-        if waits(words) {
-            return Err(LineFault::Bad(Reason::Later));
-        }
         let found = line_of(alloc, words)?;
         match &found {
-            Some(line) => self.built_line(alloc, line),
+            Some(line) => self.spelled_line(alloc, line),
             None => Err(LineFault::Bad(Reason::Syntax)),
         }
     }
 
-    /// Takes a line that is not put off.
-    fn built_line(&mut self, alloc: Global, line: &Line) -> Result<(), LineFault>
-        requires { IsBuiltLine line.now }
+    /// Takes a line.
+    fn spelled_line(&mut self, alloc: Global, line: &Line) -> Result<(), LineFault>
+        requires { IsAskableLine line.now }
         ensures { IsTold (led_by program_craft (desk_of self.old) (Some line.now)) (desk_of self.old) (desk_of self.new) result }
     {
         match line {
@@ -159,8 +156,11 @@ impl World {
         self.books.set(
             client,
             ClientBook {
-                seed,
-                drawn: 0,
+                counts: ClientCounts {
+                    seed,
+                    drawn: 0,
+                    passes: 0,
+                },
                 left: BlockLeft::over(),
                 is_stopped: false,
             },
@@ -191,16 +191,15 @@ impl World {
 
     /// A client begins a block.
     fn begin_line(&mut self, alloc: Global, client: u32, asked: &Asked) -> Result<(), LineFault>
-        requires { IsBuiltBlock asked.now }
+        requires { IsAskable asked.now }
         ensures { IsTold (led_by program_craft (desk_of self.old) (Some (Begin client asked.now))) (desk_of self.old) (desk_of self.new) result }
     {
-        let (seed, drawn) = self.books.resting(client)?;
-        let begun = prepared(alloc, &mut self.letters, seed, drawn, asked)?;
+        let counts = self.books.resting(client)?;
+        let begun = prepared(alloc, &mut self.letters, counts, asked)?;
         self.books.set(
             client,
             ClientBook {
-                seed,
-                drawn: begun.drawn,
+                counts: begun.counts,
                 left: begun.left,
                 is_stopped: false,
             },

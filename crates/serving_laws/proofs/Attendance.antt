@@ -33,7 +33,7 @@ asked_in goes gives fault first now old new turns receives stream sent count (Wi
 asked_in goes gives fault first now old new turns receives stream sent count NotWords sound whole ((h, w, none), calm) = (h, (w, none))
 asked_in goes gives fault first now old new turns receives stream sent count (Full entries bytes) sound whole ((h, w, b, refused), calm) = absurd (unshared refused.0)
 asked_in goes gives fault first now old new turns receives stream sent count Closed sound whole ((h, w, b, refused), calm) = absurd (unshared refused.0)
-asked_in goes gives fault first now old new turns receives stream sent count Memory sound whole ((h, w), calm) = (h, w)
+asked_in goes gives fault first now old new turns receives stream sent count Memory sound whole ((h, w, short), calm) = (h, w)
 
 -- what a link carried that carried nothing before
 carried_from : (was now : Option (List ℕ)) (bytes : List ℕ) → was ≡ Some [] → Appends was now bytes → now ≡ Some bytes

@@ -79,9 +79,9 @@ module _ {D : Type 0} (goes : D → List Deed → D → Type 0) (stays : (s : D)
   ended_one v front more e sp NotWords (none, i) = (heard_same goes joins gives first now next stream t.commands t2.commands s.heard i.stays i.uncounted, ap (λ l. sent ++ l) i.unwritten ∙ s.answered, (v, (front, more, e, sp), none))
   ended_one v front more e sp (Full entries bytes) (words, spells, (i, is)) = (heard_same goes joins gives first now next stream t.commands t2.commands s.heard i.stays i.uncounted, ap (λ l. sent ++ l) i.unwritten ∙ s.answered, (v, words, (front, more, e, sp), spells), is)
   ended_one v front more e sp Closed (words, spells, (i, is)) = (heard_same goes joins gives first now next stream t.commands t2.commands s.heard i.stays i.uncounted, ap (λ l. sent ++ l) i.unwritten ∙ s.answered, (v, words, (front, more, e, sp), spells), is)
-  ended_one v front more e sp Memory (inl i) = (heard_same goes joins gives first now next stream t.commands t2.commands s.heard i.stays i.uncounted, ([], sym (append-nil (sent ++ t2.out.items) ∙ (ap (λ l. sent ++ l) i.unwritten ∙ s.answered))))
-  ended_one v front more e sp Memory (inr (words, spells, inl (i, is))) = (heard_same goes joins gives first now next stream t.commands t2.commands s.heard i.stays i.uncounted, ([], sym (append-nil (sent ++ t2.out.items) ∙ (ap (λ l. sent ++ l) i.unwritten ∙ s.answered))))
-  ended_one v front more e sp Memory (inr (words, spells, inr (reply, done, none))) =
+  ended_one v front more e sp Memory (inl (i, calm)) = (heard_same goes joins gives first now next stream t.commands t2.commands s.heard i.stays i.uncounted, ([], sym (append-nil (sent ++ t2.out.items) ∙ (ap (λ l. sent ++ l) i.unwritten ∙ s.answered))), inl (inl calm))
+  ended_one v front more e sp Memory (inr (words, spells, inl (i, is))) = (heard_same goes joins gives first now next stream t.commands t2.commands s.heard i.stays i.uncounted, ([], sym (append-nil (sent ++ t2.out.items) ∙ (ap (λ l. sent ++ l) i.unwritten ∙ s.answered))), inl (inr is))
+  ended_one v front more e sp Memory (inr (words, spells, inr (reply, done, none, calm))) =
       let d : Deed = DidAsk done.at words reply in (
         heard_one goes joins gives first now next stream t.commands t2.commands s.heard v d front more e sp (spells, done.clocked) done.did done.counted,
         (
@@ -89,6 +89,7 @@ module _ {D : Type 0} (goes : D → List Deed → D → Type 0) (stays : (s : D)
           answers_one s.heard.deeds d ∙ ap (λ l. l ++ deed_bytes d) (sym s.answered) ∙ append_assoc sent t.out.items (deed_bytes d)
               ∙ ap (λ l. l ++ (t.out.items ++ deed_bytes d)) (sym (ap (λ l. sent ++ l) none ∙ append-nil sent)),
         ),
+        inl (inl calm),
       )
   ended_one v front more e sp Ended (words, spells, never) = absurd never
   ended_one v front more e sp Turns (words, spells, never) = absurd never
@@ -114,5 +115,5 @@ module _ {D : Type 0} (goes : D → List Deed → D → Type 0) (gives : ℕ →
   asked_wrong kind place there = (s.heard, s.answered, (there s.heard.from s.heard.rest s.stands).0)
 
   -- there was no memory for it
-  pub asked_spent : EndsTalk goes gives shared fault first now stream (sent ++ t.out.items) t.commands Memory
-  asked_spent = (s.heard, ([], sym (append-nil (sent ++ t.out.items) ∙ s.answered)))
+  pub asked_spent : fault ≡ None → EndsTalk goes gives shared fault first now stream (sent ++ t.out.items) t.commands Memory
+  asked_spent calm = (s.heard, ([], sym (append-nil (sent ++ t.out.items) ∙ s.answered)), inl (inl calm))

@@ -1,6 +1,6 @@
 -- How a session begins.
-use Rattle.std.proofs.Common.{List, [], ap, append-nil, arith, refl, sym, ℕ, ◌++◌, ◌∙◌, ◌≡◌}
-use Rattle.std.specs.Prelude.{Bool, Option}
+use Rattle.std.proofs.Common.{List, [], ap, append-nil, arith, inl, refl, sym, ℕ, ◌++◌, ◌∙◌, ◌≡◌}
+use Rattle.std.specs.Prelude.{Bool, None, Option}
 use Rattle.std.proofs.KnownBytes.{Appends-nil}
 use Rattle.wire_grammar.proofs.Limited.{front_says, limited_front}
 use Rattle.wire_grammar.specs.Spells.{IsFront}
@@ -46,8 +46,8 @@ module _ {D : Type 0} (goes : D → List Deed → D → Type 0) (stays : (s : D)
   }
 
   -- there was no memory for it
-  pub not_begun : (shared : Bool) (fault : Option DeskFault) (l : LinkView) (turns : ℕ) → HasSession goes gives shared fault first first l l turns 0 Memory
-  not_begun shared fault l turns = record {
+  pub not_begun : (shared : Bool) (fault : Option DeskFault) → fault ≡ None → (l : LinkView) (turns : ℕ) → HasSession goes gives shared fault first first l l turns 0 Memory
+  not_begun shared fault calm l turns = record {
     stream = [];
     sent = [];
     receives = 0;
@@ -57,7 +57,7 @@ module _ {D : Type 0} (goes : D → List Deed → D → Type 0) (stays : (s : D)
     few = omega arith;
     later_faults = omega arith;
     later_ends = omega arith;
-    ends = ((nothing_heard 0 refl, ([], refl)), record { no_fault = refl; no_end = refl });
+    ends = ((nothing_heard 0 refl, ([], refl), inl (inl calm)), record { no_fault = refl; no_end = refl });
   }
 
 -- the turns are over

@@ -8,7 +8,7 @@ use Rattle.wire_grammar.specs.Spells.{SpellsWithin, IsPlain, as_status, as_error
 use Rattle.wire_grammar.specs.Fits.{HasSpelling, IsWithinLimits}
 use Rattle.store_model.specs.Words.{Bytes, Words}
 use Rattle.command_blocks.specs.Answers.{bulk_of, items_of, bulk_in, items_in}
-use Rattle.sessions.specs.CommandValues.{contents, onto_words, command_items, command_in}
+use Rattle.sessions.specs.CommandValues.{contents, with_word, command_items, command_in}
 
 bulk_content : (content : Bytes) → bulk_of (Bulk content) ≡ Some content
 unfolding layer
@@ -101,7 +101,7 @@ spelled_bulk (suc d) v b word (inr (inr n)) is = other_bulk v NullArray word n.1
 all_bulks : (d : ℕ) (vs : List Value) (body : List ℕ) (words : Words) → AreSpelled (SpellsWithin d) vs body → contents vs ≡ Some words → vs ≡ map Bulk words
 all_bulks d [] body words s is = let e : [] ≡ words = grind arith in subst (λ ws. [] ≡ map Bulk ws) e refl
 all_bulks d (v ∷ vs) body words s is = by (bulk_of v) (contents vs) (λ ws f. all_bulks d vs s.1 ws s.4 f) refl refl is where
-  by : (o : Option Bytes) (p : Option Words) → ((ws : Words) → contents vs ≡ Some ws → vs ≡ map Bulk ws) → bulk_of v ≡ o → contents vs ≡ p → onto_words o p ≡ Some words → v ∷ vs ≡ map Bulk words
+  by : (o : Option Bytes) (p : Option Words) → ((ws : Words) → contents vs ≡ Some ws → vs ≡ map Bulk ws) → bulk_of v ≡ o → contents vs ≡ p → with_word o p ≡ Some words → v ∷ vs ≡ map Bulk words
   by None p rest e f is = absurd (grind arith)
   by (Some w) None rest e f is = absurd (grind arith)
   by (Some w) (Some ws) rest e f is =

@@ -7,7 +7,7 @@ use Rattle.wire_values.specs.declared.value.Value.TheVariants.{Array}
 use Rattle.wire_values.proofs.Layers.{layer-array}
 use Rattle.store_model.specs.Words.{Bytes, Words}
 use Rattle.command_blocks.specs.Answers.{bulk_of}
-use Rattle.sessions.specs.CommandValues.{contents, onto_words, command_items}
+use Rattle.sessions.specs.CommandValues.{contents, with_word, command_items}
 
 pub array_layer : (xs : List Value) → layer (Array xs) ≡ Value-F.Array xs
 array_layer xs = layer-array xs
@@ -28,7 +28,7 @@ all_items (v ∷ vs) n some e = e ∙ by (contents (v ∷ vs)) where
 -- one content more
 pub one_content : (words : Words) (v : Value) (rest : List Value) (word : Bytes) → bulk_of v ≡ Some word → after_words words (contents (v ∷ rest)) ≡ after_words (words ++ word ∷ []) (contents rest)
 one_content words v rest word e = rw e (by (contents rest)) where
-  by : (o : Option Words) → after_words words (onto_words (Some word) o) ≡ after_words (words ++ word ∷ []) o
+  by : (o : Option Words) → after_words words (with_word (Some word) o) ≡ after_words (words ++ word ∷ []) o
   by None = refl
   by (Some more) = ap (λ l. Some l) (sym (append_assoc words (word ∷ []) more))
 

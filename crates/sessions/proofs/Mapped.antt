@@ -31,7 +31,7 @@ module _ {D E : Type 0} (goes : D → List Deed → D → Type 0) (leads : E →
     ends_as receives stream sent count NotWords ((h, w, x), calm) = ((heard_as stream count h, w, x), calm)
     ends_as receives stream sent count (Full entries bytes) ((h, w, b, i), calm) = ((heard_as stream count h, w, b, i), calm)
     ends_as receives stream sent count Closed ((h, w, b, i), calm) = ((heard_as stream count h, w, b, i), calm)
-    ends_as receives stream sent count Memory ((h, w), calm) = ((heard_as stream count h, w), calm)
+    ends_as receives stream sent count Memory ((h, w, short), calm) = ((heard_as stream count h, w, short), calm)
 
     pub session_as : (count : ℕ) (why : Why) → HasSession goes gives shared fault first now old new turns count why → HasSession leads gives shared fault from to old new turns count why
     session_as count why s = record {
@@ -57,4 +57,4 @@ heard_in goes gives shared fault first now old new turns receives stream sent co
 heard_in goes gives shared fault first now old new turns receives stream sent count NotWords ((h, w, x), calm) = h
 heard_in goes gives shared fault first now old new turns receives stream sent count (Full entries bytes) ((h, w, b, i), calm) = h
 heard_in goes gives shared fault first now old new turns receives stream sent count Closed ((h, w, b, i), calm) = h
-heard_in goes gives shared fault first now old new turns receives stream sent count Memory ((h, w), calm) = h
+heard_in goes gives shared fault first now old new turns receives stream sent count Memory ((h, w, short), calm) = h

@@ -1,5 +1,5 @@
 -- A session goes on by one receive.
-use Rattle.std.proofs.Common.{List, [], append-nil, append_assoc, ap, arith, inl, inr, refl, subst, suc, sym, take, zero, ℕ, ◌++◌, ◌<◌, ◌∙◌, ◌≡◌, ◌≤◌}
+use Rattle.std.proofs.Common.{List, [], append-nil, append_assoc, ap, arith, inl, inr, length-append, refl, subst, suc, sym, take, zero, ℕ, ◌++◌, ◌<◌, ◌∙◌, ◌≡◌, ◌≤◌}
 use Rattle.std.specs.Prelude.{Bool, Err, None, Ok, Option, Result, Some, ⊤}
 use Rattle.std.specs.Io.KnownBytes.{Appends, Keeps}
 use Rattle.std.proofs.KnownBytes.{Appends-kept, Appends-nil, Appends-trans}
@@ -12,6 +12,7 @@ use Rattle.resp_wire.specs.Stands.{Stands}
 use Rattle.resp_wire.specs.declared.decoder.Decoder.{Decoder}
 use Rattle.desks.specs.Deeds.{Deed}
 use Rattle.desks.specs.declared.desk.DeskFault.{DeskFault}
+use Rattle.sessions.specs.Calls.{answers}
 use Rattle.sessions.specs.Hearings.{HasHeard, WritesAll, WritesFront}
 use Rattle.net_links.specs.LinkViews.{LinkView, raised_by}
 use Rattle.sessions.specs.Sendings.{SendsFront}
@@ -58,9 +59,9 @@ module _ {D : Type 0} (goes : D → List Deed → D → Type 0) (gives : ℕ →
   fed d2 on = record { heard = heard_fed; stands = on s.heard.from s.heard.rest s.stands; answered = s.answered }
 
   -- and there was no memory for them
-  pub unfed : (shared : Bool) (fault : Option DeskFault) (was : Option (List ℕ)) (faults : ℕ)
+  pub unfed : (shared : Bool) (fault : Option DeskFault) → fault ≡ None → (was : Option (List ℕ)) (faults : ℕ)
       → (more : List ℕ) × Appends was was more × EndsTaken goes gives shared fault first now (stream ++ piece) (sent ++ more) t.commands faults faults Memory
-  unfed shared fault was faults = ([], Appends-nil was, ((heard_fed, (t.out.items, sym s.answered ∙ ap (λ l. l ++ t.out.items) (sym (append-nil sent)))), refl))
+  unfed shared fault calm was faults = ([], Appends-nil was, ((heard_fed, (t.out.items, sym s.answered ∙ ap (λ l. l ++ t.out.items) (sym (append-nil sent))), inl (inl calm)), refl))
 
 module _ {D : Type 0} (goes : D → List Deed → D → Type 0) (gives : ℕ → Type 0) (shared : Bool) (fault : Option DeskFault) (first now : D) (stream sent : List ℕ) (t : Talking) where
   -- what was asked, whatever the answer is
@@ -70,7 +71,7 @@ module _ {D : Type 0} (goes : D → List Deed → D → Type 0) (gives : ℕ →
   front_all (Err NotWords) (h, all, none) = (h, ([], sym (append-nil (sent ++ t.out.items) ∙ all)))
   front_all (Err (Full entries bytes)) (h, all, next, is) = (h, ([], sym (append-nil (sent ++ t.out.items) ∙ all)))
   front_all (Err Closed) (h, all, next, is) = (h, ([], sym (append-nil (sent ++ t.out.items) ∙ all)))
-  front_all (Err Memory) (h, front) = (h, front)
+  front_all (Err Memory) (h, front, short) = (h, front)
   front_all (Err Ended) never = absurd never
   front_all (Err Turns) never = absurd never
   front_all (Err Link) never = absurd never
@@ -82,7 +83,8 @@ module _ {D : Type 0} (goes : D → List Deed → D → Type 0) (gives : ℕ →
     cut_at (Err Link) (h, (more, e)) (front, rest, split, some, sends) rose =
         (front, sends, (h, (rest ++ more, e ∙ ap (λ l. (sent ++ l) ++ more) split ∙ ap (λ l. l ++ more) (sym (append_assoc sent front rest)) ∙ append_assoc (sent ++ front) rest more), rose))
     cut_at (Err Memory) (h, (more, e)) (front, rest, split, some, sends) same =
-        (front, sends, ((h, (rest ++ more, e ∙ ap (λ l. (sent ++ l) ++ more) split ∙ ap (λ l. l ++ more) (sym (append_assoc sent front rest)) ∙ append_assoc (sent ++ front) rest more)), same))
+        let cut : answers h.deeds ≡ (sent ++ front) ++ (rest ++ more) = e ∙ ap (λ l. (sent ++ l) ++ more) split ∙ ap (λ l. l ++ more) (sym (append_assoc sent front rest)) ∙ append_assoc (sent ++ front) rest more in
+        (front, sends, ((h, (rest ++ more, cut), inr (rest ++ more, cut, omega (arith, some, length-append rest more))), same))
     cut_at (Err Ended) a b never = absurd never
     cut_at (Err Turns) a b never = absurd never
     cut_at (Err (Wire kind place)) a b never = absurd never

@@ -33,6 +33,10 @@ IsNearFault shared desk.Closed = shared ≡ true
 IsNearFault shared desk.Ended = ⊥
 IsNearFault shared desk.Memory = Unit {0}
 
+-- a desk that refused no command, or one for want of memory
+abbrev pub IsShortOfMemory : Option DeskFault → Type 0
+IsShortOfMemory fault = (fault ≡ None) ⊎ (fault ≡ Some desk.Memory)
+
 -- nothing was asked, and nothing appended
 pub record IsSame {D : Type 0} (goes : D → List Deed → D → Type 0) (old new : D) (out out2 : List ℕ) (count count2 : ℕ) : Type 0 where
   pub stays : goes old [] new
@@ -46,20 +50,20 @@ pub record HasDone {D : Type 0} (goes : D → List Deed → D → Type 0) (gives
   pub did : goes old (DidAsk at words reply ∷ []) new
   pub counted : count2 ≡ raised count
 
--- a command was asked, and its reply's bytes appended; or the desk refused it; or memory was wanting, before it was asked or after, when no bytes are left
-abbrev pub HasAnsweredWords : {D : Type 0} → (D → List Deed → D → Type 0) → (ℕ → Type 0) → Bool → Option DeskFault → D → D → Words → List ℕ → List ℕ → ℕ → ℕ → Result ⊤ Why → Type 0
-HasAnsweredWords goes gives shared fault old new words out out2 count count2 (Ok done) = (reply : Reply) × HasDone goes gives old new words count count2 reply × (out2 ≡ out ++ reply_bytes reply)
-HasAnsweredWords goes gives shared fault old new words out out2 count count2 (Err (Full entries bytes)) = IsSame goes old new out out2 count count2 × IsDeskWhy shared fault (Full entries bytes)
-HasAnsweredWords goes gives shared fault old new words out out2 count count2 (Err Closed) = IsSame goes old new out out2 count count2 × IsDeskWhy shared fault Closed
-HasAnsweredWords goes gives shared fault old new words out out2 count count2 (Err Memory) = (IsSame goes old new out out2 count count2 × IsDeskWhy shared fault Memory) ⊎ ((reply : Reply) × HasDone goes gives old new words count count2 reply × (out2 ≡ []))
-HasAnsweredWords goes gives shared fault old new words out out2 count count2 (Err Ended) = ⊥
-HasAnsweredWords goes gives shared fault old new words out out2 count count2 (Err Turns) = ⊥
-HasAnsweredWords goes gives shared fault old new words out out2 count count2 (Err (Wire kind place)) = ⊥
-HasAnsweredWords goes gives shared fault old new words out out2 count count2 (Err NotWords) = ⊥
-HasAnsweredWords goes gives shared fault old new words out out2 count count2 (Err Link) = ⊥
+-- a command was asked, and its reply's bytes appended; or the desk refused it; or memory was wanting, before it was asked or after, when no bytes are left and the desk refused nothing
+abbrev pub HasAskedWords : {D : Type 0} → (D → List Deed → D → Type 0) → (ℕ → Type 0) → Bool → Option DeskFault → D → D → Words → List ℕ → List ℕ → ℕ → ℕ → Result ⊤ Why → Type 0
+HasAskedWords goes gives shared fault old new words out out2 count count2 (Ok done) = (reply : Reply) × HasDone goes gives old new words count count2 reply × (out2 ≡ out ++ reply_bytes reply)
+HasAskedWords goes gives shared fault old new words out out2 count count2 (Err (Full entries bytes)) = IsSame goes old new out out2 count count2 × IsDeskWhy shared fault (Full entries bytes)
+HasAskedWords goes gives shared fault old new words out out2 count count2 (Err Closed) = IsSame goes old new out out2 count count2 × IsDeskWhy shared fault Closed
+HasAskedWords goes gives shared fault old new words out out2 count count2 (Err Memory) = (IsSame goes old new out out2 count count2 × IsDeskWhy shared fault Memory) ⊎ ((reply : Reply) × HasDone goes gives old new words count count2 reply × (out2 ≡ []) × (fault ≡ None))
+HasAskedWords goes gives shared fault old new words out out2 count count2 (Err Ended) = ⊥
+HasAskedWords goes gives shared fault old new words out out2 count count2 (Err Turns) = ⊥
+HasAskedWords goes gives shared fault old new words out out2 count count2 (Err (Wire kind place)) = ⊥
+HasAskedWords goes gives shared fault old new words out out2 count count2 (Err NotWords) = ⊥
+HasAskedWords goes gives shared fault old new words out out2 count count2 (Err Link) = ⊥
 
--- a value's words were asked so; NotWords comes exactly where it spells none
+-- a value's words were asked so; NotWords comes exactly where it spells none, and want of memory stands in for no other refusal of the desk
 abbrev pub HasAnsweredValue : {D : Type 0} → (D → List Deed → D → Type 0) → (ℕ → Type 0) → Bool → Option DeskFault → D → D → Value → List ℕ → List ℕ → ℕ → ℕ → Result ⊤ Why → Type 0
 HasAnsweredValue goes gives shared fault old new v out out2 count count2 (Err NotWords) = (command_in v ≡ None) × IsSame goes old new out out2 count count2
-HasAnsweredValue goes gives shared fault old new v out out2 count count2 (Err Memory) = IsSame goes old new out out2 count count2 ⊎ ((words : Words) × (command_in v ≡ Some words) × HasAnsweredWords goes gives shared fault old new words out out2 count count2 (Err Memory))
-HasAnsweredValue goes gives shared fault old new v out out2 count count2 result = (words : Words) × (command_in v ≡ Some words) × HasAnsweredWords goes gives shared fault old new words out out2 count count2 result
+HasAnsweredValue goes gives shared fault old new v out out2 count count2 (Err Memory) = (IsSame goes old new out out2 count count2 × (fault ≡ None)) ⊎ ((words : Words) × (command_in v ≡ Some words) × HasAskedWords goes gives shared fault old new words out out2 count count2 (Err Memory))
+HasAnsweredValue goes gives shared fault old new v out out2 count count2 result = (words : Words) × (command_in v ≡ Some words) × HasAskedWords goes gives shared fault old new words out out2 count count2 result

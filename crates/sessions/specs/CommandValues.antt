@@ -5,15 +5,15 @@ use Rattle.store_model.specs.Words.{Bytes, Words}
 use Rattle.command_blocks.specs.Answers.{bulk_of, items_of}
 
 -- a word before others, where all are there
-abbrev pub onto_words : Option Bytes → Option Words → Option Words
-onto_words None rest = None
-onto_words (Some word) None = None
-onto_words (Some word) (Some words) = Some (word ∷ words)
+abbrev pub with_word : Option Bytes → Option Words → Option Words
+with_word None rest = None
+with_word (Some word) None = None
+with_word (Some word) (Some words) = Some (word ∷ words)
 
 -- the contents of values that are bulk strings, all of them
 abbrev pub contents : List Value → Option Words
 contents [] = Some []
-contents (v ∷ vs) = onto_words (bulk_of v) (contents vs)
+contents (v ∷ vs) = with_word (bulk_of v) (contents vs)
 
 -- the contents of one or more bulk strings
 abbrev pub command_items : List Value → Option Words

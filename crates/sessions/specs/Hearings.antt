@@ -1,5 +1,5 @@
 -- What was asked of the bytes that came, what is written of it, and why nothing more is.
-use Rattle.std.specs.Prelude.{Bool, List, None, Option, Some, length, ℕ, ◌++◌, ◌≡◌}
+use Rattle.std.specs.Prelude.{Bool, List, None, Option, Some, length, ℕ, ◌++◌, ◌<◌, ◌≡◌, ◌⊎◌}
 use Rattle.wire_values.specs.declared.value.Value.{Value}
 use Rattle.wire_grammar.specs.Spells.{Spells}
 use Rattle.wire_grammar.specs.Streams.{Leads}
@@ -7,7 +7,7 @@ use Rattle.resp_wire.specs.Stands.{IsFault, held_to}
 use Rattle.store_model.specs.Words.{Words}
 use Rattle.desks.specs.Deeds.{Deed}
 use Rattle.desks.specs.declared.desk.DeskFault.{DeskFault}
-use Rattle.sessions.specs.Askings.{IsDeskWhy}
+use Rattle.sessions.specs.Askings.{IsDeskWhy, IsShortOfMemory}
 use Rattle.sessions.specs.Calls.{AreCalls, answers}
 use Rattle.sessions.specs.CommandValues.{command_in}
 use Rattle.sessions.specs.declared.ends.Why.{Why}
@@ -32,6 +32,10 @@ WritesAll deeds written = written ≡ answers deeds
 abbrev pub WritesFront : List Deed → List ℕ → Type 0
 WritesFront deeds written = (more : List ℕ) × (answers deeds ≡ written ++ more)
 
+-- a front of the answers, and not all of them, is written
+abbrev pub WritesPart : List Deed → List ℕ → Type 0
+WritesPart deeds written = (more : List ℕ) × (answers deeds ≡ written ++ more) × (0 < length more)
+
 -- the bytes begin with the spelling of this value
 abbrev pub BeginsWith : Value → List ℕ → Type 0
 BeginsWith v bytes = (front : List ℕ) × (more : List ℕ) × (bytes ≡ front ++ more) × Spells v front
@@ -44,13 +48,13 @@ BeginsNoCommand bytes = (v : Value) × BeginsWith v bytes × (command_in v ≡ N
 abbrev pub BeginsCommand : List ℕ → Type 0
 BeginsCommand bytes = (v : Value) × (words : Words) × BeginsWith v bytes × (command_in v ≡ Some words)
 
--- why no further value is asked: what follows those that were is a fault, or no command, or a command that the desk refused; or memory was wanting
+-- why no further value is asked: what follows those that were is a fault, or no command, or a command that the desk refused; or memory was wanting, where the desk refused nothing for another cause, or to send the answers
 abbrev pub EndsTalk : {D : Type 0} → (D → List Deed → D → Type 0) → (ℕ → Type 0) → Bool → Option DeskFault → D → D → List ℕ → List ℕ → ℕ → Why → Type 0
 EndsTalk goes gives shared fault first now stream written count (Wire kind place) = (h : HasHeard goes gives first now stream count) × WritesAll h.deeds written × IsFault h.from h.rest kind place
 EndsTalk goes gives shared fault first now stream written count NotWords = (h : HasHeard goes gives first now stream count) × WritesAll h.deeds written × BeginsNoCommand h.rest
 EndsTalk goes gives shared fault first now stream written count (Full entries bytes) = (h : HasHeard goes gives first now stream count) × WritesAll h.deeds written × BeginsCommand h.rest × IsDeskWhy shared fault (Full entries bytes)
 EndsTalk goes gives shared fault first now stream written count Closed = (h : HasHeard goes gives first now stream count) × WritesAll h.deeds written × BeginsCommand h.rest × IsDeskWhy shared fault Closed
-EndsTalk goes gives shared fault first now stream written count Memory = (h : HasHeard goes gives first now stream count) × WritesFront h.deeds written
+EndsTalk goes gives shared fault first now stream written count Memory = (h : HasHeard goes gives first now stream count) × WritesFront h.deeds written × (IsShortOfMemory fault ⊎ WritesPart h.deeds written)
 EndsTalk goes gives shared fault first now stream written count Ended = ⊥
 EndsTalk goes gives shared fault first now stream written count Turns = ⊥
 EndsTalk goes gives shared fault first now stream written count Link = ⊥

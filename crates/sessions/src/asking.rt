@@ -4,7 +4,7 @@ ghost use Rattle.links.specs.Counts.{raised};
 ghost use Rattle.desks.specs.Deeds.{DidAsk};
 ghost use Rattle.desks.specs.Faults.{IsOpen};
 ghost use Rattle.wire_grammar.specs.Fits.{HasSpelling, IsWithinLimits};
-ghost use Rattle.sessions.specs.Askings.{HasAnsweredValue, HasAnsweredWords, IsDeskWhy, IsNearFault};
+ghost use Rattle.sessions.specs.Askings.{HasAnsweredValue, HasAskedWords, IsDeskWhy, IsNearFault};
 ghost use Rattle.sessions.specs.Talks.{reply_bytes, store_moment};
 
 use crate::Why;
@@ -64,7 +64,7 @@ fn answer_words<D: Desk, C: Clock>(
     requires near { D.remote ≡ false }
     requires open { IsOpen (D.fault desk.old) (D.stopped desk.old) }
     requires words { IsWithinLimits words.now }
-    ensures answered { HasAnsweredWords D.goes (C.gives clock.now) D.shared (D.fault desk.new) desk.old desk.new words.now out.old.items out.new.items commands.old commands.new result }
+    ensures answered { HasAskedWords D.goes (C.gives clock.now) D.shared (D.fault desk.new) desk.old desk.new words.now out.old.items out.new.items commands.old commands.new result }
     ensures open { OnOk result (IsOpen (D.fault desk.new) (D.stopped desk.new)) }
 {
     let at = store_moment(clock.now());

@@ -14,10 +14,11 @@ pub enum Why {
     NotWords,
     /// The link failed, or the other side ended within a value.
     Link,
-    /// The store's history is full, with so many entries and so many bytes.
+    /// The store's history is full, with so many entries and so many bytes. No store of today has a history that can be
+    /// full or closed.
     Full { entries: u64, bytes: u64 },
     /// The store's history is closed.
     Closed,
-    /// There was no memory.
+    /// There was no memory, and the store refused no command for another cause; or none to send all answers.
     Memory,
 }

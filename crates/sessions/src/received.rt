@@ -1,6 +1,6 @@
 //! The words of a command, read off a value that was received.
 ghost use Rattle.std.specs.Prelude.{IfOk, MatchOption, None, Some, ◌≡◌};
-ghost use Rattle.command_blocks.specs.Answers.{bulk_of, items_of};
+ghost use Rattle.command_blocks.specs.Answers.{bulk_of};
 ghost use Rattle.sessions.specs.CommandValues.{command_in, command_items};
 
 use command_blocks::answer::items;

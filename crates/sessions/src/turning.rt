@@ -1,6 +1,6 @@
 //! One turn of a session: what one receive gives is asked, and the answers are sent.
 ghost use Rattle.std.specs.Io.KnownBytes.{Keeps};
-ghost use Rattle.std.specs.Prelude.{IsOk, List, OnOk, [], false, length, ℕ, ◌++◌, ◌≡◌, ◌≤◌};
+ghost use Rattle.std.specs.Prelude.{IsOk, List, OnOk, false, length, ℕ, ◌++◌, ◌≡◌, ◌≤◌};
 ghost use Rattle.desks.specs.Faults.{IsOpen};
 ghost use Rattle.resp_wire.specs.Stands.{Stands};
 ghost use Rattle.net_links.specs.LinkViews.{LinkView, link_view};

@@ -1,6 +1,6 @@
 -- Serving goes on by one connection.
-use Rattle.std.proofs.Common.{List, [], append-nil, ap, arith, length, length-append, refl, subst, suc, sym, ℕ, false, ◌+◌, ◌++◌, ◌<◌, ◌∙◌, ◌∷◌, ◌≡◌, ◌≤◌, ◌⊎◌}
-use Rattle.std.specs.Prelude.{Err, None, Ok, Option, Some}
+use Rattle.std.proofs.Common.{List, [], append-nil, ap, arith, length, length-append, refl, subst, sym, ℕ, false, ◌+◌, ◌++◌, ◌<◌, ◌∙◌, ◌∷◌, ◌≡◌, ◌≤◌, ◌⊎◌}
+use Rattle.std.specs.Prelude.{Err, None, Option, Some}
 use Rattle.links.specs.Causes.{Rose}
 use Rattle.net_links.specs.NetCauses.{HasNetCause}
 use Rattle.net_links.specs.Traffics.{ClosesOne, IsFresh, IsNothing, KeepsClosed, TellsNothingYet}
@@ -15,7 +15,7 @@ use Rattle.net_links.specs.LinkViews.{LinkView}
 use Rattle.sessions.specs.SessionEnds.{HasSession}
 use Rattle.sessions.specs.declared.conversing.SessionEnd.{SessionEnd}
 use Rattle.sessions.proofs.Mapped.{heard_in, session_as}
-use Rattle.store_server.specs.Servings.{HasServed, HasServedAll, HasServedOne, HasServedNext, HasVisited, IsServeWhy, IsUnkept, store_goes, why_at, without}
+use Rattle.store_server.specs.Servings.{HasServed, HasServedAll, HasServedOne, HasVisited, IsServeWhy, IsUnkept, store_goes, why_at, without}
 use Rattle.store_server.specs.declared.serving.ServeWhy.{ServeWhy}
 use Rattle.store_server.specs.declared.serving.ServeWhy.TheVariants.{Ended, Memory, Net}
 

@@ -1,7 +1,6 @@
 -- How a store serves connections one after the other.
 use Rattle.std.specs.Prelude.{List, Option, Result, Err, Ok, [], false, length, ℕ, ◌+◌, ◌++◌, ◌<◌, ◌∷◌, ◌≡◌, ◌≤◌, ◌⊎◌}
 use Rattle.links.specs.Causes.{Rose}
-use Rattle.net_links.specs.NetCauses.{HasNetCause}
 use Rattle.net_links.specs.Traffics.{ClosesOne, IsFresh, KeepsClosed}
 use Rattle.net_links.specs.declared.link.NetFault.{NetFault}
 use Rattle.net_links.specs.declared.link.NetFault.TheVariants.{Failed}

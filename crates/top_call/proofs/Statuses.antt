@@ -170,6 +170,11 @@ report_of_input schedule bytes text same is = record {
   written = is.written;
   sound = is.sound;
   placed = is.placed;
+  stops = is.stops;
+  returns = is.returns;
+  passes = is.passes;
+  trees = is.trees;
+  origins = is.origins;
 }
 
 -- the statuses of a run by what its schedule determines

@@ -5,6 +5,7 @@ use Rattle.links.specs.Ends.{IsPast, IsWholeInput}
 use Rattle.links.specs.Views.{SourceView}
 use Rattle.command_blocks.specs.EnvelopeTexts.{plain_setting}
 use Rattle.place_model.specs.Starts.{IsSound}
+use Rattle.message_schedules.specs.Companions.{MessagesHaveOneTree, MessagesHaveOrigins, PassesAccount, ReturnsAreWhole, StopsMoveOne}
 use Rattle.schedule_model.specs.Costs.{is_full}
 use Rattle.schedule_model.specs.Desk.{ScheduleReader, first_desk}
 use Rattle.schedule_model.specs.EachPlaced.{IsEachPlaced}
@@ -22,28 +23,38 @@ HasInput before now bytes = IsWholeInput max_input before now bytes ⊎ IsPast m
 abbrev pub replay_run : List ℕ → Determined
 replay_run schedule = schedule_run program_craft schedule
 
--- the text is the report of the history that this schedule determines; that history is sound, and after each of its
--- prefixes each message that is accepted and single is in exactly one place
+-- the text is the report of the history that this schedule determines; that history is sound, after each of its prefixes
+-- each message that is accepted and single is in exactly one place, and of its stops, returns, passes and envelopes holds
+-- what follows
 pub record IsReport (schedule text : List ℕ) : Type 0 where
   pub desk : ScheduleReader
   pub determined : replay_run schedule ≡ Whole desk
   pub written : text ≡ report_text program_legend (reader_history desk)
   pub sound : IsSound plain_setting (reader_history desk)
   pub placed : IsEachPlaced (reader_history desk)
+  pub stops : StopsMoveOne (reader_history desk)
+  pub returns : ReturnsAreWhole (reader_history desk)
+  pub passes : PassesAccount (reader_history desk)
+  pub trees : MessagesHaveOneTree (reader_history desk)
+  pub origins : MessagesHaveOrigins (reader_history desk)
 
 -- the first bad line of this schedule, and the first reason that holds of it
 abbrev pub IsFirstBad : List ℕ → BadLine → Type 0
 IsFirstBad schedule bad = replay_run schedule ≡ Bad_line bad.line bad.reason
 
 -- a line of this schedule was to add to a history of so many entries, which cost so many bytes: that of the desk that the
--- schedule's lines filled; it is full and sound, and after each of its prefixes each message that is accepted and single
--- is in exactly one place
+-- schedule's lines filled; it is full and sound, and of it holds the same
 pub record IsFull (schedule : List ℕ) (entries cost : ℕ) : Type 0 where
   pub determined : replay_run schedule ≡ schedules.Full entries cost
   pub filled : FilledDesk program_craft first_desk (lines_read schedule) entries cost
   pub full : is_full filled.desk.entries ≡ true
   pub sound : IsSound plain_setting (reader_history filled.desk)
   pub placed : IsEachPlaced (reader_history filled.desk)
+  pub stops : StopsMoveOne (reader_history filled.desk)
+  pub returns : ReturnsAreWhole (reader_history filled.desk)
+  pub passes : PassesAccount (reader_history filled.desk)
+  pub trees : MessagesHaveOneTree (reader_history filled.desk)
+  pub origins : MessagesHaveOrigins (reader_history filled.desk)
 
 -- the statuses that a run over such a schedule may have, where neither its source nor its sink fails: its own, or want of memory
 abbrev pub calm_statuses : Determined → List ℕ

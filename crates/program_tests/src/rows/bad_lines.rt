@@ -19,7 +19,12 @@ pub fn headers() -> &'static str {
 pub fn each_reason() -> &'static str {
     r#"
 2 text | at 1\xff\n
-2 later | begin 1 pass 3600\n
+2 syntax | begin 1 pass\n
+2 syntax | begin 1 pass 4294967296\n
+2 syntax | begin 1 pass 3600 1\n
+2 unknown client | begin 1 pass 3600\n
+4 stopped | client 1 seed 7\nstop 1\nbegin 1 pass 3600\n
+5 busy | client 1 seed 7\nbegin 1 pass 3600\nstep 1\nbegin 1 pass 3600\n
 2 syntax | \n
 2 syntax | CLIENT 1 seed 7\n
 2 syntax |  client 1 seed 7\n
@@ -91,9 +96,9 @@ pub fn each_reason() -> &'static str {
 /// Lines for which two reasons hold, or more: the one that is tested first is given.
 pub fn first_of_two() -> &'static str {
     r#"
-# `text` and `syntax`, `later` and `syntax`.
+# `text` and `syntax`, `syntax` and `unknown client`.
 2 text | stop 1 2\xff\n
-2 later | begin 0 pass\n
+2 syntax | begin 1 pass 03600\n
 # `syntax` before what is known of the client, the moment and the names.
 2 syntax | begin 1 ack 1:1:1\n
 3 syntax | client 1 seed 7\nclient 1 seed 07\n

@@ -28,7 +28,29 @@ pub fn acknowledgements() -> [Row; 5] {
     ]
 }
 
-/// The message is still in its list.
+/// A pass that finds the message overdue, which another client popped: its ninth command is the EXEC of the return.
+pub fn passes() -> [Row; 15] {
+    let pass = "begin 1 pop celery\nrun 1\nat 3600\nbegin 2 pass 3600\n";
+    [
+        (pass, 0, unacked()),
+        (pass, 1, unacked()),
+        (pass, 2, unacked()),
+        (pass, 3, unacked()),
+        (pass, 4, unacked()),
+        (pass, 5, unacked()),
+        (pass, 6, unacked()),
+        (pass, 7, unacked()),
+        (pass, 8, unacked()),
+        (pass, 9, in_list()),
+        (pass, 10, in_list()),
+        (pass, 11, in_list()),
+        (pass, 12, in_list()),
+        (pass, 13, in_list()),
+        (pass, 14, in_list()),
+    ]
+}
+
+/// The message is in its list, still or again.
 fn in_list() -> &'static str {
     r#"place 7:1 list celery 0
 total list 1 unacked 0 hand 0 ended 0 lost 0 copies 0

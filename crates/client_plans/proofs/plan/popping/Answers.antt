@@ -1,4 +1,4 @@
-use Rattle.std.proofs.Common.{◌≡◌, false, refl, sym, ap, ◌∙◌}
+use Rattle.std.proofs.Common.{◌≡◌, false, sym, ap, ◌∙◌}
 use Rattle.std.specs.List.{list_all, list_any}
 use Rattle.command_blocks.specs.EnvelopeTexts.{plain_setting}
 use Rattle.queue_keys.specs.Names.{is_name, is_reserved}
@@ -17,4 +17,4 @@ pub returns : goal.returns
 returns c =
     let named : list_any is_no_name c.args.queues.now ≡ false = ap (list_any is_no_name) (sym c.as_slice.ensures) ∙ sym c.has_no_name.ensures ∙ c.if-has_no_name.false in
     let free : list_any is_reserved c.args.queues.now ≡ false = ap (list_any is_reserved) (sym c.as_slice-2.ensures) ∙ sym c.has_reserved.ensures ∙ c.if-has_reserved.false in
-    popped c.args.seed c.args.drawn c.args.queues.now c.in_ok-left.left c.args.drawn named free (c.in_ok-left.ensures ∙ ap (pop_script plain_setting) (c.in_ok-names.ensures ∙ c.as_slice-3.ensures)) refl
+    popped c.args.counts c.args.queues.now c.in_ok-left.left named free (c.in_ok-left.ensures ∙ ap (pop_script plain_setting) (c.in_ok-names.ensures ∙ c.as_slice-3.ensures))

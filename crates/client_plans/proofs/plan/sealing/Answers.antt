@@ -8,17 +8,17 @@ use Rattle.client_plans.proofs.plan.sealing.Goals as goal
 pub returns-in_default-2 : goal.returns-in_default-2
 returns-in_default-2 c = λ j spells.
     let a = c.args.asked.now in
-    let more : c.in-Some.counter ≡ suc c.args.drawn = search rules in
-    bad_task c.args.seed (suc c.args.drawn) a.exchange.now a.routing_key.now a.priority a.task.now j _ c.requires.way (sym spells)
-    (ap (option_map envelope_text) (sym c.in_default-2.is) ∙ c.in_ok-envelope.ensures.text j spells ∙ ap (λ n. sealed_task c.args.seed n a.exchange.now a.routing_key.now a.priority a.task.now j) more)
+    let more : c.in-Some.counter ≡ suc c.args.counts.drawn = search rules in
+    bad_task c.args.counts.seed (suc c.args.counts.drawn) a.exchange.now a.routing_key.now a.priority a.task.now j _ c.requires.way (sym spells)
+    (ap (option_map envelope_text) (sym c.in_default-2.is) ∙ c.in_ok-envelope.ensures.text j spells ∙ ap (λ n. sealed_task c.args.counts.seed n a.exchange.now a.routing_key.now a.priority a.task.now j) more)
 
 pub returns : goal.returns
 returns c = λ j spells.
     let a = c.args.asked.now in
-    let more : c.in-Some.counter ≡ suc c.args.drawn = search rules in
-    let sealed_so : Some (envelope_text c.in-Some-2.envelope) ≡ sealed_task c.args.seed (suc c.args.drawn) a.exchange.now a.routing_key.now a.priority a.task.now j =
-    ap (option_map envelope_text) (sym c.in-Some-2.is) ∙ c.in_ok-envelope.ensures.text j spells ∙ ap (λ n. sealed_task c.args.seed n a.exchange.now a.routing_key.now a.priority a.task.now j) more in
-    published c.args.seed c.args.drawn a.exchange.now a.routing_key.now a.priority a.task.now j _ (envelope_text c.in-Some-2.envelope) c.in_ok-left.left c.in-Some.counter
+    let more : c.in-Some.counter ≡ suc c.args.counts.drawn = search rules in
+    let sealed_so : Some (envelope_text c.in-Some-2.envelope) ≡ sealed_task c.args.counts.seed (suc c.args.counts.drawn) a.exchange.now a.routing_key.now a.priority a.task.now j =
+    ap (option_map envelope_text) (sym c.in-Some-2.is) ∙ c.in_ok-envelope.ensures.text j spells ∙ ap (λ n. sealed_task c.args.counts.seed n a.exchange.now a.routing_key.now a.priority a.task.now j) more in
+    published c.args.counts a.exchange.now a.routing_key.now a.priority a.task.now j _ (envelope_text c.in-Some-2.envelope) c.in_ok-left.left c.in-Some.counter
     c.requires.way (sym spells) sealed_so c.in_ok-left.ensures more
 
 pub sent-requires : goal.sent-requires

@@ -1,6 +1,6 @@
-use Rattle.std.proofs.Common.{arith, length-append, rules, subst, sym, true, ap, length, [], ◌∙◌, ◌∷◌, ◌≡◌, ◌≤◌}
+use Rattle.std.proofs.Common.{arith, length-append, rules, subst, sym, true, ap, length, [], ◌∙◌, ◌∷◌, ◌≡◌}
 use Rattle.std.proofs.KnownBytes.{Keeps-trans}
-use Rattle.link_desk.specs.PushedValues.{ArePushed, is_pushed, pushed_limit}
+use Rattle.link_desk.specs.PushedValues.{ArePushed, is_pushed}
 use Rattle.link_desk.proofs.Gathered.{gathered_cut, gathered_more, gathered_over, gathered_whole, pushed_more}
 use Rattle.link_desk.proofs.replying.gather.Goals as goal
 

@@ -29,7 +29,7 @@ returns-in-Err-Bad-clause-answers c =
 
 pub returns-in-Err-Memory-clause-answers : goal.returns-in-Err-Memory-clause-answers
 returns-in-Err-Memory-clause-answers c = λ first stream sent s.
-    asked_spent desk_goes IsBeginning false c.args.desk.now.standing.fault first c.args.desk.now stream sent c.args.talking.now c.next.new.self s
+    asked_spent desk_goes IsBeginning false c.args.desk.now.standing.fault first c.args.desk.now stream sent c.args.talking.now c.next.new.self s c.requires.open.no_fault
 
 pub answer_value-requires-clause-spelled : goal.answer_value-requires-clause-spelled
 answer_value-requires-clause-spelled c =

@@ -11,4 +11,5 @@ returns-in-Err-counted-clause-answered g c = inr (
     counted = c.counted.ensures.count;
   },
   c.in-Err-counted.ensures.none,
+  c.in-Ok.ensures.open.no_fault,
 )

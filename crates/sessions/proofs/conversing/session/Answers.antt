@@ -4,5 +4,5 @@ use Rattle.sessions.proofs.conversing.session.Goals as goal
 
 pub returns-in-Err : goal.returns-in-Err
 returns-in-Err g c = record {
-  session = not_begun g.D.Desk.goes g.met.D.Desk.stays (g.C.Clock.gives c.args.clock.now) c.args.desk.now g.D.Desk.shared (g.D.Desk.fault c.args.desk.now) (link_view g.L.Link.sent g.L.Link.received g.L.Link.faults g.L.Link.ends g.L.Link.gains c.args.link.now) c.args.turns;
+  session = not_begun g.D.Desk.goes g.met.D.Desk.stays (g.C.Clock.gives c.args.clock.now) c.args.desk.now g.D.Desk.shared (g.D.Desk.fault c.args.desk.now) c.requires.open.no_fault (link_view g.L.Link.sent g.L.Link.received g.L.Link.faults g.L.Link.ends g.L.Link.gains c.args.link.now) c.args.turns;
 }

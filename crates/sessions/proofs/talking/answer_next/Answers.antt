@@ -25,4 +25,4 @@ returns-in-Err-Bad-clause-answers g c =
 
 pub returns-in-Err-Memory-clause-answers : goal.returns-in-Err-Memory-clause-answers
 returns-in-Err-Memory-clause-answers g c = λ first stream sent s.
-    asked_spent g.D.Desk.goes _ g.D.Desk.shared (g.D.Desk.fault c.args.desk.now) first c.args.desk.now stream sent c.args.talking.now c.next.new.self s
+    asked_spent g.D.Desk.goes _ g.D.Desk.shared (g.D.Desk.fault c.args.desk.now) first c.args.desk.now stream sent c.args.talking.now c.next.new.self s c.requires.open.no_fault

@@ -12,4 +12,4 @@ returns-in-Ok-clause-taken g c = λ first stream sent s.
 
 pub returns-in-Err-clause-taken : goal.returns-in-Err-clause-taken
 returns-in-Err-clause-taken g c = λ first stream sent s.
-    unfed g.D.Desk.goes (g.C.Clock.gives c.args.clock.now) first c.args.desk.now stream sent c.args.piece.now c.args.talking.now s.talks g.D.Desk.shared (g.D.Desk.fault c.args.desk.now) (g.L.Link.sent c.args.link.now) (g.L.Link.faults c.args.link.now)
+    unfed g.D.Desk.goes (g.C.Clock.gives c.args.clock.now) first c.args.desk.now stream sent c.args.piece.now c.args.talking.now s.talks g.D.Desk.shared (g.D.Desk.fault c.args.desk.now) c.requires.open.no_fault (g.L.Link.sent c.args.link.now) (g.L.Link.faults c.args.link.now)

@@ -1,4 +1,4 @@
-use Rattle.std.proofs.Common.{[], ap, arith, inl, length, length-append, subst, sym, ◌+◌, ◌∙◌, ◌∷◌, ◌≡◌, ◌≤◌}
+use Rattle.std.proofs.Common.{[], ap, arith, inl, length, length-append, subst, sym, ◌+◌, ◌∙◌, ◌∷◌}
 use Rattle.store_server.specs.Servings.{HasServed, HasServedAll}
 use Rattle.store_server.specs.declared.serving.ServeWhy.TheVariants.{Memory}
 use Rattle.store_server.proofs.Served.{all_served, none_came, one_unkept, serves_one}

@@ -1,4 +1,4 @@
-use Rattle.std.proofs.Common.{[], arith, inr, refl, subst, sym, ◌≤◌}
+use Rattle.std.proofs.Common.{[], arith, inr, refl, subst, sym}
 use Rattle.store_server.specs.Servings.{HasServed}
 use Rattle.store_server.proofs.Served.{none_came, none_served, served_after}
 use Rattle.store_server.proofs.serving.serve_plain.Goals as goal

@@ -1,6 +1,5 @@
 use Rattle.std.proofs.Common.{◌∙◌}
 use Rattle.plain_desk.specs.declared.desk.PlainDesk.{PlainDesk}
-use Rattle.store_model.specs.Store.{StoreView}
 use Rattle.net_links.specs.LinkViews.{link_view}
 use Rattle.store_server.proofs.Served.{visited}
 use Rattle.store_server.proofs.serving.visit.Goals as goal

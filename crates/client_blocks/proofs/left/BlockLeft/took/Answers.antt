@@ -1,4 +1,5 @@
 use Rattle.std.proofs.Common.{◌∙◌, ap, sym}
+use Rattle.passes.specs.Passes.{pass_left, pass_stage_left}
 use Rattle.returns.specs.Returns.{return_left, return_stage_left}
 use Rattle.routes.specs.Publishes.{publish_left, publish_stage_left}
 use Rattle.unacked.specs.Pops.{pop_left, pop_stage_left}
@@ -20,3 +21,8 @@ pub returns-in-Return : goal.returns-in-Return
 returns-in-Return c =
     heard_so return_stage_left c.deref_mut-in-Return.result.now c.took-in-Return.new.self c.args.at c.args.reply.now c.took-in-Return.result c.heard-in-Return.result (script_left c.args.self.now) c.took-in-Return.ensures.taken c.heard-in-Return.ensures
     (ap return_left (c.deref_mut-in-Return.ensures.value ∙ ap (λ b. b.value) c.in-Return.core-is) ∙ sym (ap script_left c.in-Return.is))
+
+pub returns-in-Pass : goal.returns-in-Pass
+returns-in-Pass c =
+    heard_so pass_stage_left c.deref_mut-in-Pass.result.now c.took-in-Pass.new.self c.args.at c.args.reply.now c.took-in-Pass.result c.heard-in-Pass.result (script_left c.args.self.now) c.took-in-Pass.ensures.taken c.heard-in-Pass.ensures
+    (ap pass_left (c.deref_mut-in-Pass.ensures.value ∙ ap (λ b. b.value) c.in-Pass.core-is) ∙ sym (ap script_left c.in-Pass.is))

@@ -1,4 +1,4 @@
-use Rattle.std.proofs.Common.{arith, ◌++◌}
+use Rattle.std.proofs.Common.{◌++◌}
 use Rattle.link_desk.proofs.Heard.{value_came, value_cut, value_wrong}
 use Rattle.link_desk.proofs.Ready.{ready_next, wanting_less}
 use Rattle.link_desk.proofs.hearing.Hearing.next.Goals as goal

@@ -1,0 +1,13 @@
+//! Tests of timers, revokes and the times of periodic tasks: rows of what is given and what comes of it.
+#![tactic(auto)]
+
+#[cfg(test)]
+mod fields;
+#[cfg(test)]
+mod intervals;
+#[cfg(test)]
+mod revoked;
+#[cfg(test)]
+mod spans;
+#[cfg(test)]
+mod waiting;

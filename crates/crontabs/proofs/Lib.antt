@@ -1,0 +1,4 @@
+pub mod KitMonths
+pub mod MonthStarts
+pub mod Searches
+pub mod Words
