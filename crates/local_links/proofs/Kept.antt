@@ -9,7 +9,7 @@ use Rattle.desks.specs.Deeds.{Deed}
 use Rattle.plain_desk.specs.declared.desk.PlainDesk.{PlainDesk}
 use Rattle.sessions.specs.Hearings.{WritesAll, WritesFront}
 use Rattle.sessions.specs.declared.talking.Talking.{Talking}
-use Rattle.local_links.specs.LocalTalks.{HasKept, IsSentBy, Serves, sent_at}
+use Rattle.local_links.specs.LocalTalks.{KeepsReplies, IsSentBy, Serves, sent_at}
 use Rattle.local_links.specs.declared.link_stage.LinkStage.{LinkStage}
 use Rattle.local_links.specs.declared.link_stage.LinkStage.TheVariants.{Asks, Over, Spent}
 
@@ -37,7 +37,7 @@ module _ (first now : PlainDesk) (sent sent2 piece replies replies2 : List ℕ) 
   kept_front ds r w = front_kept ds replies replies2 t.out.items t2.out.items r empty w
 
   -- what was asked, after its replies were kept
-  pub kept_served : (taken result : LinkStage) → Serves first now (sent_at taken sent piece) replies t taken → HasKept taken t.out.items replies replies2 sent sent2 piece result → ServesNow result sent2
+  pub kept_served : (taken result : LinkStage) → Serves first now (sent_at taken sent piece) replies t taken → KeepsReplies taken t.out.items replies replies2 sent sent2 piece result → ServesNow result sent2
   kept_served Asks Asks s (same, r, e) = subst (ServesNow Asks) (sym e) (
     record {
       talks = record { heard = s.0.talks.heard; stands = s.0.talks.stands; answered = kept_all s.0.talks.heard.deeds r s.0.talks.answered };
@@ -59,7 +59,7 @@ pub since_some : (a b : PlainDesk → Type 0) → ∥ ((first : PlainDesk) × a 
 since_some a b h on = ∥∥₁_elim h (hlevel props) (λ s. ∣ (s.0, on s.0 s.1) ∣₁)
 
 -- what was received stays at the front of the replies
-pub kept_received : (stage result : LinkStage) (out replies replies2 sent sent2 piece : List ℕ) (at : ℕ) → at ≤ length replies → HasKept stage out replies replies2 sent sent2 piece result → (at ≤ length replies2) × (take at replies2 ≡ take at replies)
+pub kept_received : (stage result : LinkStage) (out replies replies2 sent sent2 piece : List ℕ) (at : ℕ) → at ≤ length replies → KeepsReplies stage out replies replies2 sent sent2 piece result → (at ≤ length replies2) × (take at replies2 ≡ take at replies)
 kept_received stage result out replies replies2 sent sent2 piece at within k = by result k where
   more : replies2 ≡ replies ++ out → (at ≤ length replies2) × (take at replies2 ≡ take at replies)
   more r = (omega (arith, within, ap length r, length-append replies out), ap (take at) r ∙ take-append-le at replies out within)
@@ -67,14 +67,14 @@ kept_received stage result out replies replies2 sent sent2 piece at within k = b
   same : replies2 ≡ replies → (at ≤ length replies2) × (take at replies2 ≡ take at replies)
   same r = (omega (arith, within, ap length r), ap (take at) r)
 
-  by : (result : LinkStage) → HasKept stage out replies replies2 sent sent2 piece result → (at ≤ length replies2) × (take at replies2 ≡ take at replies)
+  by : (result : LinkStage) → KeepsReplies stage out replies replies2 sent sent2 piece result → (at ≤ length replies2) × (take at replies2 ≡ take at replies)
   by Asks (is, r, e) = more r
   by Over (is, r, e) = more r
   by Spent (inl r, e) = same r
   by Spent (inr r, e) = more r
 
 -- all of the piece was sent, or nothing
-pub kept_sent : (stage result : LinkStage) (out replies replies2 sent sent2 piece : List ℕ) (answer : Result ℕ NetFault) → HasKept stage out replies replies2 sent sent2 piece result → IsSentBy result (length piece) answer → WriteAppends (Some sent) (Some sent2) answer piece
+pub kept_sent : (stage result : LinkStage) (out replies replies2 sent sent2 piece : List ℕ) (answer : Result ℕ NetFault) → KeepsReplies stage out replies replies2 sent sent2 piece result → IsSentBy result (length piece) answer → WriteAppends (Some sent) (Some sent2) answer piece
 kept_sent stage result out replies replies2 sent sent2 piece answer k is = by result k is where
   Goes : Result ℕ NetFault → Type 0
   Goes r = WriteAppends (Some sent) (Some sent2) r piece
@@ -82,7 +82,7 @@ kept_sent stage result out replies replies2 sent sent2 piece answer k is = by re
   all : answer ≡ Ok (length piece) → sent2 ≡ sent ++ piece → Goes answer
   all a e = subst Goes (sym a) (e ∙ ap (λ l. sent ++ l) (sym (take_all (length piece) piece (omega arith))))
 
-  by : (result : LinkStage) → HasKept stage out replies replies2 sent sent2 piece result → IsSentBy result (length piece) answer → Goes answer
+  by : (result : LinkStage) → KeepsReplies stage out replies replies2 sent sent2 piece result → IsSentBy result (length piece) answer → Goes answer
   by Asks (same, r, e) a = all a e
   by Over (same, r, e) a = all a e
   by Spent (r, e) a = subst Goes (sym a) e

@@ -59,10 +59,10 @@ stage_after (Err why.Closed) = Spent
 stage_after (Err why.Memory) = Spent
 
 -- replies were put behind the others and a piece behind what was sent; or there was no memory, for the piece at least
-abbrev pub HasKept : LinkStage → List ℕ → List ℕ → List ℕ → List ℕ → List ℕ → List ℕ → LinkStage → Type 0
-HasKept stage out replies replies2 sent sent2 piece Asks = (stage ≡ Asks) × (replies2 ≡ replies ++ out) × (sent2 ≡ sent ++ piece)
-HasKept stage out replies replies2 sent sent2 piece Over = (stage ≡ Over) × (replies2 ≡ replies ++ out) × (sent2 ≡ sent ++ piece)
-HasKept stage out replies replies2 sent sent2 piece Spent = ((replies2 ≡ replies) ⊎ (replies2 ≡ replies ++ out)) × (sent2 ≡ sent)
+abbrev pub KeepsReplies : LinkStage → List ℕ → List ℕ → List ℕ → List ℕ → List ℕ → List ℕ → LinkStage → Type 0
+KeepsReplies stage out replies replies2 sent sent2 piece Asks = (stage ≡ Asks) × (replies2 ≡ replies ++ out) × (sent2 ≡ sent ++ piece)
+KeepsReplies stage out replies replies2 sent sent2 piece Over = (stage ≡ Over) × (replies2 ≡ replies ++ out) × (sent2 ≡ sent ++ piece)
+KeepsReplies stage out replies replies2 sent sent2 piece Spent = ((replies2 ≡ replies) ⊎ (replies2 ≡ replies ++ out)) × (sent2 ≡ sent)
 
 -- what a send answers that got so far
 abbrev pub IsSentBy : LinkStage → ℕ → Result ℕ NetFault → Type 0

@@ -6,7 +6,7 @@ ghost use Rattle.resp_wire.specs.Moves.{unread_of};
 ghost use Rattle.wire_grammar.specs.Fits.{HasSpelling};
 ghost use Rattle.sessions.specs.Askings.{HasAnsweredValue};
 ghost use Rattle.sessions.specs.Talkings.{AnswersAll, AnswersNext, StandsSomewhere, Talks, TalksAll};
-ghost use Rattle.local_links.specs.LocalTalks.{HasKept, IsBeginning, IsReadyAt, Serves, desk_goes, sent_at, stage_after};
+ghost use Rattle.local_links.specs.LocalTalks.{KeepsReplies, IsBeginning, IsReadyAt, Serves, desk_goes, sent_at, stage_after};
 ghost use Rattle.local_links.specs.declared.link_stage.LinkStage.TheVariants.{Spent};
 
 use crate::{LinkStage, StillClock};
@@ -148,7 +148,7 @@ pub(crate) fn keep(
     piece: &[u8],
 ) -> LinkStage
     ensures emptied { out.new.items ≡ [] }
-    ensures kept { HasKept stage out.old.items replies.old replies.new sent.old sent.new piece.now result }
+    ensures kept { KeepsReplies stage out.old.items replies.old replies.new sent.old sent.new piece.now result }
     ensures spent { stage ≡ Spent → result ≡ Spent }
 {
     let after = keep_at(alloc, stage, out.as_slice(), replies, sent, piece);
@@ -165,7 +165,7 @@ fn keep_at(
     sent: &mut Bytes,
     piece: &[u8],
 ) -> LinkStage
-    ensures kept { HasKept stage out.now replies.old replies.new sent.old sent.new piece.now result }
+    ensures kept { KeepsReplies stage out.now replies.old replies.new sent.old sent.new piece.now result }
     ensures spent { stage ≡ Spent → result ≡ Spent }
 {
     match stage {

@@ -120,6 +120,7 @@ impl Link for LocalLink {
         ensures whole { IfOk result (λ n. n ≡ length piece.now) }
         ensures kinds { IfErr result (λ f. f ≡ Memory) }
         ensures spent { self.old.stage ≡ Spent → IsErr result }
+        ensures stage { IsSentBy self.new.stage (length piece.now) result }
         ensures place { self.new.at ≡ self.old.at }
         ensures serves { (first : ThePlainDesk) → ServesSince first self.old → ServesSince first self.new }
     {
@@ -141,6 +142,8 @@ impl Link for LocalLink {
         ensures ended { IfOk result (λ n. self.new.ends ≡ ends_by n (length into.old) self.old.ends) }
         ensures place { IfOk result (λ n. self.new.at ≡ self.old.at + n) }
         ensures replies { self.new.replies ≡ self.old.replies }
+        ensures desk { self.new.desk ≡ self.old.desk }
+        ensures stage { self.new.stage ≡ self.old.stage }
         ensures serves { (first : ThePlainDesk) → ServesSince first self.old → ServesSince first self.new }
     {
         let left = &self.replies.as_slice()[self.at..];

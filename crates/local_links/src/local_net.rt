@@ -164,6 +164,7 @@ impl Net for LocalNet {
         ensures closed { ClosesOne (Some (map told_by (take self.old.back self.old.places.items))) (Some (map told_by (take self.new.back self.new.places.items))) (told_by stream) }
         ensures faults { self.new.faults ≡ self.old.faults }
         ensures closed_faults { HasClosedFaults self.old.closed_faults self.new.closed_faults 0 stream.ends }
+        ensures same { (self.new.stores ≡ self.old.stores) × (self.new.tried ≡ self.old.tried) × (self.new.fails ≡ self.old.fails) }
         ensures links { take self.new.back self.new.places.items ≡ take self.old.back self.old.places.items ++ stream ∷ [] }
     {
         if stream.has_ended() {
