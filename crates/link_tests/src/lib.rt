@@ -11,3 +11,7 @@ mod failing;
 mod flooded;
 #[cfg(test)]
 mod heard;
+#[cfg(test)]
+mod local;
+#[cfg(test)]
+mod local_nets;
