@@ -22,6 +22,14 @@ returns c =
     let ran : HasRun (schedule_run program_craft c.args.bytes.now) c.text_run.result = subst (λ t. HasRun (header_on program_craft (nat_lt 67108864 (length c.args.bytes.now)) (lines_of t)) c.text_run.result) read c.text_run.ensures in
     let r = schedule_run program_craft c.args.bytes.now in
     let has : (P : History Heard → Type 0) → ((h : History Heard) → IsSound plain_setting h → P h) → IfOk c.text_run.result (λ ran. P (history_of ran.history)) = λ P all. run_has P all c.args.bytes.now c.text_run.result ran in
-    record { answer = run_history r c.text_run.result ran; sound = run_sound c.args.bytes.now c.text_run.result ran; placed = run_placed c.args.bytes.now c.text_run.result ran; store = run_store c.args.bytes.now c.text_run.result ran;
-      stops = has StopsMoveOne stops_move_one; whole_returns = has ReturnsAreWhole returns_are_whole; passes = has PassesAccount passes_account;
-      trees = has MessagesHaveOneTree messages_have_one_tree; origins = has MessagesHaveOrigins messages_have_origins }
+    record {
+      answer = run_history r c.text_run.result ran;
+      sound = run_sound c.args.bytes.now c.text_run.result ran;
+      placed = run_placed c.args.bytes.now c.text_run.result ran;
+      store = run_store c.args.bytes.now c.text_run.result ran;
+      stops = has StopsMoveOne stops_move_one;
+      whole_returns = has ReturnsAreWhole returns_are_whole;
+      passes = has PassesAccount passes_account;
+      trees = has MessagesHaveOneTree messages_have_one_tree;
+      origins = has MessagesHaveOrigins messages_have_origins;
+    }
