@@ -1,5 +1,5 @@
 -- What preparing a plan answers, and what may be begun.
-use Rattle.std.specs.Prelude.{◌≡◌, ◌≤◌, ℕ, suc, Bool, not, ◌&&◌, ◌||◌, if◌then◌else◌, length, [], ◌∷◌, Option, Result, Ok, Err, None, Some}
+use Rattle.std.specs.Prelude.{◌≡◌, ◌≤◌, ℕ, suc, Bool, not, ◌&&◌, ◌||◌, length, [], ◌∷◌, Option, Result, Ok, Err, None, Some}
 use Rattle.command_blocks.specs.Blocks.{drawn, passes_after}
 use Rattle.command_blocks.specs.EnvelopeTexts.{plain_setting}
 use Rattle.command_blocks.specs.Scripts.{Plan, counter_use, script_of}

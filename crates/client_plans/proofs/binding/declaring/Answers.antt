@@ -1,6 +1,5 @@
-use Rattle.std.proofs.Common.{◌≡◌, false, true, sym, ap, ◌∙◌}
-use Rattle.queue_keys.specs.Bindings.{is_part}
-use Rattle.queue_keys.specs.Names.{is_name, is_reserved}
+use Rattle.std.proofs.Common.{false, true, sym, ap, ◌∙◌}
+use Rattle.queue_keys.specs.Names.{is_reserved}
 use Rattle.command_blocks.specs.EnvelopeTexts.{plain_setting}
 use Rattle.command_blocks.specs.Scripts.{script_of}
 use Rattle.client_plans.proofs.Preparing.{bad_part, bad_queue, declared, lawful_parts}

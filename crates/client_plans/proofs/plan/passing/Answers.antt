@@ -1,4 +1,4 @@
-use Rattle.std.proofs.Common.{rules, ◌≡◌, ◌≤◌, suc, length, arith}
+use Rattle.std.proofs.Common.{rules, ◌≡◌, suc}
 use Rattle.client_plans.proofs.Preparing.{passing_begun}
 use Rattle.client_plans.proofs.plan.passing.Goals as goal
 
