@@ -117,12 +117,7 @@ fn say<D: Desk, T: Steps>(
 }
 
 /// Has a client take the reply to its next command, at a moment in seconds. True.
-fn hear<T: Steps>(
-    alloc: Global,
-    steps: &mut T,
-    at: u64,
-    reply: &Reply,
-) -> Result<bool, BlockFault>
+fn hear<T: Steps>(alloc: Global, steps: &mut T, at: u64, reply: &Reply) -> Result<bool, BlockFault>
     requires moment { at < moment_limit }
     requires asked { IsSome (next_words (T.left steps.old) at) }
     ensures heard { HasHeardNext T.left T.had T.ended at steps.old steps.new reply.now result }
