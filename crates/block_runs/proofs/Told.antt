@@ -27,7 +27,7 @@ use Rattle.steps.specs.declared.begun.BeginFault.{BeginFault}
 use Rattle.steps.specs.declared.ended.BlockEnd.{BlockEnd}
 use Rattle.steps.specs.declared.begun.BeginFault.TheVariants as begin_
 use Rattle.block_runs.specs.Faults.{begin_fault, reply_fault}
-use Rattle.block_runs.specs.Runs.{AreClocked, IsDeskFault, HasRest, HasRunBlock, IsBlockTo, IsRestTo, HasSaid, HasSaidNext, HadMore, IsOn, WasAsked, trip_deed, trip_deeds}
+use Rattle.block_runs.specs.Runs.{AreClocked, IsDeskFault, HasHeardNext, HasRest, HasRunBlock, IsBlockTo, IsRestTo, HasSaid, HasSaidNext, HadMore, IsOn, WasAsked, trip_deed, trip_deeds}
 use Rattle.block_runs.specs.declared.fault.BlockFault.{BlockFault}
 use Rattle.block_runs.specs.declared.fault.BlockFault.TheVariants as fault_
 
@@ -88,15 +88,27 @@ at_fault : {X : Type 0} (P : Result X BlockFault → Type 0) (r : Result X Block
 at_fault P r f is h = let p = err_from_is_err_and r is in subst P (sym (p.1 ∙ ap (λ x. Err x) p.2)) h
 
 -- a client didn't take a reply
-pub refused_next : {D T : Type 0} (goes : D → List Deed → D → Type 0) (fault : D → Option DeskFault) (stopped : D → Bool) (left : T → Script) (spent : T → Bool) (had : T → Client → Errand → List RoundTrip → Type 0) (ended : T → Option BlockEnd)
-    (at : ℕ) (desk desk2 : D) (steps steps2 : T) (words : Words) (reply : Reply) (f : ReplyFault) (result : Result Bool BlockFault) → IsErrAnd result (λ x. x ≡ reply_fault f)
-    → WasAsked goes desk desk2 (left steps) at words reply → IsOpen (fault desk2) (stopped desk2) → HasHeard left spent steps steps2 reply (Err f)
+pub refused_heard : {T : Type 0} (left : T → Script) (spent : T → Bool) (had : T → Client → Errand → List RoundTrip → Type 0) (ended : T → Option BlockEnd)
+    (at : ℕ) (steps steps2 : T) (reply : Reply) (f : ReplyFault) (result : Result Bool BlockFault) → IsErrAnd result (λ x. x ≡ reply_fault f)
+    → HasHeard left spent steps steps2 reply (Err f) → HasHeardNext left had ended at steps steps2 reply result
+refused_heard left spent had ended at steps steps2 reply (taken.Refused given) result is h =
+    at_fault (HasHeardNext left had ended at steps steps2 reply) result (fault_.Refused given) is
+    (h.2, ap (λ r. script_after (left steps) r) h.2 ∙ sym h.0 ∙ h.1, h.1)
+refused_heard left spent had ended at steps steps2 reply taken.Memory result is h =
+    at_fault (HasHeardNext left had ended at steps steps2 reply) result fault_.Memory is tt
+
+-- a command was asked, and its reply heard
+pub heard_next : {D T : Type 0} (goes : D → List Deed → D → Type 0) (fault : D → Option DeskFault) (stopped : D → Bool) (left : T → Script) (had : T → Client → Errand → List RoundTrip → Type 0) (ended : T → Option BlockEnd)
+    (at : ℕ) (desk desk2 : D) (steps steps2 : T) (words : Words) (reply : Reply) (result : Result Bool BlockFault)
+    → WasAsked goes desk desk2 (left steps) at words reply → IsOpen (fault desk2) (stopped desk2) → HasHeardNext left had ended at steps steps2 reply result
     → HasSaidNext goes fault stopped left had ended at desk desk2 steps steps2 result
-refused_next goes fault stopped left spent had ended at desk desk2 steps steps2 words reply (taken.Refused given) result is asked is_open h =
-    at_fault (HasSaidNext goes fault stopped left had ended at desk desk2 steps steps2) result (fault_.Refused given) is
-    (words, subst (λ r. WasAsked goes desk desk2 (left steps) at words r) (sym h.2) asked, is_open, ap (λ r. script_after (left steps) r) h.2 ∙ sym h.0 ∙ h.1, h.1)
-refused_next goes fault stopped left spent had ended at desk desk2 steps steps2 words reply taken.Memory result is asked is_open h =
-    at_fault (HasSaidNext goes fault stopped left had ended at desk desk2 steps steps2) result fault_.Memory is (is_open, inr (words, reply, asked))
+heard_next goes fault stopped left had ended at desk desk2 steps steps2 words reply (Ok true) asked is_open h = (words, reply, asked, is_open, h words asked.next)
+heard_next goes fault stopped left had ended at desk desk2 steps steps2 words reply (Ok false) asked is_open h = absurd h
+heard_next goes fault stopped left had ended at desk desk2 steps steps2 words reply (Err (fault_.Begin f)) asked is_open h = absurd h
+heard_next goes fault stopped left had ended at desk desk2 steps steps2 words reply (Err (fault_.Desk f)) asked is_open h = absurd h
+heard_next goes fault stopped left had ended at desk desk2 steps steps2 words reply (Err (fault_.Refused given)) asked is_open h =
+    (words, subst (λ r. WasAsked goes desk desk2 (left steps) at words r) (sym h.0) asked, is_open, h.1, h.2)
+heard_next goes fault stopped left had ended at desk desk2 steps steps2 words reply (Err fault_.Memory) asked is_open h = (is_open, inr (words, reply, asked))
 
 -- the rest of a block stops at a fault of its next command
 pub rest_stops : {D T : Type 0} (goes : D → List Deed → D → Type 0) (joins : (s t u : D) (l m : List Deed) → goes s l t → goes t m u → goes s (l ++ m) u) (gives : ℕ → Type 0)
@@ -209,10 +221,14 @@ timely_open fault stopped f o t = subst (λ s. IsTimely None s f) o.no_stop (sub
 pub desk_kind : {X : Type 0} (remote shared : Bool) (a b c d : ℕ) (fault : Option DeskFault) (stopped : Bool) (f : DeskFault) (result : Result X BlockFault) → IsErrAnd result (λ x. x ≡ fault_.Desk f) → IsFaultOf remote shared a b c d f → IsOpen fault stopped → IsTimely fault stopped f → IfErr result (IsDeskFault remote shared a b c d)
 desk_kind remote shared a b c d fault stopped f result is kind o t = at_fault (λ r. IfErr r (IsDeskFault remote shared a b c d)) result (fault_.Desk f) is (kind, timely_open fault stopped f o t)
 
--- a reply that wasn't taken is no desk's fault, nor is a block that wasn't begun
-pub taken_kind : {X : Type 0} (remote shared : Bool) (a b c d : ℕ) (f : ReplyFault) (result : Result X BlockFault) → IsErrAnd result (λ x. x ≡ reply_fault f) → IfErr result (IsDeskFault remote shared a b c d)
-taken_kind remote shared a b c d (taken.Refused given) result is = at_fault (λ r. IfErr r (IsDeskFault remote shared a b c d)) result (fault_.Refused given) is tt
-taken_kind remote shared a b c d taken.Memory result is = at_fault (λ r. IfErr r (IsDeskFault remote shared a b c d)) result fault_.Memory is tt
+-- a client's fault is none of the desk
+pub heard_kind : {T : Type 0} (remote shared : Bool) (faults faults2 ends ends2 : ℕ) (left : T → Script) (had : T → Client → Errand → List RoundTrip → Type 0) (ended : T → Option BlockEnd)
+    (at : ℕ) (steps steps2 : T) (reply : Reply) (result : Result Bool BlockFault) → HasHeardNext left had ended at steps steps2 reply result → IfErr result (IsDeskFault remote shared faults faults2 ends ends2)
+heard_kind remote shared faults faults2 ends ends2 left had ended at steps steps2 reply (Ok b) h = tt
+heard_kind remote shared faults faults2 ends ends2 left had ended at steps steps2 reply (Err (fault_.Begin f)) h = tt
+heard_kind remote shared faults faults2 ends ends2 left had ended at steps steps2 reply (Err (fault_.Desk f)) h = absurd h
+heard_kind remote shared faults faults2 ends ends2 left had ended at steps steps2 reply (Err (fault_.Refused given)) h = tt
+heard_kind remote shared faults faults2 ends ends2 left had ended at steps steps2 reply (Err fault_.Memory) h = tt
 
 pub begun_kind : {X : Type 0} (remote shared : Bool) (a b c d : ℕ) (f : BeginFault) (result : Result X BlockFault) → IsErrAnd result (λ x. x ≡ begin_fault f) → IfErr result (IsDeskFault remote shared a b c d)
 begun_kind {X} remote shared a b c d f result is = at_fault (λ r. IfErr r (IsDeskFault remote shared a b c d)) result (begin_fault f) is (by f) where

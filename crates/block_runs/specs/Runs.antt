@@ -78,6 +78,15 @@ HasSaidNext goes fault stopped left had ended at desk desk2 steps steps2 (Err (D
 HasSaidNext goes fault stopped left had ended at desk desk2 steps steps2 (Err (Refused given)) = (words : Words) × WasAsked goes desk desk2 (left steps) at words given × IsOpen (fault desk2) (stopped desk2) × (script_after (left steps) given ≡ Off) × (left steps2 ≡ Off)
 HasSaidNext goes fault stopped left had ended at desk desk2 steps steps2 (Err Memory) = IsOpen (fault desk2) (stopped desk2) × (goes desk [] desk2 ⊎ ((words : Words) × (reply : Reply) × WasAsked goes desk desk2 (left steps) at words reply))
 
+-- the reply to the next command was taken, or refused
+abbrev pub HasHeardNext : {T : Type 0} → (T → Script) → (T → Client → Errand → List RoundTrip → Type 0) → (T → Option BlockEnd) → ℕ → T → T → Reply → Result Bool BlockFault → Type 0
+HasHeardNext left had ended at steps steps2 reply (Ok true) = (words : Words) → next_words (left steps) at ≡ Some words → IsOn left had ended steps steps2 (trip at words reply)
+HasHeardNext left had ended at steps steps2 reply (Ok false) = ⊥
+HasHeardNext left had ended at steps steps2 reply (Err (Begin f)) = ⊥
+HasHeardNext left had ended at steps steps2 reply (Err (Desk f)) = ⊥
+HasHeardNext left had ended at steps steps2 reply (Err (Refused given)) = (given ≡ reply) × (script_after (left steps) given ≡ Off) × (left steps2 ≡ Off)
+HasHeardNext left had ended at steps steps2 reply (Err Memory) = Unit {0}
+
 -- ---- the rest of a block
 
 -- how far the rest came, of which the script is left

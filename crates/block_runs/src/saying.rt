@@ -1,14 +1,15 @@
 //! The commands of a block, one after the other.
 ghost use Rattle.std.specs.Prelude.{List as Listed, IfErr, IsSome, OnOk, Some, ◌<◌, ◌≡◌};
 ghost use Rattle.store_model.specs.Limits.{moment_limit};
-ghost use Rattle.command_blocks.specs.Scripts.{Over, Off};
+ghost use Rattle.wire_grammar.specs.Fits.{IsWithinLimits};
+ghost use Rattle.command_blocks.specs.Scripts.{Over, Off, next_words};
 ghost use Rattle.desks.specs.Faults.{HasCounts, IsOpen};
 ghost use Rattle.steps.specs.Begins.{IsLawfulBlock, errand_of};
 ghost use Rattle.steps.specs.Clients.{Client};
 ghost use Rattle.steps.specs.Ends.{EndTells};
 ghost use Rattle.steps.specs.Errands.{Errand};
 ghost use Rattle.steps.specs.Trips.{RoundTrip};
-ghost use Rattle.block_runs.specs.Runs.{IsDeskFault, HasRest, HasRunBlock, HasSaidNext};
+ghost use Rattle.block_runs.specs.Runs.{IsDeskFault, HasHeardNext, HasRest, HasRunBlock, HasSaidNext};
 
 use crate::BlockFault;
 use desks::Desk;
@@ -16,6 +17,8 @@ use net_links::Clock;
 use sessions::store_moment;
 use std::alloc::Global;
 use steps::{Block, BlockEnd, Steps};
+use store_model::Reply;
+use wire_values::Words;
 
 /// Has a client say a block at a desk to its end. Each command is sent at a moment of the clock.
 ///
@@ -89,8 +92,38 @@ fn say_next<D: Desk, T: Steps>(
     let Some(words) = steps.next(alloc, at)? else {
         return Ok(false);
     };
-    let reply = desk.ask(alloc, at, &words)?;
-    steps.took(alloc, at, &reply)?;
+    say(alloc, desk, steps, at, &words)
+}
+
+/// Has a client say these words, its next command, at a moment in seconds. True.
+fn say<D: Desk, T: Steps>(
+    alloc: Global,
+    desk: &mut D,
+    steps: &mut T,
+    at: u64,
+    words: &Words,
+) -> Result<bool, BlockFault>
+    requires moment { at < moment_limit }
+    requires open { IsOpen (D.fault desk.old) (D.stopped desk.old) }
+    requires next { next_words (T.left steps.old) at ≡ Some words.now }
+    requires limits { IsWithinLimits words.now }
+    ensures said { HasSaidNext D.goes D.fault D.stopped T.left T.had T.ended at desk.old desk.new steps.old steps.new result }
+    ensures client { T.client steps.new ≡ T.client steps.old }
+    ensures counts { HasCounts (D.faults desk.old) (D.faults desk.new) (D.ends desk.old) (D.ends desk.new) }
+    ensures kinds { IfErr result (IsDeskFault D.remote D.shared (D.faults desk.old) (D.faults desk.new) (D.ends desk.old) (D.ends desk.new)) }
+{
+    let reply = desk.ask(alloc, at, words)?;
+    hear(alloc, steps, at, &reply)
+}
+
+/// Has a client take the reply to its next command, at a moment in seconds. True.
+fn hear<T: Steps>(alloc: Global, steps: &mut T, at: u64, reply: &Reply) -> Result<bool, BlockFault>
+    requires moment { at < moment_limit }
+    requires asked { IsSome (next_words (T.left steps.old) at) }
+    ensures heard { HasHeardNext T.left T.had T.ended at steps.old steps.new reply.now result }
+    ensures client { T.client steps.new ≡ T.client steps.old }
+{
+    steps.took(alloc, at, reply)?;
     Ok(true)
 }
 
