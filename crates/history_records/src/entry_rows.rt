@@ -4,6 +4,7 @@
 ghost use Rattle.std.specs.List.{flat_map};
 ghost use Rattle.std.specs.Prelude.{◌≡◌, ◌++◌, ◌∷◌, [], OnOk};
 ghost use Rattle.history_records.specs.Lines.{call_line, entry_line, pushed_text, reply_text};
+ghost use Rattle.place_model.specs.declared.history.Entry.TheVariants.{Heard as Noted, Stop};
 
 use crate::note_rows::note;
 use line_text::{quoted_words, value_form};
@@ -38,17 +39,27 @@ fn entry_row(alloc: Global, out: &mut Vec<u8>, entry: &Entry<Heard>) -> Result<(
             words,
             reply,
         } => call_row(alloc, out, *conn, *at, words.as_slice(), reply),
-        Entry::Heard { conn, heard } => {
-            let head = format!(in alloc; "heard {conn} ")?;
-            out.extend_from_slice(head.as_bytes())?;
-            note(alloc, out, heard)
-        }
-        Entry::Stop { conn } => {
-            let text = format!(in alloc; "stop {conn}")?;
-            out.extend_from_slice(text.as_bytes())?;
-            Ok(())
-        }
+        Entry::Heard { conn, heard } => heard_row(alloc, out, *conn, heard),
+        Entry::Stop { conn } => stop_row(alloc, out, *conn),
     }
+}
+
+/// Appends the line of a note, without its line feed.
+fn heard_row(alloc: Global, out: &mut Vec<u8>, conn: u32, heard: &Heard) -> Result<(), AllocError>
+    ensures { OnOk result (out.new.items ≡ out.old.items ++ entry_line (Noted conn heard.now)) }
+{
+    let head = format!(in alloc; "heard {conn} ")?;
+    out.extend_from_slice(head.as_bytes())?;
+    note(alloc, out, heard)
+}
+
+/// Appends the line of a connection that is gone, without its line feed.
+fn stop_row(alloc: Global, out: &mut Vec<u8>, conn: u32) -> Result<(), AllocError>
+    ensures { OnOk result (out.new.items ≡ out.old.items ++ entry_line (Stop conn)) }
+{
+    let text = format!(in alloc; "stop {conn}")?;
+    out.extend_from_slice(text.as_bytes())?;
+    Ok(())
 }
 
 /// Appends the line of a call, without its line feed.

@@ -3,6 +3,7 @@
 //! Each call appends to a vector. Where memory ends amid a text, a part of it may have been appended.
 ghost use Rattle.std.specs.Prelude.{◌≡◌, ◌++◌, OnOk};
 ghost use Rattle.history_records.specs.Lines.{note_text, outcome_text, tag_text};
+ghost use Rattle.place_model.specs.declared.heard.Heard.TheVariants.{Expired, Finished, Held, Unreadable};
 
 use delivery_tags::Tag;
 use line_text::{quoted, tag_short};
@@ -18,30 +19,56 @@ pub(crate) fn note(alloc: Global, out: &mut Vec<u8>, heard: &Heard) -> Result<()
         Heard::Finished {
             tag,
             outcome: ended,
-        } => {
-            named(alloc, out, b"FINISHED ", *tag)?;
-            out.push(b' ')?;
-            outcome(alloc, out, ended)
-        }
-        Heard::Expired { tag, expires, now } => {
-            named(alloc, out, b"EXPIRED ", *tag)?;
-            let moments = format!(in alloc; " {expires} {now}")?;
-            out.extend_from_slice(moments.as_bytes())?;
-            Ok(())
-        }
+        } => finished(alloc, out, *tag, ended),
+        Heard::Expired { tag, expires, now } => expired(alloc, out, *tag, *expires, *now),
         Heard::Revoked(tag) => named(alloc, out, b"REVOKED ", *tag),
         Heard::Rejected(tag) => named(alloc, out, b"REJECTED ", *tag),
-        Heard::Held { tag, eta } => {
-            named(alloc, out, b"HELD ", *tag)?;
-            let moment = format!(in alloc; " {eta}")?;
-            out.extend_from_slice(moment.as_bytes())?;
-            Ok(())
-        }
-        Heard::Unreadable => {
-            out.extend_from_slice(b"UNREADABLE")?;
-            Ok(())
-        }
+        Heard::Held { tag, eta } => held(alloc, out, *tag, *eta),
+        Heard::Unreadable => unreadable(out),
     }
+}
+
+/// Appends the note that a task ended.
+fn finished(alloc: Global, out: &mut Vec<u8>, tag: Tag, ended: &Outcome) -> Result<(), AllocError>
+    ensures { OnOk result (out.new.items ≡ out.old.items ++ note_text (Finished tag ended.now)) }
+{
+    named(alloc, out, b"FINISHED ", tag)?;
+    out.push(b' ')?;
+    outcome(alloc, out, ended)
+}
+
+/// Appends the note that a task expired: when it was to expire and the moment, in microseconds since 1970.
+fn expired(
+    alloc: Global,
+    out: &mut Vec<u8>,
+    tag: Tag,
+    expires: i64,
+    moment: i64,
+) -> Result<(), AllocError>
+    ensures { OnOk result (out.new.items ≡ out.old.items ++ note_text (Expired tag expires moment)) }
+{
+    named(alloc, out, b"EXPIRED ", tag)?;
+    let moments = format!(in alloc; " {expires} {moment}")?;
+    out.extend_from_slice(moments.as_bytes())?;
+    Ok(())
+}
+
+/// Appends the note that a task is held until a moment, in microseconds since 1970.
+fn held(alloc: Global, out: &mut Vec<u8>, tag: Tag, eta: i64) -> Result<(), AllocError>
+    ensures { OnOk result (out.new.items ≡ out.old.items ++ note_text (Held tag eta)) }
+{
+    named(alloc, out, b"HELD ", tag)?;
+    let moment = format!(in alloc; " {eta}")?;
+    out.extend_from_slice(moment.as_bytes())?;
+    Ok(())
+}
+
+/// Appends the note on what is no envelope.
+fn unreadable(out: &mut Vec<u8>) -> Result<(), AllocError>
+    ensures { OnOk result (out.new.items ≡ out.old.items ++ note_text Unreadable) }
+{
+    out.extend_from_slice(b"UNREADABLE")?;
+    Ok(())
 }
 
 /// Appends a text and a tag by its seed and counter.
