@@ -1,5 +1,5 @@
 -- How a run of publishing ends, by what it read, what its link carried and what it wrote.
-use Rattle.std.specs.Prelude.{◌≡◌, ◌≤◌, ◌⊎◌, ℕ, Bool, List, [], Option, Some, Result, Ok, Err, true, false}
+use Rattle.std.specs.Prelude.{◌≡◌, ◌≤◌, ◌+◌, ◌⊎◌, ℕ, Bool, List, [], Option, Some, Result, Ok, Err, true, false}
 use Rattle.links.specs.Causes.{Rose}
 use Rattle.links.specs.Ends.{HasReadUpTo, IsPast, IsWholeInput}
 use Rattle.links.specs.Views.{SinkView, SourceView}
@@ -36,10 +36,10 @@ pub record ClosesNone (before after : NetShows) : Type 0 where
 abbrev pub HasScript : SourceView → SourceView → Bytes → Type 0
 HasScript src src2 bytes = IsWholeInput max_input src src2 bytes ⊎ IsPast max_input src src2 bytes
 
--- the script wasn't read: the source failed, or there was no memory for it
+-- the script wasn't read whole: the source failed, or there was no memory for it; at most one byte more than its limit was read
 abbrev pub IsUnread : SourceView → SourceView → PublishingEnd → Type 0
-IsUnread src src2 ReadFault = (src.faults ≤ src2.faults) × Rose src.faults src2.faults
-IsUnread src src2 Memory = src2.faults ≡ src.faults
+IsUnread src src2 ReadFault = (bytes : Bytes) × HasReadUpTo max_input src src2 bytes × (src.faults ≤ src2.faults) × Rose src.faults src2.faults
+IsUnread src src2 Memory = (bytes : Bytes) × HasReadUpTo (max_input + 1) src src2 bytes × (src2.faults ≡ src.faults)
 IsUnread src src2 other = ⊥
 
 -- the script was read, and nothing of it said: a line is bad, or there was no memory to check it
