@@ -9,6 +9,8 @@ mod lawful;
 #[cfg(test)]
 mod play;
 #[cfg(test)]
+mod record;
+#[cfg(test)]
 mod rows;
 #[cfg(test)]
 mod shown;

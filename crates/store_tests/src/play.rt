@@ -1,7 +1,7 @@
 //! The scripts, played.
 use crate::rows::{
-    channels, commands, eleven, exchanges, faults, keys, limits, names, passes, queues, stops,
-    tables, transactions,
+    channels, commands, eleven, exchanges, faults, keys, limits, names, passes, queues, records,
+    stops, tables, transactions,
 };
 use crate::stage::PlayedStore;
 use line_text::number_in;
@@ -119,6 +119,7 @@ fn messages_are_where_their_commands_put_them(rt: HostRuntime) -> Result<(), Fai
         names::scripts(),
         passes::scripts(),
         queues::scripts(),
+        records::scripts(),
         stops::scripts(),
         tables::scripts(),
     ] {

@@ -9,6 +9,7 @@
 //! | `MOMENT CLIENT WORD..` | the same, whatever the reply is |
 //! | `repeat COUNT MOMENT CLIENT WORD.. = REPLY` | so many times; `#` in the words is the number of the time, from 0 |
 //! | `finds MOMENT WORD.. = yes` or `no` | whether the command finds what it would wait for |
+//! | `heard CLIENT NOTE` | the client notes something, as a report has it; bytes are spelled as words are |
 //! | `stop CLIENT` | the client is gone |
 //! | `gone CLIENT` | the store alone is told so, and the client may call again |
 //! | `message TAG PRIORITY ROUTING_KEY EXCHANGE` | names what belongs to a message; without an exchange it is the empty one |
@@ -16,6 +17,7 @@
 //! | `places = TAG PLACE ;..` | the places of all messages that were accepted |
 //! | `total = list NUMBER ..` | how many messages are in each kind of place |
 //! | `entries = NUMBER` | how many calls and stops there were |
+//! | `line NUMBER = LINE` | a line of the history's record, from 0; `empty` after the last line feed, then `none` |
 //! | `key QUEUE PRIORITY = KEY`, `keys QUEUE = KEY..` | the key of a queue for a priority, the keys of its pop |
 //!
 //! A word is `tag(7:1)`, `env(7:1)` or `entry(7:1)` for what belongs to a message, the last two with `*` behind them where it is
@@ -31,6 +33,7 @@ pub mod limits;
 pub mod names;
 pub mod passes;
 pub mod queues;
+pub mod records;
 pub mod stops;
 pub mod tables;
 pub mod transactions;

@@ -4,6 +4,7 @@ ghost use Rattle.std.specs.Prelude.{◌<◌};
 
 use crate::glossary::{Glossary, key_text, keys_text};
 use crate::lawful::{is_new, is_running};
+use crate::record::{note_of, record_line};
 use crate::shown::{place_text, places_text, tag_of, total_text};
 use envelope::EnvelopeFault;
 use line_text::{number_in, words};
@@ -35,7 +36,7 @@ impl PlayedStore {
 
     /// Adds the clients 1 to 4 with the seeds 7 to 10, and names the message that Celery writes.
     pub fn begin<R: Abort>(&mut self, rt: &R, alloc: Global) -> Result<(), AllocError> {
-        for (conn, seed) in [(1, 7), (2, 8), (3, 9), (4, 10)] {
+        for (conn, seed) in [(3, 9), (1, 7), (4, 10), (2, 8)] {
             assert!(rt; is_new(self.history.clients(), conn, seed));
             self.history.client(alloc, conn, seed)?;
         }
@@ -51,6 +52,7 @@ impl PlayedStore {
     ) -> Result<(), EnvelopeFault> {
         match row.split_once(' ').expect(rt, "a row") {
             ("message", rest) => self.message(rt, alloc, rest),
+            ("heard", rest) => Ok(self.heard(rt, alloc, rest)?),
             ("stop", conn) => Ok(self.stop(rt, alloc, client_in(rt, conn))?),
             ("gone", conn) => {
                 self.store.gone(client_in(rt, conn));
@@ -72,6 +74,7 @@ impl PlayedStore {
             ("places", _) => self.places(alloc),
             ("total", _) => self.total(alloc),
             ("entries", _) => self.entries(alloc),
+            ("line", number) => record_line(rt, alloc, &self.history, number),
             ("finds", rest) => self.finds(rt, alloc, rest),
             ("key", rest) => key_text(rt, alloc, rest),
             ("keys", queue) => keys_text(rt, alloc, queue),
@@ -89,6 +92,15 @@ impl PlayedStore {
         let priority = number_in(0, 255, priority).expect(rt, "a priority") as i64;
         self.glossary
             .message(alloc, tag_of(rt, tag), (exchange, routing_key), priority)
+    }
+
+    /// A client notes something.
+    fn heard<R: Abort>(&mut self, rt: &R, alloc: Global, rest: &str) -> Result<(), AllocError> {
+        let (conn, row) = rest.split_once(' ').expect(rt, "a note");
+        let conn = client_in(rt, conn);
+        assert!(rt; is_running(&self.history, conn));
+        let heard = note_of(rt, alloc, row)?;
+        self.history.add(alloc, Entry::Heard { conn, heard })
     }
 
     /// A client is gone.
