@@ -12,9 +12,6 @@ pub fn scripts() -> &'static str {
 1099511627775 2 MULTI
 1099511627775 2 EXEC
 1099511627775 2 SADD s a
-1099511627775 2 MULTI
-1099511627775 2 SMEMBERS s
-1099511627775 2 EXEC
 1099511627775 2 BRPOP q 1
 1099511627775 3 LPUSH celery text(7:1)
 1099511627775 4 BRPOP K 1
@@ -42,25 +39,22 @@ line 9 = call 1099511627775 2 "GET" "k" = $-
 line 10 = call 1099511627775 2 "MULTI" = +"OK"
 line 11 = call 1099511627775 2 "EXEC" = *[]
 line 12 = call 1099511627775 2 "SADD" "s" "a" = :1
-line 13 = call 1099511627775 2 "MULTI" = +"OK"
-line 14 = call 1099511627775 2 "SMEMBERS" "s" = +"QUEUED"
-line 15 = call 1099511627775 2 "EXEC" = *[*[$"a"]]
-line 16 = call 1099511627775 2 "BRPOP" "q" "1" = *-
-line 17 = call 1099511627775 3 "LPUSH" "celery" "{\"body\": \"W1syLCAyXSwge30sIHsiY2FsbGJhY2tzIjogbnVsbCwgImVycmJhY2tzIjogbnVsbCwgImNoYWluIjogbnVsbCwgImNob3JkIjogbnVsbH1d\", \"content-encoding\": \"utf-8\", \"content-type\": \"application/json\", \"headers\": {\"lang\": \"py\", \"task\": \"tasks.add\", \"id\": \"c1\"}, \"properties\": {\"correlation_id\": \"c1\", \"reply_to\": \"r1\", \"delivery_mode\": 2, \"delivery_info\": {\"exchange\": \"\", \"routing_key\": \"celery\"}, \"priority\": 0, \"body_encoding\": \"base64\", \"delivery_tag\": \"00000000-0000-0007-0000-000000000001\"}}" = :1
-line 18 = call 1099511627775 4 "BRPOP" "celery" "celery\x06\x163" "celery\x06\x166" "celery\x06\x169" "1" = *[$"celery", $"{\"body\": \"W1syLCAyXSwge30sIHsiY2FsbGJhY2tzIjogbnVsbCwgImVycmJhY2tzIjogbnVsbCwgImNoYWluIjogbnVsbCwgImNob3JkIjogbnVsbH1d\", \"content-encoding\": \"utf-8\", \"content-type\": \"application/json\", \"headers\": {\"lang\": \"py\", \"task\": \"tasks.add\", \"id\": \"c1\"}, \"properties\": {\"correlation_id\": \"c1\", \"reply_to\": \"r1\", \"delivery_mode\": 2, \"delivery_info\": {\"exchange\": \"\", \"routing_key\": \"celery\"}, \"priority\": 0, \"body_encoding\": \"base64\", \"delivery_tag\": \"00000000-0000-0007-0000-000000000001\"}}"]
-line 19 = heard 4 TOOK 7:1
-line 20 = heard 4 FINISHED 7:1 success "[5,\"\x0a\\]"
-line 21 = heard 4 FINISHED 7:1 failure "it\xe2 broke"
-line 22 = heard 4 FINISHED 7:1 retry 18446744073709551615
-line 23 = heard 3 EXPIRED 18446744073709551615:18446744073709551615 -9223372036854775808 9223372036854775807
-line 24 = heard 3 REVOKED 0:1
-line 25 = heard 3 REJECTED 9:0
-line 26 = heard 2 HELD 8:2 -1
-line 27 = heard 2 UNREADABLE
-line 28 = stop 1
-line 29 = stop 4
-line 30 = empty
-line 31 = none
+line 13 = call 1099511627775 2 "BRPOP" "q" "1" = *-
+line 14 = call 1099511627775 3 "LPUSH" "celery" "{\"body\": \"W1syLCAyXSwge30sIHsiY2FsbGJhY2tzIjogbnVsbCwgImVycmJhY2tzIjogbnVsbCwgImNoYWluIjogbnVsbCwgImNob3JkIjogbnVsbH1d\", \"content-encoding\": \"utf-8\", \"content-type\": \"application/json\", \"headers\": {\"lang\": \"py\", \"task\": \"tasks.add\", \"id\": \"c1\"}, \"properties\": {\"correlation_id\": \"c1\", \"reply_to\": \"r1\", \"delivery_mode\": 2, \"delivery_info\": {\"exchange\": \"\", \"routing_key\": \"celery\"}, \"priority\": 0, \"body_encoding\": \"base64\", \"delivery_tag\": \"00000000-0000-0007-0000-000000000001\"}}" = :1
+line 15 = call 1099511627775 4 "BRPOP" "celery" "celery\x06\x163" "celery\x06\x166" "celery\x06\x169" "1" = *[$"celery", $"{\"body\": \"W1syLCAyXSwge30sIHsiY2FsbGJhY2tzIjogbnVsbCwgImVycmJhY2tzIjogbnVsbCwgImNoYWluIjogbnVsbCwgImNob3JkIjogbnVsbH1d\", \"content-encoding\": \"utf-8\", \"content-type\": \"application/json\", \"headers\": {\"lang\": \"py\", \"task\": \"tasks.add\", \"id\": \"c1\"}, \"properties\": {\"correlation_id\": \"c1\", \"reply_to\": \"r1\", \"delivery_mode\": 2, \"delivery_info\": {\"exchange\": \"\", \"routing_key\": \"celery\"}, \"priority\": 0, \"body_encoding\": \"base64\", \"delivery_tag\": \"00000000-0000-0007-0000-000000000001\"}}"]
+line 16 = heard 4 TOOK 7:1
+line 17 = heard 4 FINISHED 7:1 success "[5,\"\x0a\\]"
+line 18 = heard 4 FINISHED 7:1 failure "it\xe2 broke"
+line 19 = heard 4 FINISHED 7:1 retry 18446744073709551615
+line 20 = heard 3 EXPIRED 18446744073709551615:18446744073709551615 -9223372036854775808 9223372036854775807
+line 21 = heard 3 REVOKED 0:1
+line 22 = heard 3 REJECTED 9:0
+line 23 = heard 2 HELD 8:2 -1
+line 24 = heard 2 UNREADABLE
+line 25 = stop 1
+line 26 = stop 4
+line 27 = empty
+line 28 = none
 
 == Without an entry it has the clients alone.
 line 0 = celery-record 1
