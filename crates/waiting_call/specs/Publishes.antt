@@ -1,10 +1,8 @@
 -- How a run of `publish` ends.
-use Rattle.std.specs.Prelude.{List, Some, None, [], codes, decimal, true, false, ℕ, ◌++◌, ◌∷◌, ◌≡◌, ◌≤◌, ◌⊎◌, Contains}
-use Rattle.std.specs.Io.KnownBytes.{Appends}
+use Rattle.std.specs.Prelude.{List, Some, None, [], codes, decimal, true, false, ℕ, ◌++◌, ◌≡◌, ◌⊎◌}
 use Rattle.wire_values.specs.declared.value.Value.{Value}
 use Rattle.line_text.specs.Reason.{reason_text}
 use Rattle.line_text.specs.Short.{short_value}
-use Rattle.links.specs.Causes.{AppendsFront, Rose}
 use Rattle.links.specs.Views.{SinkView, SourceView}
 use Rattle.publish_run.specs.PublishRuns.{HasPublishedRun, NetShows}
 use Rattle.publish_run.specs.declared.ending.PublishingEnd.{PublishingEnd}
