@@ -1,7 +1,7 @@
--- The words of the command line: `serve`, an address, and options in any order, each at most once with its value.
+-- The words of the command line: the name of a program that waits for others, an address, and the program's options in any order, each at most once with its value.
 use Rattle.std.specs.List.{list_any}
 use Rattle.std.specs.Option.{is_some}
-use Rattle.std.specs.Prelude.{Bool, List, None, Option, Some, [], bytes_eq, codes, false, if◌then◌else◌, length, nat_eq, nat_le, not, true, unwrap_or, ℕ, ◌&&◌, ◌++◌, ◌||◌, ◌∷◌}
+use Rattle.std.specs.Prelude.{Bool, List, None, Option, Some, [], bytes_eq, codes, false, if◌then◌else◌, length, nat_eq, nat_le, not, true, unwrap_or, ℕ, ◌&&◌, ◌++◌, ◌^◌, ◌||◌, ◌∷◌}
 use Rattle.line_text.specs.Numbers.{number_in}
 
 -- the most connections that are served
@@ -11,6 +11,10 @@ connection_limit = 4095
 -- the most turns of a session, and how many it has where nothing is said of them
 abbrev pub turn_limit : ℕ
 turn_limit = 1000000
+
+-- the greatest seed of a publisher
+abbrev pub seed_limit : ℕ
+seed_limit = 2 ^ 62
 
 -- whether a minus stands before the others
 abbrev pub is_dashed : List ℕ → Bool
@@ -27,31 +31,54 @@ is_connections word = bytes_eq word (codes "--connections")
 abbrev pub is_turns : List ℕ → Bool
 is_turns word = bytes_eq word (codes "--turns")
 
+abbrev pub is_seed : List ℕ → Bool
+is_seed word = bytes_eq word (codes "--seed")
+
+-- whether a word names the program that publishes
+abbrev pub is_publish : List ℕ → Bool
+is_publish word = bytes_eq word (codes "publish")
+
+-- whether a word names a program that waits for others
+abbrev pub is_program : List ℕ → Bool
+is_program word = bytes_eq word (codes "serve") || is_publish word
+
+-- whether a word is an option of the program of this name
+abbrev pub is_option : List ℕ → List ℕ → Bool
+is_option name word = if is_publish name then is_seed word else is_connections word || is_turns word
+
+-- the greatest value of an option
+abbrev pub value_limit : List ℕ → ℕ
+value_limit option = if is_connections option then connection_limit else if is_seed option then seed_limit else turn_limit
+
 -- whether a word can be the value of this option: a number from 1 on, within the option's limit
 abbrev pub is_value : List ℕ → List ℕ → Bool
-is_value option word = if is_connections option then is_some (number_in 1 connection_limit word) else is_some (number_in 1 turn_limit word)
+is_value option word = is_some (number_in 1 (value_limit option) word)
 
--- whether a word is the option that isn't this one
+-- whether a word is the other option beside this one; there is none beside a seed
 abbrev pub is_other : List ℕ → List ℕ → Bool
-is_other option word = if is_connections option then is_turns word else is_connections word
+is_other option word = if is_connections option then is_turns word else not (is_seed option) && is_connections word
 
 -- whether a word can stand next after these, each of which can stand after those before it
 abbrev pub can_stand : List (List ℕ) → List ℕ → Bool
-can_stand [] word = bytes_eq word (codes "serve")
+can_stand [] word = is_program word
 can_stand (name ∷ []) word = is_address word
-can_stand (name ∷ address ∷ []) word = is_connections word || is_turns word
+can_stand (name ∷ address ∷ []) word = is_option name word
 can_stand (name ∷ address ∷ option ∷ []) word = is_value option word
 can_stand (name ∷ address ∷ option ∷ value ∷ []) word = is_other option word
 can_stand (name ∷ address ∷ option ∷ value ∷ other ∷ []) word = is_value other word
 can_stand (name ∷ address ∷ option ∷ value ∷ other ∷ last ∷ more) word = false
 
--- whether such words can end so: connections have to be among them, turns don't
+-- whether an option has to stand there
+abbrev pub is_needed : List ℕ → Bool
+is_needed option = is_connections option || is_seed option
+
+-- whether such words can end so: connections, or a seed, have to be among them, turns don't
 abbrev pub can_end : List (List ℕ) → Bool
 can_end [] = false
 can_end (name ∷ []) = false
 can_end (name ∷ address ∷ []) = false
 can_end (name ∷ address ∷ option ∷ []) = false
-can_end (name ∷ address ∷ option ∷ value ∷ []) = is_connections option
+can_end (name ∷ address ∷ option ∷ value ∷ []) = is_needed option
 can_end (name ∷ address ∷ option ∷ value ∷ other ∷ []) = false
 can_end (name ∷ address ∷ option ∷ value ∷ other ∷ last ∷ more) = true
 
@@ -91,3 +118,12 @@ connections_in words = unwrap_or (number_in 1 connection_limit (value_of (codes 
 -- how many turns lawful words give each session
 abbrev pub turns_in : List (List ℕ) → ℕ
 turns_in words = unwrap_or (number_in 1 turn_limit (value_of (codes "--turns") words)) turn_limit
+
+-- the seed that lawful words give a publisher
+abbrev pub seed_in : List (List ℕ) → ℕ
+seed_in words = unwrap_or (number_in 1 seed_limit (value_of (codes "--seed") words)) 0
+
+-- whether the first word names the program that publishes
+abbrev pub names_publish : List (List ℕ) → Bool
+names_publish [] = false
+names_publish (name ∷ words) = is_publish name

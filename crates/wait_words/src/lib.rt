@@ -3,4 +3,7 @@
 
 mod words;
 
-pub use words::{CONNECTION_LIMIT, TURN_LIMIT, address_in, bad_word, connections_in, turns_in};
+pub use words::{
+    CONNECTION_LIMIT, SEED_LIMIT, TURN_LIMIT, address_in, bad_word, connections_in, names_publish,
+    seed_in, turns_in,
+};

@@ -1,6 +1,6 @@
-//! The words of `serve`.
+//! The words of `serve` and of `publish`.
 ghost use Rattle.std.specs.Prelude.{map, ◌≡◌};
-ghost use Rattle.wait_words.specs.Words.{address_in, bad_wait_place, can_end, can_stand, connections_in, is_address, is_dashed, is_other, is_value, second_value, turns_in, value_of};
+ghost use Rattle.wait_words.specs.Words.{address_in, bad_wait_place, can_end, can_stand, connections_in, is_address, is_dashed, is_needed, is_option, is_other, is_program, is_value, names_publish, second_value, seed_in, turns_in, value_limit, value_of};
 
 use line_text::number_in;
 
@@ -10,13 +10,17 @@ pub const CONNECTION_LIMIT: u64 = 4_095;
 /// The most turns that a session may be told to have, and as many as it has where nothing is said of them.
 pub const TURN_LIMIT: u64 = 1_000_000;
 
+/// The greatest seed that a publisher may be told to have.
+pub const SEED_LIMIT: u64 = 1 << 62;
+
 /// The most bytes of a word.
 const WORD_LIMIT: usize = 65_536;
 
 /// The place of the first bad word, counted from 0, or the count of words where one is missing.
 ///
-/// The words are `serve`, an address, and options in any order, each at most once with its value: `--connections` with a
-/// number of 1 to 4,095, which has to stand there, and `--turns` with a number of 1 to 1,000,000.
+/// The words are the name of a program, an address, and options in any order, each at most once with its value. Those of
+/// `serve` are `--connections` with a number of 1 to 4,095, which has to stand there, and `--turns` with a number of 1 to
+/// 1,000,000; that of `publish` is `--seed` with a number of 1 to 2^62, which has to stand there.
 pub fn bad_word(words: &[&str]) -> Option<u64>
     ensures { result ≡ bad_wait_place (map (λ w. w.now) words.now) }
 {
@@ -37,9 +41,9 @@ fn can_stand(before: &[&str], word: &str) -> bool
     ensures { result ≡ can_stand (map (λ w. w.now) before.now) word.now }
 {
     match before {
-        [] => word == "serve",
+        [] => is_program(word),
         [_] => is_address(word.as_bytes()),
-        [_, _] => word == "--connections" || word == "--turns",
+        [name, _] => is_option(name, word),
         [_, _, option] => is_value(option, word),
         [_, _, option, _] => is_other(option, word),
         [_, _, _, _, option] => is_value(option, word),
@@ -56,10 +60,17 @@ fn can_end(words: &[&str]) -> bool
         [_] => false,
         [_, _] => false,
         [_, _, _] => false,
-        [_, _, option, _] => *option == "--connections",
+        [_, _, option, _] => is_needed(option),
         [_, _, _, _, _] => false,
         [_, _, _, _, _, _, ..] => true,
     }
+}
+
+/// Whether an option has to stand there.
+fn is_needed(option: &str) -> bool
+    ensures { result ≡ is_needed option.now }
+{
+    option == "--connections" || option == "--seed"
 }
 
 /// Whether a word can be an address: at most 65,536 bytes, no `-` before the others and no `=` among them.
@@ -79,25 +90,52 @@ fn is_dashed(word: &[u8]) -> bool
     }
 }
 
+/// Whether a word names a program that waits for others.
+fn is_program(word: &str) -> bool
+    ensures { result ≡ is_program word.now }
+{
+    word == "serve" || word == "publish"
+}
+
+/// Whether a word is an option of the program of this name.
+fn is_option(name: &str, word: &str) -> bool
+    ensures { result ≡ is_option name.now word.now }
+{
+    if name == "publish" {
+        word == "--seed"
+    } else {
+        word == "--connections" || word == "--turns"
+    }
+}
+
+/// The greatest value of an option.
+fn value_limit(option: &str) -> u64
+    ensures { result ≡ value_limit option.now }
+{
+    if option == "--connections" {
+        CONNECTION_LIMIT
+    } else if option == "--seed" {
+        SEED_LIMIT
+    } else {
+        TURN_LIMIT
+    }
+}
+
 /// Whether a word can be the value of this option.
 fn is_value(option: &str, word: &str) -> bool
     ensures { result ≡ is_value option.now word.now }
 {
-    if option == "--connections" {
-        number_in(1, CONNECTION_LIMIT, word).is_some()
-    } else {
-        number_in(1, TURN_LIMIT, word).is_some()
-    }
+    number_in(1, value_limit(option), word).is_some()
 }
 
-/// Whether a word is the other option.
+/// Whether a word is the other option beside this one; there is none beside a seed.
 fn is_other(option: &str, word: &str) -> bool
     ensures { result ≡ is_other option.now word.now }
 {
     if option == "--connections" {
         word == "--turns"
     } else {
-        word == "--connections"
+        option != "--seed" && word == "--connections"
     }
 }
 
@@ -154,4 +192,21 @@ pub fn turns_in(words: &[&str]) -> u64
     ensures { result ≡ turns_in (map (λ w. w.now) words.now) }
 {
     number_in(1, TURN_LIMIT, value_of("--turns", words)).unwrap_or(TURN_LIMIT)
+}
+
+/// The seed that lawful words give a publisher.
+pub fn seed_in(words: &[&str]) -> u64
+    ensures { result ≡ seed_in (map (λ w. w.now) words.now) }
+{
+    number_in(1, SEED_LIMIT, value_of("--seed", words)).unwrap_or(0)
+}
+
+/// Whether the first word names the program that publishes.
+pub fn names_publish(words: &[&str]) -> bool
+    ensures { result ≡ names_publish (map (λ w. w.now) words.now) }
+{
+    match words {
+        [] => false,
+        [name, ..] => *name == "publish",
+    }
 }

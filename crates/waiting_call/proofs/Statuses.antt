@@ -1,22 +1,20 @@
 -- What each status of a run says.
-use Rattle.std.proofs.Common.{Contains, List, None, Option, Some, [], ap, append-nil, append_assoc, arith, false, inl, inr, length, length-append, lit<, refl, subst, sym, ℕ, ◌+◌, ◌++◌, ◌≡◌, ◌∙◌, ◌∷◌, ◌≤◌, ◌⊎◌}
+use Rattle.std.proofs.Common.{List, None, Option, Some, [], ap, append-nil, append_assoc, arith, false, inl, inr, length, length-append, lit<, refl, subst, sym, ℕ, ◌+◌, ◌++◌, ◌≡◌, ◌∙◌, ◌≤◌}
 use Rattle.std.proofs.lemmas.Option.{none-some}
 use Rattle.std.specs.Io.KnownBytes.{Appends}
 use Rattle.links.specs.Causes.{AppendsFront, Rose}
 use Rattle.links.specs.Views.{SinkView}
 use Rattle.store_model.specs.Store.{StoreView, empty_state}
 use Rattle.sessions.specs.declared.conversing.SessionEnd.{SessionEnd}
-use Rattle.store_server.specs.Servings.{HasServedAll}
-use Rattle.serve_run.specs.Endings.{end_after}
 use Rattle.serve_run.specs.Lines.{session_lines}
 use Rattle.serve_run.specs.NetViews.{NetView}
-use Rattle.serve_run.specs.ServeRuns.{HasServedOn, IsServingEnd, TellsCut}
+use Rattle.serve_run.specs.ServeRuns.{HasServedOn}
 use Rattle.serve_run.specs.declared.ending.ServingEnd.{ServingEnd}
 use Rattle.serve_run.specs.declared.ending.ServingEnd.TheVariants.{Net, Served, WriteFault}
 use Rattle.serve_run.specs.declared.ending.ServingEnd.TheVariants as serving
 use Rattle.top_call.specs.declared.ending.Ended.{Ended}
-use Rattle.waiting_call.specs.Endings.{IsWaitTold, TellsEnd, TellsIf, WritesEnd, wait_ended, wait_text, waited_by}
-use Rattle.waiting_call.specs.Servings.{HasRefused, HasServedWords, HasWaited}
+use Rattle.waiting_call.specs.Endings.{TellsEnd, TellsIf, WritesEnd, wait_text, waited_by}
+use Rattle.waiting_call.specs.Servings.{HasWaited}
 use Rattle.waiting_call.specs.Statuses.{HasServedAsked, IsBadWaitWord, IsFullHistory, IsLinkFault, IsNextText, IsServed, IsWaitMemory, IsWaitWriteFault, IsWaitingEnd}
 use Rattle.wait_words.specs.Words.{bad_wait_place, connections_in, turns_in}
 use Rattle.waiting_call.specs.declared.ending.WaitEnd.TheVariants.{BadWord, Done, Full, LinkFault, Memory}

@@ -1,4 +1,5 @@
 pub mod Endings
 pub mod Processes
+pub mod Publishes
 pub mod Servings
 pub mod Statuses

@@ -4,6 +4,7 @@
 mod ending;
 mod node;
 mod process;
+mod publishing;
 
 pub use node::run_wait;
 pub use process::answer;

@@ -1,7 +1,7 @@
 //! A process' run: its words, its streams, its net and its status.
 ghost use Rattle.std.specs.Prelude.{List, map, ℕ, ◌≡◌, ◌⊎◌};
 ghost use Rattle.links.specs.Views.{sink_view, source_view};
-ghost use Rattle.serve_run.specs.NetViews.{net_view};
+ghost use Rattle.publish_run.specs.PublishRuns.{net_shows};
 ghost use Rattle.top_call.specs.Endings.{Written};
 ghost use Rattle.top_call.specs.declared.ending.End.TheVariants.{Memory};
 ghost use Rattle.waiting_call.specs.Processes.{HasAnsweredWords, names_run};
@@ -27,10 +27,10 @@ pub fn answer<R: Env, S: Source, K: Sink, N: Net, C: Clock>(
     // No contract says which words the system hands over.
     ensures ended { ((words : List (List ℕ)) × HasAnsweredWords (C.gives clock.now) words
         (source_view S.left S.read_faults S.ends src.old) (source_view S.left S.read_faults S.ends src.new)
-        (net_view N.closed N.faults net.old) (net_view N.closed N.faults net.new)
+        (net_shows N.closed N.faults N.closed_faults net.old) (net_shows N.closed N.faults N.closed_faults net.new)
         (sink_view K.taken K.write_faults out.old) (sink_view K.taken K.write_faults out.new) result)
         ⊎ ((source_view S.left S.read_faults S.ends src.new ≡ source_view S.left S.read_faults S.ends src.old)
-        × (net_view N.closed N.faults net.new ≡ net_view N.closed N.faults net.old)
+        × (net_shows N.closed N.faults N.closed_faults net.new ≡ net_shows N.closed N.faults N.closed_faults net.old)
         × Written (sink_view K.taken K.write_faults out.old) (sink_view K.taken K.write_faults out.new) Memory result) }
 {
     let Ok(texts) = read_words(rt, alloc) else {
@@ -53,7 +53,7 @@ fn run_named<S: Source, K: Sink, N: Net, C: Clock>(
 ) -> Ended
     ensures ended { HasAnsweredWords (C.gives clock.now) (map (λ w. w.now) words.now)
         (source_view S.left S.read_faults S.ends src.old) (source_view S.left S.read_faults S.ends src.new)
-        (net_view N.closed N.faults net.old) (net_view N.closed N.faults net.new)
+        (net_shows N.closed N.faults N.closed_faults net.old) (net_shows N.closed N.faults N.closed_faults net.new)
         (sink_view K.taken K.write_faults out.old) (sink_view K.taken K.write_faults out.new) result }
 {
     if names_run(words) {

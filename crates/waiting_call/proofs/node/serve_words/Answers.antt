@@ -2,7 +2,7 @@ use Rattle.std.proofs.Common.{map, subst, sym, ℕ, ◌∙◌}
 use Rattle.links.specs.Views.{sink_view}
 use Rattle.serve_run.specs.NetViews.{net_view}
 use Rattle.serve_run.specs.ServeRuns.{HasServedRun}
-use Rattle.wait_words.specs.Words.{connections_in, turns_in}
+use Rattle.wait_words.specs.Words.{connections_in}
 use Rattle.waiting_call.proofs.Statuses.{told_none, told_some}
 use Rattle.waiting_call.proofs.node.serve_words.Goals as goal
 
