@@ -52,7 +52,11 @@ def by_celery(port, count):
     """Seconds of Celery's apply_async."""
     app = celery.Celery("bench", broker="redis://127.0.0.1:%d/0" % port)
     app.conf.task_ignore_result = True
-    add = app.task(name="tasks.add")(lambda a, b: a + b)
+
+    @app.task(name="tasks.add")
+    def add(a, b):
+        return a + b
+
     with app.pool.acquire(block=True):
         add.apply_async((2, 3), queue="bench")
         begun = time.perf_counter()
