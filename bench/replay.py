@@ -63,6 +63,17 @@ def returned(count):
         yield "run 2"
 
 
+def exchanged(count):
+    """Messages published to two queues by a named exchange, whose bindings are read for each."""
+    yield from HEADER
+    for queue in ("celery", "copies"):
+        yield f"begin 1 declare news hot - {queue}"
+        yield "run 1"
+    for number in range(count):
+        yield f"begin 1 publish news hot 0 tasks.add [{number},1]"
+        yield "run 1"
+
+
 def polled(count):
     """Pops of a queue that has nothing."""
     yield "celery-schedule 1"
@@ -85,6 +96,8 @@ RUNS = [
     ("worked 10000", lambda: worked(10_000), 100_000, 0, totals(0, 10_000)),
     ("returned 1000", lambda: returned(1_000), 22_800, 0, totals(0, 1_000)),
     ("returned 10000", lambda: returned(10_000), 228_000, 0, totals(0, 10_000)),
+    ("exchanged 1000", lambda: exchanged(1_000), 3_002, 0, totals(0, 0).replace("copies 0", "copies 1000")),
+    ("exchanged 10000", lambda: exchanged(10_000), 30_002, 0, totals(0, 0).replace("copies 0", "copies 10000")),
     ("polled", lambda: polled(1_000_001), 1_000_000, 9, "history full 1000000 83000000"),
 ]
 

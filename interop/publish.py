@@ -4,7 +4,7 @@
 Run by hand, after ./celery_node build: /usr/bin/python3 interop/publish.py [--program PATH]
 It needs Debian's redis-server, python3-redis and python3-celery, starts a server on a free port of the loopback and a
 worker beside it, and ends both by their processes. It shows: priorities in their order; a task that waits for its eta; one
-that expired; an exchange that Kombu bound and our lookup finds; one that we declared and Kombu sends by; what Kombu keeps
+that expired; an exchange that Kombu bound and our lookup finds; one that we declared and Kombu sends by; a topic exchange of ours; what Kombu keeps
 of a topic exchange, which our lookup doesn't read; and what is written where the store refuses a command.
 """
 
@@ -114,9 +114,11 @@ def main():
             lines += ["expires 2020-01-01T00:00:00Z", "publish - celery 0 tasks.seen [\"expired\"]"]
             lines += ["publish bydirect key 0 tasks.seen [\"bound by Kombu\"]"]
             lines += ["declare ours key - declared", "publish ours key 0 tasks.seen [\"declared by us\"]"]
+            lines += ["declare topics - a.*.# patterned", "publish topics a.b 0 tasks.seen [\"topic of ours\"]"]
+            lines += ["publish topics a 0 tasks.seen [\"too short a key\"]"]
             lines += ["publish nowhere key 0 tasks.seen [\"no binding\"]", "publish bytopic a.b 0 tasks.seen [\"topic\"]"]
             status, text = published(args.program, server.port, 7, lines)
-            wanted = "".join("published 7:%d\n" % n for n in range(1, 9)) + "no queue 7:9\nno queue 7:10\n"
+            wanted = "".join("published 7:%d\n" % n for n in range(1, 10)) + "no queue 7:10\nno queue 7:11\nno queue 7:12\n"
             check("publish", (status, text) == (0, wanted), "status %d, wrote %r" % (status, text))
             print("    Kombu's direct binding, as it stands:", sorted(client.smembers("_kombu.binding.bydirect")))
             print("    ours:", sorted(client.smembers("_kombu.binding.ours")))
@@ -129,8 +131,8 @@ def main():
                                           "group": None, "argsrepr": "", "kwargsrepr": "{}", "origin": "kombu"}, declare=[])
             check("Kombu sends by the exchange that we declared", client.llen("declared") == 2, "%d messages in its queue" % client.llen("declared"))
             print("    an envelope as it stands:", body.decode("ascii")[:160], "...")
-        with Worker(broker, ["celery", "bound", "declared"]) as worker:
-            rows = waited(client, 8, 40)
+        with Worker(broker, ["celery", "bound", "declared", "patterned"]) as worker:
+            rows = waited(client, 9, 40)
             told = [row[1] for row in rows]
             order = [row for row in told if row.startswith("priority")]
             check("priorities", order == ["priority 0", "priority 3", "priority 6", "priority 9"], ", ".join(order))
@@ -138,7 +140,7 @@ def main():
             check("eta", len(at) == 1 and at[0] >= later.timestamp(), "ran %s" % ["%.3f s after its eta" % (a - later.timestamp()) for a in at])
             expired = worker.lines("Discarding revoked task")
             check("expires", "expired" not in told and expired, expired[0] if expired else "not told in the worker's log")
-            for name in ("bound by Kombu", "declared by us", "by Kombu over our exchange"):
+            for name in ("bound by Kombu", "declared by us", "topic of ours", "by Kombu over our exchange"):
                 check(name, told.count(name) == 1, "ran %d times" % told.count(name))
             for line in worker.lines("ERROR"):
                 print("    the worker's log:", line[:200])

@@ -91,6 +91,13 @@ def watched(client, disturbed):
             return "WatchError"
 
 
+def discarded(client):
+    """A transaction that is given up, and what its command left: nothing."""
+    with client.client() as one:
+        told = [one.execute_command(*words) for words in (["MULTI"], ["SET", "pd", "y"], ["DISCARD"])]
+    return told, client.get("pd")
+
+
 def subscribed(client):
     """What a subscriber is told."""
     channels = client.pubsub()
@@ -119,7 +126,7 @@ CALLS = [
     ("ZREVRANGEBYSCORE", lambda it: it.zrevrangebyscore("z", 10, 0, start=0, num=10)),
     ("ZREM", lambda it: it.zrem("z", "m", "none")),
     ("MULTI and EXEC", in_transaction), ("WATCH", lambda it: watched(it, False)),
-    ("WATCH, altered", lambda it: watched(it, True)), ("UNWATCH", lambda it: it.execute_command("UNWATCH")),
+    ("WATCH, altered", lambda it: watched(it, True)), ("MULTI and DISCARD", discarded), ("UNWATCH", lambda it: it.execute_command("UNWATCH")),
     ("PUBLISH", lambda it: it.publish("c", "m")), ("SUBSCRIBE and UNSUBSCRIBE", subscribed),
     ("WRONGTYPE", lambda it: it.get("l")),
 ]
