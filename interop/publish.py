@@ -4,8 +4,9 @@
 Run by hand, after ./celery_node build: /usr/bin/python3 interop/publish.py [--program PATH]
 It needs Debian's redis-server, python3-redis and python3-celery, starts a server on a free port of the loopback and a
 worker beside it, and ends both by their processes. It shows: priorities in their order; a task that waits for its eta; one
-that expired; an exchange that Kombu bound and our lookup finds; one that we declared and Kombu sends by; a topic exchange of ours; what Kombu keeps
-of a topic exchange, which our lookup doesn't read; and what is written where the store refuses a command.
+that expired; an exchange that Kombu bound and our lookup finds; one that we declared and Kombu sends by; a topic exchange
+of ours; what Kombu keeps of a topic exchange, which our lookup doesn't read; and what is written where the store refuses a
+command.
 """
 
 import argparse
