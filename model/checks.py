@@ -12,6 +12,7 @@ from manners import Client
 from replies import NULL_BULK, Problem, Simple, bulks
 from reports import report
 from schedules import COST_LIMIT, DECIMAL, ENTRY_LIMIT, MOMENT_LIMIT, Bad, Entry, Full, needs
+from short_forms import quoted
 from store import Store
 
 INPUT_LIMIT = 67_108_864
@@ -20,7 +21,21 @@ BULK_LIMIT, WORDS_LIMIT, VALUE_LIMIT, DEPTH_LIMIT = 1_048_576, 4096, 8_388_608, 
 PLAIN = re.compile(rb'"((?:[\x20\x21\x23-\x5b\x5d-\x7e]|\\["\\]|\\x[0-9a-f]{2})*)"')
 ESCAPE = re.compile(rb'\\(["\\]|x[0-9a-f]{2})')
 INTEGER = re.compile(rb"0|-?[1-9][0-9]*")
+WORD = re.compile(rb"[A-Za-z]+")
+# Each note with what stands after its name.
+NOTES = {
+    "TOOK": ("tag",), "FINISHED": ("tag", "outcome"), "EXPIRED": ("tag", "integer", "integer"), "REVOKED": ("tag",),
+    "REJECTED": ("tag",), "HELD": ("tag", "integer"), "UNREADABLE": (),
+}
 sys.set_int_max_str_digits(0)
+
+
+class Note(Entry):
+    """What a client noted, with its text in a report."""
+
+    def __init__(self, conn, note):
+        super().__init__(conn)
+        self.note = note
 
 
 class Text:
@@ -68,9 +83,7 @@ class Text:
                 return made(self.quoted())
         if self.is_at(b":"):
             self.skip(b":")
-            number = int(self.pattern(INTEGER))
-            needs(-(2**63) <= number < 2**63, "syntax")
-            return number
+            return self.integer()
         self.skip(b"*[")
         items = []
         while not self.is_at(b"]"):
@@ -79,6 +92,36 @@ class Text:
             items.append(self.value(depth + 1))
         self.skip(b"]")
         return items
+
+    def integer(self):
+        number = int(self.pattern(INTEGER))
+        needs(-(2**63) <= number < 2**63, "syntax")
+        return number
+
+    def tag(self):
+        seed = self.number(2**64)
+        self.skip(b":")
+        return "%d:%d" % (seed, self.number(2**64))
+
+    def note(self):
+        """A note, as a report shows it."""
+        name = self.pattern(WORD).decode()
+        needs(name in NOTES, "syntax")
+        shown = [name]
+        for part in NOTES[name]:
+            self.skip(b" ")
+            shown.append(str(getattr(self, part)()))
+        return " ".join(shown)
+
+    def outcome(self):
+        """How a task ended; a success text is shown as it is."""
+        name = self.pattern(WORD).decode()
+        needs(name in ("success", "failure", "retry"), "syntax")
+        self.skip(b" ")
+        if name == "retry":
+            return "retry %d" % self.number(2**64)
+        text = self.quoted()
+        return "%s %s" % (name, text.decode("latin-1") if name == "success" else quoted(text))
 
     def ends(self):
         needs(self.place == len(self.line), "syntax")
@@ -113,6 +156,8 @@ class Judged:
             self.client(text)
         elif text.is_at(b"stop "):
             self.stop(text)
+        elif text.is_at(b"heard "):
+            self.heard(text)
         else:
             self.call(text)
 
@@ -143,6 +188,17 @@ class Judged:
         self.store.gone(conn)
         self.stopped.add(conn)
         self.entries.append(Entry(conn))
+        self.cost += 64
+
+    def heard(self, text):
+        text.skip(b"heard ")
+        conn = text.number(2**32)
+        text.skip(b" ")
+        note = text.note()
+        text.ends()
+        self.going(conn)
+        self.room()
+        self.entries.append(Note(conn, note))
         self.cost += 64
 
     def call(self, text):

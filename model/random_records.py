@@ -28,6 +28,10 @@ WORDS = [b"celery", b"MULTI", b"EXEC", b"unacked", b"unacked_index", b"WATCH", b
 VALUES = [b"+\"OK\"", b"+\"QUEUED\"", b"$-", b"*-", b":0", b":1", b":2", b"*[]", b"*[:1, :1]", b"*[:0, :0]", b"-\"ERR syntax\"", b"$\"x\"",
           b"*[$\"celery\", $\"x\"]", b"*[" * 64 + b":1" + b"]" * 64, b"*[" * 66 + b":1" + b"]" * 66]
 
+NOTES = [b"TOOK 1:2", b"TOOK 1", b"FINISHED 1:2 success \"{\\\"a\\\":1}\"", b"FINISHED 1:2 success 5", b"FINISHED 7:1 failure \"\\xff\"",
+         b"FINISHED 7:1 retry 5", b"EXPIRED 7:1 -5 6", b"EXPIRED 7:1 5", b"REVOKED 7:1", b"REJECTED 18446744073709551615:0", b"HELD 7:1 -1",
+         b"HELD 7:18446744073709551616 1", b"UNREADABLE", b"UNREADABLE 1", b"FINISHED 7:1 success \"\\xc3\\xa9\""]
+
 
 class Mutator:
     """Alters a record's lines."""
@@ -38,7 +42,7 @@ class Mutator:
     def altered(self, lines):
         """The lines with up to two alterations; in one of five records none."""
         for _ in range(self.random.choice((0, 1, 1, 1, 2))):
-            way = self.random.choice((self.drop, self.double, self.swap, self.reply, self.reply, self.word, self.moment, self.client, self.bytes))
+            way = self.random.choice((self.drop, self.double, self.swap, self.reply, self.reply, self.word, self.moment, self.client, self.bytes, self.note))
             way(lines)
         return lines
 
@@ -88,6 +92,10 @@ class Mutator:
         if len(words) > which:
             words[which] = self.random.choice((b"1", b"2", b"3", b"4096", b"4097", b"4294967295", b"4294967296", b"01"))
         lines[at] = b" ".join(words)
+
+    def note(self, lines):
+        at = self.random.randrange(1, len(lines) + 1)
+        lines.insert(at, b"heard %d %b" % (self.random.choice((1, 1, 2, 3, 9)), self.random.choice(NOTES)))
 
     def bytes(self, lines):
         at = self.place(lines)

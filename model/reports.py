@@ -21,6 +21,8 @@ class Seen:
 
     def add(self, entry):
         conn, words, answer = entry.conn, entry.words, entry.answer
+        if hasattr(entry, "note"):
+            return
         if words is None:
             self.stopped.add(conn)
             self.since.pop(conn, None)
@@ -113,6 +115,8 @@ def places(world):
 
 def row(number, entry):
     """The line of an entry."""
+    if hasattr(entry, "note"):
+        return "%d - %d %s" % (number, entry.conn, entry.note)
     if entry.words is None:
         return "%d - %d STOP" % (number, entry.conn)
     values = " ; ".join(map(short_reply, [*entry.pushed, entry.answer]))
@@ -125,4 +129,4 @@ def report(world):
     rows += ["place %d:%d %s" % (*tag, place) for tag, place in found]
     kinds = [place.split()[0] for _, place in found]
     rows.append("total " + " ".join("%s %d" % (kind, kinds.count(kind)) for kind in PLACES))
-    return "\n".join(rows).encode() + b"\n"
+    return "\n".join(rows).encode("latin-1") + b"\n"
