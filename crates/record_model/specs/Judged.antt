@@ -39,10 +39,10 @@ pub data Judgement : Type 0 where
   Too_full : ℕ → ℕ → Judgement
 
 -- what is judged where line n leads there, and the lines after it go on from the history that it gave
-pub data CarriesOn (goes : History Heard → Judgement → Type 0) (n : ℕ) : RowStep → Judgement → Type 0 where
-  On : (h : History Heard) (j : Judgement) → goes h j → CarriesOn goes n (Grown h) j
-  Ends_full : (h : History Heard) → CarriesOn goes n (Crowded h) (Too_full (length h.entries) (total_cost h.entries))
-  Ends_bad : (r : Reason) → CarriesOn goes n (Faulted r) (Bad_row n r)
+abbrev pub CarriesOn : (History Heard → Judgement → Type 0) → ℕ → RowStep → Judgement → Type 0
+CarriesOn goes n (Grown h) j = goes h j
+CarriesOn goes n (Crowded h) j = j ≡ Too_full (length h.entries) (total_cost h.entries)
+CarriesOn goes n (Faulted r) j = j ≡ Bad_row n r
 
 -- the last line: where the input goes on past its limit, that line holds the first byte past it
 abbrev pub LastLeads : Manner → Bool → History Heard → Bytes → RowStep → Type 0
