@@ -1,5 +1,0 @@
-pub mod Rows
-pub mod Kept
-pub mod Texts
-pub mod Led
-pub mod Once
