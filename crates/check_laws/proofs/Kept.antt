@@ -149,15 +149,17 @@ client_holds μ cs es c s h e =
     let two = passes (has_number c cs || has_seed s cs, Repeated) [] one.1 in
     let first = or_false (has_entry es) (is_below c cs) one.0 in
     let second = or_false (has_number c cs) (has_seed s cs) two.0 in
-    let t = table_with c s cs h.table second.0 second.1 in
-    (nothing_yet es first.0, record {
-      table = t;
-      rising = rise_more c s cs h.rising first.1 second.0;
-      legal = tt;
-      known = λ k q among. record { client = new_client q; known = there k q (cs ++ (c, s) ∷ []) t.connections_differ among; stopped = refl };
-      mannered = λ k q among. refl;
-      timely = λ k. tt;
-    })
+    let t = table_with c s cs h.table second.0 second.1 in (
+      nothing_yet es first.0,
+      record {
+        table = t;
+        rising = rise_more c s cs h.rising first.1 second.0;
+        legal = tt;
+        known = λ k q among. record { client = new_client q; known = there k q (cs ++ (c, s) ∷ []) t.connections_differ among; stopped = refl };
+        mannered = λ k q among. refl;
+        timely = λ k. tt;
+      },
+    )
 
 -- ---- an entry more
 
