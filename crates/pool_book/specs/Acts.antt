@@ -97,6 +97,6 @@ turn_desk_fault Closed = desk.Closed
 turn_desk_fault Memory = desk.Memory
 
 -- an answer, with no fault before and after; or the first fault is shown
-abbrev pub HasAsked : {T : Type 0} → Option DeskFault → Option DeskFault → Result T TurnFault → Type 0
-HasAsked fault fault2 (Ok x) = (fault ≡ None) × (fault2 ≡ None)
-HasAsked fault fault2 (Err f) = fault2 ≡ first_fault fault (turn_desk_fault f)
+abbrev pub HasAskedBook : {T : Type 0} → Option DeskFault → Option DeskFault → Result T TurnFault → Type 0
+HasAskedBook fault fault2 (Ok x) = (fault ≡ None) × (fault2 ≡ None)
+HasAskedBook fault fault2 (Err f) = fault2 ≡ first_fault fault (turn_desk_fault f)

@@ -1,7 +1,7 @@
 //! Who asks a book.
 ghost use Rattle.std.specs.Prelude.{IfOk, List, OnErr, Option, [], ◌++◌, ◌∷◌};
 ghost use Rattle.desks.specs.declared.desk.DeskFault.{DeskFault as Fault};
-ghost use Rattle.pool_book.specs.Acts.{HasAsked, IsBookAnswer, Query, query};
+ghost use Rattle.pool_book.specs.Acts.{HasAskedBook, IsBookAnswer, Query, query};
 
 use crate::{BookAnswer, BookAsk};
 use std::alloc::Global;
@@ -23,7 +23,7 @@ pub trait Asks {
         ensures ok { IfOk result (λ answer. goes self.old (query ask answer ∷ []) self.new) }
         ensures kind { IfOk result (λ answer. IsBookAnswer ask answer) }
         ensures err { OnErr result (goes self.old [] self.new) }
-        ensures shown { HasAsked (fault self.old) (fault self.new) result };
+        ensures shown { HasAskedBook (fault self.old) (fault self.new) result };
 
     /// Nothing leads from a state to itself.
     ghost stays: { (s : Self) → goes s [] s };
