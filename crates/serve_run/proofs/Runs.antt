@@ -123,8 +123,8 @@ module _ (gives : ℕ → Type 0) (turns : ℕ) (s m t : StoreView) (a b d : Net
 
   stopped_so : (wanted : ℕ) (untold : List SessionEnd) (stop : ServingEnd) → k ≤ wanted → IsStop a d untold stop → IsServingEnd wanted a d amid.ends untold stop
   stopped_so wanted untold Net within it = (it, inl (omega (arith, amid.count, is, within)))
-  stopped_so wanted untold WriteFault within it = it
-  stopped_so wanted untold Memory within it = it
+  stopped_so wanted untold WriteFault within it = (it, omega (arith, amid.count, is, within))
+  stopped_so wanted untold Memory within it = (it, inl (omega (arith, amid.count, is, within)))
   stopped_so wanted untold Served within it = absurd it
   stopped_so wanted untold (Full entries bytes) within it = absurd it
 
@@ -191,8 +191,8 @@ module _ (gives : ℕ → Type 0) (turns wanted : ℕ) (s t : StoreView) (a b d 
   cause_from ends untold Served it = record { count = it.count; all_told = it.all_told; no_fault = it.no_fault ∙ same; ends_so = it.ends_so }
   cause_from ends untold (Full entries bytes) it = record { count = it.count; all_told = it.all_told; no_fault = it.no_fault ∙ same; ends_so = it.ends_so }
   cause_from ends untold Net ((none, later, rose), more) = ((none, omega (arith, later, same), subst (λ (i : ℕ). Rose i d.faults) same rose), more)
-  cause_from ends untold WriteFault (one, no_fault) = (one, no_fault ∙ same)
-  cause_from ends untold Memory (few, no_fault) = (few, no_fault ∙ same)
+  cause_from ends untold WriteFault ((one, no_fault), more) = ((one, no_fault ∙ same), more)
+  cause_from ends untold Memory ((few, no_fault), more) = ((few, no_fault ∙ same), more)
 
   -- the net listened before
   pub listened : (end : ServingEnd) → HasServedOn gives turns wanted s t b d o x end → HasServedOn gives turns wanted s t a d o x end
@@ -225,4 +225,4 @@ module _ (gives : ℕ → Type 0) (turns wanted : ℕ) (s : StoreView) (a b : Ne
   -- the net didn't listen
   pub refused : (fault : NetFault) → HasNetCause {T = ⊤} a.faults b.faults (Err fault) → HasServedOn gives turns wanted s s a b o o (end_at fault)
   refused Failed (later, rose) = refused_so Net ((refl, later, rose), inr refl) refl
-  refused net.Memory same = refused_so Memory (omega arith, same) refl
+  refused net.Memory same = refused_so Memory ((omega arith, same), inr refl) refl

@@ -18,7 +18,7 @@ use Rattle.serving_laws.specs.ServedHistories.{Attended, ClosesAll, HasAttended,
 
 -- what was asked in a session at a desk that nobody shares, and what stands at its end
 abbrev AsksUntil : {D : Type 0} → (D → List Deed → D → Type 0) → (ℕ → Type 0) → D → D → LinkView → List ℕ → List ℕ → ℕ → Why → Type 0
-AsksUntil goes gives first now link stream sent count why = (h : HasHeard goes gives first now stream count) × IsLeftSo link why h.deeds sent h.from h.rest
+AsksUntil goes gives first now link stream sent count why = (h : HasHeard goes gives first now stream count) × IsLeftSo link why h.deeds stream sent h.from h.rest
 
 unshared : false ≡ true → ⊥
 unshared e = absurd cc
@@ -27,13 +27,17 @@ pub asked_in : {D : Type 0} (goes : D → List Deed → D → Type 0) (gives : �
     → EndsSession goes gives false fault first now old new turns receives stream sent count why → AsksUntil goes gives first now new stream sent count why
 asked_in goes gives fault first now old new turns receives stream sent count Ended sound whole (h, w, none, rose, kept, few) = (h, (w, none))
 asked_in goes gives fault first now old new turns receives stream sent count Turns sound whole (h, w, front, over, calm) = (h, (w, front))
-asked_in goes gives fault first now old new turns receives stream sent count Link sound whole (h, w, inl (rose, same)) = (h, (w, inl (subst (λ (i : ℕ). Rose i new.faults) sound rose)))
-asked_in goes gives fault first now old new turns receives stream sent count Link sound whole (h, w, inr (rose, same, front, some, few)) = (h, (w, inr (subst (λ (i : ℕ). Rose i new.ends) whole rose, front, some)))
+asked_in goes gives fault first now old new turns receives stream sent count Link sound whole (h, inl (part, rose, same)) = (h, inl (part, subst (λ (i : ℕ). Rose i new.faults) sound rose))
+asked_in goes gives fault first now old new turns receives stream sent count Link sound whole (h, inr (w, front, few, inl (rose, same))) = (h, inr (w, front, inl (subst (λ (i : ℕ). Rose i new.faults) sound rose)))
+asked_in goes gives fault first now old new turns receives stream sent count Link sound whole (h, inr (w, front, few, inr (rose, same, some))) = (h, inr (w, front, inr (subst (λ (i : ℕ). Rose i new.ends) whole rose, some)))
 asked_in goes gives fault first now old new turns receives stream sent count (Wire kind place) sound whole ((h, w, wrong), calm) = (h, (w, wrong))
 asked_in goes gives fault first now old new turns receives stream sent count NotWords sound whole ((h, w, none), calm) = (h, (w, none))
 asked_in goes gives fault first now old new turns receives stream sent count (Full entries bytes) sound whole ((h, w, b, refused), calm) = absurd (unshared refused.0)
 asked_in goes gives fault first now old new turns receives stream sent count Closed sound whole ((h, w, b, refused), calm) = absurd (unshared refused.0)
-asked_in goes gives fault first now old new turns receives stream sent count Memory sound whole ((h, w, short), calm) = (h, w)
+asked_in goes gives fault first now old new turns receives stream sent count Memory sound whole (h, inl (never, none, unsent, still), calm) = (h, inl (nothing_asked stream sent h none unsent, inl none))
+asked_in goes gives fault first now old new turns receives stream sent count Memory sound whole (h, inr (inl (w, inl (came, some, still))), calm) = (h, inl (w, inr some))
+asked_in goes gives fault first now old new turns receives stream sent count Memory sound whole (h, inr (inl (w, inr (next, still))), calm) = (h, inl (w, inr (begins_some h.rest next)))
+asked_in goes gives fault first now old new turns receives stream sent count Memory sound whole (h, inr (inr part), calm) = (h, inr part)
 
 -- what a link carried that carried nothing before
 carried_from : (was now : Option (List ℕ)) (bytes : List ℕ) → was ≡ Some [] → Appends was now bytes → now ≡ Some bytes
