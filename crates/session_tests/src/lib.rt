@@ -11,6 +11,8 @@ mod commands;
 #[cfg(test)]
 mod compared;
 #[cfg(test)]
+mod limits;
+#[cfg(test)]
 mod outside;
 #[cfg(test)]
 mod served;
