@@ -19,4 +19,6 @@ mod served;
 #[cfg(test)]
 mod shared_stores;
 #[cfg(test)]
+mod streams;
+#[cfg(test)]
 mod whole_sessions;
