@@ -46,10 +46,10 @@ of_link x x2 y y2 Ended h = absurd h
 stands_on : (fault fault2 : Option DeskFault) (stopped stopped2 : Bool) (f : DeskFault) → f ≡ Ended → IsTimely fault stopped f → fault2 ≡ first_fault fault f → stopped2 ≡ stopped → standing_of fault2 stopped2 ≡ standing_of fault stopped
 stands_on fault fault2 stopped stopped2 f ended timely e k =
     subst (λ o. standing_of o stopped2 ≡ standing_of fault stopped) (sym e) (subst (λ b. standing_of (first_fault fault f) b ≡ standing_of fault stopped) (sym k) (by fault stopped timely)) where
-  by : (fault : Option DeskFault) (stopped : Bool) → IsTimely fault stopped f → standing_of (first_fault fault f) stopped ≡ standing_of fault stopped
-  by None false t = absurd (subst IsNotEnded ended t)
-  by None true t = ap standing_at ended
-  by (Some g) stopped t = refl
+      by : (fault : Option DeskFault) (stopped : Bool) → IsTimely fault stopped f → standing_of (first_fault fault f) stopped ≡ standing_of fault stopped
+      by None false t = absurd (subst IsNotEnded ended t)
+      by None true t = ap standing_at ended
+      by (Some g) stopped t = refl
 
 -- an ended one isn't ready
 ended_by : (fault : Option DeskFault) (stopped : Bool) (s : LinkDeskView) (words : Words) (f : DeskFault) → f ≡ Ended → IsTimely fault stopped f → RefusesBy (standing_of fault stopped) s words f s

@@ -70,11 +70,15 @@ module _ (s t u : LinkDeskView) (l m : List Deed) where
     kind = b.kind;
     came = λ before rest stands.
         let x = a.came before rest stands in
-        let y = b.came x.0 x.1 x.3 in
-        (y.0, y.1, y.2,
+        let y = b.came x.0 x.1 x.3 in (
+          y.0,
+          y.1,
+          y.2,
           subst (λ vs. HasCome before rest s.received u.received (vs ++ y.0) y.1 y.2) (sym (flat_map-append values_told l m))
               (subst (λ vs. HasCome before rest s.received u.received vs y.1 y.2) (sym (append_assoc (flat_map values_told l) (flat_map values_told m) y.0)) (come_joins before rest s.received t.received u.received _ x.0 x.1 _ y.1 y.2 x.2 y.3)),
-          y.4, y.5);
+          y.4,
+          y.5,
+        );
   }
 
   to_joins : (o : LinkStanding) → HasAsked s l t → CarriesTo o t m u → CarriesTo o s (l ++ m) u
