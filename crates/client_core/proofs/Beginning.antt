@@ -27,7 +27,7 @@ use Rattle.routes.specs.Publishes.{IsPublishable}
 use Rattle.routes.specs.declared.declaration.Change.{Change}
 use Rattle.routes.specs.declared.declaration.Change.TheVariants.{Add, Remove}
 use Rattle.steps.specs.Begins.{drafted_errand, if_named, neutral_errand, publish_errand, sealed_errand, way_name_fault}
-use Rattle.steps.specs.Clients.{Client, next_tag_of}
+use Rattle.steps.specs.Clients.{ClientCounts, next_tag_of}
 use Rattle.steps.specs.Errands.{Errand, Planned, Aside, IsLawfulErrand, client_after, errand_script}
 use Rattle.steps.specs.Neutrals.{is_neutral}
 use Rattle.steps.specs.Goings.{IsBegun}
@@ -72,10 +72,10 @@ written_is d s n a b e t =
     ∙ ap (λ m. Some m) (text_of_tag s n a b)
 
 -- the next tag, where there is one
-pub next_is : (c : Client) → c.drawn + 1 < 2 ^ 64 → next_tag_of c ≡ Some (tag_number c.seed (c.drawn + 1))
+pub next_is : (c : ClientCounts) → c.drawn + 1 < 2 ^ 64 → next_tag_of c ≡ Some (tag_number c.seed (c.drawn + 1))
 next_is c a = let e : nat_lt (c.drawn + 1) (2 ^ 64) ≡ true = grind (arith, nat_tests) in rw e refl
 
-pub next_none : (c : Client) → 2 ^ 64 ≤ c.drawn + 1 → next_tag_of c ≡ None
+pub next_none : (c : ClientCounts) → 2 ^ 64 ≤ c.drawn + 1 → next_tag_of c ≡ None
 next_none c a = let e : nat_lt (c.drawn + 1) (2 ^ 64) ≡ false = grind (arith, nat_tests) in rw e refl
 
 -- what was sealed
@@ -110,7 +110,7 @@ began_plan old new plan left live made spent is client = record {
 }
 
 -- what a plan that takes no counter leaves of the client
-same_counters : (c : Client) (plan : Plan) → counter_use plan ≡ Other → c ≡ client_after c (Planned plan)
+same_counters : (c : ClientCounts) (plan : Plan) → counter_use plan ≡ Other → c ≡ client_after c (Planned plan)
 same_counters c plan e = sym (ap (λ u. record { seed = c.seed; drawn = drawn u c.drawn; passes = passes_after u c.passes }) e)
 
 pub took_up : (old new : ClientCore) (plan : Plan) (made : Result BlockLeft AllocError) (result : Result ⊤ BeginFault) → client_left old ≡ Over → counter_use plan ≡ Other → IfOk made (IsMade (core_client old) plan) → TookUp old new made result → Began old new (Ok (Planned plan)) result
@@ -138,7 +138,7 @@ ok_err : {A B C : Type 0} {x : A} {y : B} → ◌≡◌ {A = Result A B} (Ok x) 
 ok_err e = absurd (cc e)
 
 pub pass_began : (old mid new : ClientCore) (v number : ℕ) (made : Result BlockLeft AllocError) → client_left old ≡ Over → TookUp old mid made (Ok tt) → number ≡ suc old.passes
-    → IfOk made (λ left. (c : Client) → c.seed ≡ old.seed → suc c.passes ≡ number → IsMade c (Pass v) left) → new ≡ record mid { passes = number } → Began old new (Ok (Planned (Pass v))) (Ok tt)
+    → IfOk made (λ left. (c : ClientCounts) → c.seed ≡ old.seed → suc c.passes ≡ number → IsMade c (Pass v) left) → new ≡ record mid { passes = number } → Began old new (Ok (Planned (Pass v))) (Ok tt)
 pass_began old mid new v number (Ok left) idle h e made n = (
   Planned (Pass v),
   refl,
@@ -149,7 +149,7 @@ pass_began old mid new v number (Err f) idle h e made n = ok_err h.1
 
 pub send_began : (old mid new : ClientCore) (d : Data) (number : ℕ) (made : Result BlockLeft AllocError) → client_left old ≡ Over → TookUp old mid made (Ok tt) → number ≡ suc old.drawn → old.seed < 2 ^ 64 → number < 2 ^ 64
     → envelope_at (compact_text d) ≡ Ok d → next_tag_of (core_client old) ≡ Some (parts_in d).tag
-    → IfOk made (λ left. (c : Client) → plain_setting.written_tag (compact_text d) ≡ Some (plain_setting.tag c.seed (suc c.drawn)) → IsMade c (Publish (compact_text d)) left) → new ≡ record mid { drawn = number } → Began old new (Ok (publish_errand d)) (Ok tt)
+    → IfOk made (λ left. (c : ClientCounts) → plain_setting.written_tag (compact_text d) ≡ Some (plain_setting.tag c.seed (suc c.drawn)) → IsMade c (Publish (compact_text d)) left) → new ≡ record mid { drawn = number } → Began old new (Ok (publish_errand d)) (Ok tt)
 send_began old mid new d number (Ok left) idle h e small low again tag made n =
     let room : old.drawn + 1 < 2 ^ 64 = omega (arith, e, low) in
     let is : (parts_in d).tag ≡ tag_number old.seed (suc old.drawn) = some_same (parts_in d).tag (tag_number old.seed (suc old.drawn)) (sym tag ∙ next_is (core_client old) room ∙ ap (λ m. Some (tag_number old.seed m)) (omega arith)) in
@@ -193,7 +193,7 @@ none_left s n p (End t) l o = say_over o
 none_left s n p (Return side t) l o = say_over o
 none_left s n p (Pass v) l o = say_over o
 
-made_says : (c : Client) (plan : Plan) (left : BlockLeft) → IsMade c plan left → script_left left ≡ Over → ⊥
+made_says : (c : ClientCounts) (plan : Plan) (left : BlockLeft) → IsMade c plan left → script_left left ≡ Over → ⊥
 made_says c plan left m o = none_left c.seed c.drawn c.passes plan m.lawful (sym (left_trace c.seed c.passes plan [] left m.had.1).left ∙ o)
 
 -- a client that took up a block has something to say
@@ -203,7 +203,7 @@ took_up_says old new plan (Ok left) result idle made h = subst (λ r. OnOk r (cl
 took_up_says old new plan (Err f) result idle made h = subst (λ r. OnOk r (client_left new ≡ Over → IsSome (client_ended new))) (sym h.1) tt
 
 -- so has one that began an errand
-errand_says : (c : Client) (errand : Errand) → IsLawfulErrand c errand → errand_script c errand ≡ Over → ⊥
+errand_says : (c : ClientCounts) (errand : Errand) → IsLawfulErrand c errand → errand_script c errand ≡ Over → ⊥
 errand_says c (Planned plan) l o = none_left c.seed c.drawn c.passes plan l o
 errand_says c (Aside words) l o = say_over o
 
@@ -212,6 +212,6 @@ began_says old new errand (Ok u) b = λ o. absurd (errand_says (core_client old)
 began_says old new errand (Err f) b = tt
 
 -- what was made for each client was made for this one
-pub made_for : (made : Result BlockLeft AllocError) (plan : Plan) (c : Client) → IfOk made (λ left. (d : Client) → IsMade d plan left) → IfOk made (IsMade c plan)
+pub made_for : (made : Result BlockLeft AllocError) (plan : Plan) (c : ClientCounts) → IfOk made (λ left. (d : ClientCounts) → IsMade d plan left) → IfOk made (IsMade c plan)
 made_for (Ok left) plan c h = h c
 made_for (Err e) plan c h = tt

@@ -9,7 +9,7 @@ ghost use Rattle.queue_keys.specs.NameFaults.{told_fault};
 ghost use Rattle.command_blocks.specs.Scripts.{Over, Pass, next_words};
 ghost use Rattle.routes.specs.Publishes.{IsPublishable};
 ghost use Rattle.steps.specs.Begins.{AreTexts, again_errand, drafted_errand, neutral_errand, publish_errand, way_name_fault};
-ghost use Rattle.steps.specs.Clients.{new_client, next_tag_of};
+ghost use Rattle.steps.specs.Clients.{new_counts, next_tag_of};
 ghost use Rattle.steps.specs.Errands.{Planned};
 ghost use Rattle.client_core.specs.Begun.{Began, GaveSealed, TookUp};
 ghost use Rattle.client_core.specs.Works.{ClientHeard, client_left, core_client, lacked};
@@ -41,7 +41,7 @@ pub struct ClientCore {
 impl ClientCore {
     /// A client of this seed that did nothing yet; takes no memory.
     pub fn new(seed: u64) -> ClientCore
-        ensures client { ⟦<ClientCore as Steps>⟧.client result ≡ new_client seed }
+        ensures client { ⟦<ClientCore as Steps>⟧.client result ≡ new_counts seed }
         ensures idle { ⟦<ClientCore as Steps>⟧.left result ≡ Over }
         ensures end { ⟦<ClientCore as Steps>⟧.ended result ≡ None }
         ensures spent { ⟦<ClientCore as Steps>⟧.spent result ≡ false }
