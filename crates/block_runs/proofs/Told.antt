@@ -17,7 +17,7 @@ use Rattle.desks.specs.declared.desk.DeskFault.TheVariants as desk_
 use Rattle.links.specs.Causes.{Rose}
 use Rattle.desks.specs.declared.desk.DeskFault.{DeskFault}
 use Rattle.sessions.specs.Talks.{IsClocked}
-use Rattle.steps.specs.Clients.{ClientCounts}
+use Rattle.steps.specs.declared.counts.ClientCounts.{ClientCounts}
 use Rattle.steps.specs.Errands.{Errand}
 use Rattle.steps.specs.Ends.{TellsOfErrand}
 use Rattle.steps.specs.Errands.{HasSaidOf, client_after, errand_script}

@@ -8,7 +8,7 @@ use Rattle.desks.specs.Deeds.{Deed, DidAsk}
 use Rattle.desks.specs.Faults.{IsFaultOf, IsNotEnded, IsOpen}
 use Rattle.desks.specs.declared.desk.DeskFault.{DeskFault}
 use Rattle.sessions.specs.Talks.{IsClocked}
-use Rattle.steps.specs.Clients.{ClientCounts}
+use Rattle.steps.specs.declared.counts.ClientCounts.{ClientCounts}
 use Rattle.steps.specs.Ends.{TellsOfErrand}
 use Rattle.steps.specs.Errands.{Errand, IsLawfulErrand, client_after, errand_script}
 use Rattle.steps.specs.Goings.{script_after}

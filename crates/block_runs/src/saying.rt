@@ -5,7 +5,7 @@ ghost use Rattle.wire_grammar.specs.Fits.{IsWithinLimits};
 ghost use Rattle.command_blocks.specs.Scripts.{Over, Off, next_words};
 ghost use Rattle.desks.specs.Faults.{HasCounts, IsOpen};
 ghost use Rattle.steps.specs.Begins.{IsLawfulBlock, errand_of};
-ghost use Rattle.steps.specs.Clients.{ClientCounts};
+ghost use Rattle.steps.specs.declared.counts.ClientCounts.{ClientCounts};
 ghost use Rattle.steps.specs.Ends.{TellsOfErrand};
 ghost use Rattle.steps.specs.Errands.{Errand};
 ghost use Rattle.steps.specs.Trips.{RoundTrip};

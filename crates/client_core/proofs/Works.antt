@@ -15,7 +15,7 @@ use Rattle.command_blocks.specs.Calls.{Call, call}
 use Rattle.command_blocks.specs.Scripts.{Plan, Script, Over, Off, Say, after_call, next_words}
 use Rattle.client_blocks.specs.declared.left.BlockLeft.{BlockLeft}
 use Rattle.client_blocks.specs.declared.left.BlockLeft.TheVariants as left
-use Rattle.steps.specs.Clients.{ClientCounts}
+use Rattle.steps.specs.declared.counts.ClientCounts.{ClientCounts}
 use Rattle.steps.specs.Ends.{TellsOfErrand, TellsPlan, end_kind, plan_kind}
 use Rattle.steps.specs.Errands.{Errand, Planned, Aside, aside_script}
 use Rattle.steps.specs.Goings.{HasTakenReply, HasHeardOn, script_after}

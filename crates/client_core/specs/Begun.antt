@@ -11,7 +11,7 @@ use Rattle.routes.specs.Publishes.{IsPublishable}
 use Rattle.sealed_drafts.specs.declared.sealing.Draft.{Draft}
 use Rattle.serde_json.specs.View.{view as data_of}
 use Rattle.steps.specs.Begins.{drafted_errand, publish_errand}
-use Rattle.steps.specs.Clients.{ClientCounts}
+use Rattle.steps.specs.declared.counts.ClientCounts.{ClientCounts}
 use Rattle.steps.specs.Errands.{Errand}
 use Rattle.steps.specs.Goings.{HasBegun}
 use Rattle.steps.specs.declared.begun.BeginFault.{BeginFault}

@@ -17,7 +17,7 @@ use Rattle.routes.specs.Declares.{declare_stage_left}
 use Rattle.routes.specs.Publishes.{publish_stage_left}
 use Rattle.unacked.specs.Ends.{end_stage_left}
 use Rattle.unacked.specs.Pops.{pop_stage_left}
-use Rattle.steps.specs.Clients.{ClientCounts}
+use Rattle.steps.specs.declared.counts.ClientCounts.{ClientCounts}
 use Rattle.steps.specs.Errands.{Errand, Planned, Aside, HasSaidOf, errand_script}
 use Rattle.steps.specs.Trips.{RoundTrip, trip_calls}
 use Rattle.steps.specs.declared.ended.BlockEnd.{BlockEnd}

@@ -6,7 +6,7 @@ use Rattle.block_core.specs.declared.fault.ReplyFault.{ReplyFault}
 use Rattle.block_core.specs.declared.fault.ReplyFault.TheVariants.{Refused, Memory}
 use Rattle.command_blocks.specs.Scripts.{Script, Over, Off, next_words}
 use Rattle.client_blocks.specs.Blocks.{script_left}
-use Rattle.steps.specs.Clients.{ClientCounts}
+use Rattle.steps.specs.declared.counts.ClientCounts.{ClientCounts}
 use Rattle.steps.specs.Errands.{Errand, Planned, Aside, IsLawfulErrand}
 use Rattle.steps.specs.Goings.{HasHeardOn, script_after}
 use Rattle.steps.specs.Trips.{RoundTrip, trip, trip_calls}

@@ -7,7 +7,7 @@ ghost use Rattle.command_blocks.specs.EnvelopeTexts.{plain_setting};
 ghost use Rattle.command_blocks.specs.Scripts.{End, Pass, Pop, Publish, Return};
 ghost use Rattle.routes.specs.Declares.{declaration_plan};
 ghost use Rattle.routes.specs.Publishes.{IsPublishable};
-ghost use Rattle.steps.specs.Clients.{ClientCounts};
+ghost use Rattle.steps.specs.declared.counts.ClientCounts.{ClientCounts};
 ghost use Rattle.client_core.specs.Begun.{IsMade};
 
 use client_blocks::BlockLeft;

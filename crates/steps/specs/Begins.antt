@@ -15,7 +15,8 @@ use Rattle.store_model.specs.Words.{Words}
 use Rattle.wire_grammar.specs.Fits.{IsWithinLimits}
 use Rattle.command_blocks.specs.Scripts.{Publish, Pop, End, Return, Pass}
 use Rattle.routes.specs.Declares.{declaration_plan}
-use Rattle.steps.specs.Clients.{ClientCounts, next_tag_of}
+use Rattle.steps.specs.Clients.{next_tag_of}
+use Rattle.steps.specs.declared.counts.ClientCounts.{ClientCounts}
 use Rattle.steps.specs.Errands.{Errand, Planned, Aside}
 use Rattle.steps.specs.Neutrals.{is_neutral}
 use Rattle.steps.specs.declared.begun.BeginFault.{BeginFault}

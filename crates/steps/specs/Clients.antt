@@ -1,7 +1,7 @@
 -- Clients, by what they drew and began.
 use Rattle.std.specs.Prelude.{ℕ, ◌+◌, ◌^◌, nat_lt, if◌then◌else◌, Option, None, Some}
 use Rattle.delivery_tags.specs.Tags.{tag_number}
-pub use Rattle.steps.specs.declared.counts.ClientCounts.{ClientCounts}
+use Rattle.steps.specs.declared.counts.ClientCounts.{ClientCounts}
 
 -- of a client of a seed that did nothing yet
 abbrev pub new_counts : ℕ → ClientCounts

@@ -9,7 +9,7 @@ use Rattle.command_blocks.specs.EnvelopeTexts.{plain_setting}
 use Rattle.command_blocks.specs.Scripts.{Plan, Script, Over, Off, plainly, counter_use, script_of}
 use Rattle.block_laws.specs.Rows.{IsLawfulPlan, IsPlanBlock}
 use Rattle.block_laws.specs.Traces.{IsTrace}
-use Rattle.steps.specs.Clients.{ClientCounts}
+use Rattle.steps.specs.declared.counts.ClientCounts.{ClientCounts}
 use Rattle.steps.specs.Trips.{RoundTrip, trip_calls}
 
 -- what a client goes about: the plan of a block, or a command that concerns no message

@@ -5,7 +5,7 @@ use Rattle.block_core.specs.declared.fault.ReplyFault.{ReplyFault}
 use Rattle.block_core.specs.declared.fault.ReplyFault.TheVariants as reply
 use Rattle.command_blocks.specs.Calls.{call}
 use Rattle.command_blocks.specs.Scripts.{Script, Over, Off, Say, after_call}
-use Rattle.steps.specs.Clients.{ClientCounts}
+use Rattle.steps.specs.declared.counts.ClientCounts.{ClientCounts}
 use Rattle.steps.specs.Errands.{Errand, client_after, errand_script}
 use Rattle.steps.specs.Trips.{RoundTrip}
 use Rattle.steps.specs.declared.begun.BeginFault.{BeginFault}

@@ -24,7 +24,8 @@ use Rattle.block_laws.proofs.Talks.{Talks, off_talks, over_talks, say_talks, say
 use Rattle.message_places.proofs.Serving.{readable}
 use Rattle.manner_laws.specs.LayoutKeys.{exchange_of_key}
 use Rattle.schedule_laws.proofs.Decided.{fronts_decided}
-use Rattle.steps.specs.Clients.{ClientCounts, new_counts}
+use Rattle.steps.specs.Clients.{new_counts}
+use Rattle.steps.specs.declared.counts.ClientCounts.{ClientCounts}
 use Rattle.steps.specs.Errands.{Errand, Planned, Aside, IsErrandBlock, IsLawfulErrand, aside_script, client_after, errand_script, errand_use, on_no_error}
 use Rattle.steps_laws.specs.Manners.{AreSaid, ErrandSaid, said_calls}
 

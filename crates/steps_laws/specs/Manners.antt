@@ -6,7 +6,8 @@ use Rattle.command_blocks.specs.Calls.{Call}
 use Rattle.command_blocks.specs.EnvelopeTexts.{plain_setting}
 use Rattle.command_blocks.specs.Scripts.{Script, Over, Off}
 use Rattle.block_laws.specs.Traces.{IsTrace, IsFrontOf}
-use Rattle.steps.specs.Clients.{ClientCounts, new_counts}
+use Rattle.steps.specs.Clients.{new_counts}
+use Rattle.steps.specs.declared.counts.ClientCounts.{ClientCounts}
 use Rattle.steps.specs.Errands.{Errand, IsErrandBlock, IsLawfulErrand, client_after, errand_script}
 use Rattle.steps.specs.Neutrals.{is_neutral}
 
