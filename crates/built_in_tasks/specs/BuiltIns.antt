@@ -37,17 +37,17 @@ abbrev pub if_64_bits : ℤ → Option ℤ
 if_64_bits n = if int_le (neg_ℤ (pos (2 ^ 63))) n && int_lt n (pos (2 ^ 64)) then Some n else None
 
 -- the sum of two numbers, where both are there
-abbrev pub sum_of : Option ℤ → Option ℤ → Option ℤ
-sum_of None b = None
-sum_of (Some a) None = None
-sum_of (Some a) (Some b) = if_64_bits (a +ℤ b)
+abbrev pub sum_of_two : Option ℤ → Option ℤ → Option ℤ
+sum_of_two None b = None
+sum_of_two (Some a) None = None
+sum_of_two (Some a) (Some b) = if_64_bits (a +ℤ b)
 
 -- the sum of two arguments
 abbrev pub items_sum : Option Items → Option ℤ
 items_sum None = None
 items_sum (Some no_items) = None
 items_sum (Some (item a no_items)) = None
-items_sum (Some (item a (item b no_items))) = sum_of (whole_in a) (whole_in b)
+items_sum (Some (item a (item b no_items))) = sum_of_two (whole_in a) (whole_in b)
 items_sum (Some (item a (item b (item c ds)))) = None
 
 -- a number as decimal text

@@ -1,7 +1,7 @@
 //! What the built-in tasks answer.
 ghost use Rattle.std.specs.Prelude.{◌≡◌, ◌+ℤ◌, IfOk, codes, option_map};
 ghost use Rattle.serde_json.specs.View.{items_view, view as data_of};
-ghost use Rattle.built_in_tasks.specs.BuiltIns.{again_answer, add_answer, bad_arguments, delay_in, echo_answer, echo_of, fail_answer, if_64_bits, if_seconds, items_delay, items_sum, positional, sum_of};
+ghost use Rattle.built_in_tasks.specs.BuiltIns.{again_answer, add_answer, bad_arguments, delay_in, echo_answer, echo_of, fail_answer, if_64_bits, if_seconds, items_delay, items_sum, positional, sum_of_two};
 ghost use Rattle.place_model.specs.declared.heard.Outcome.TheVariants.{Failure};
 
 use crate::arguments::{positional, whole};
@@ -74,7 +74,7 @@ fn sum(args: &Tree, kwargs: &Tree) -> Option<i128>
     ensures { result ≡ items_sum (positional (data_of args.now) (data_of kwargs.now)) }
 {
     match positional(args, kwargs) {
-        Some([first, second]) => sum_of(whole(first)?, whole(second)?),
+        Some([first, second]) => sum_of_two(whole(first)?, whole(second)?),
         Some([]) => None,
         Some([_first]) => None,
         Some([_, _, _, ..]) => None,
@@ -83,7 +83,7 @@ fn sum(args: &Tree, kwargs: &Tree) -> Option<i128>
 }
 
 /// The sum of two whole numbers of 64 bits, where it has 64 bits.
-fn sum_of(first: i128, second: i128) -> Option<i128>
+fn sum_of_two(first: i128, second: i128) -> Option<i128>
     ensures { result ≡ if_64_bits (first +ℤ second) }
 {
     let sum = first.checked_add(second)?;

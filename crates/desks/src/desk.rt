@@ -1,6 +1,7 @@
 //! What a desk is.
 ghost use Rattle.std.specs.Prelude.{Bool, IfErr, IfOk, List, OnErr, OnOk, Option, [], ℕ, ◌++◌, ◌<◌, ◌∷◌, ◌≡◌};
 ghost use Rattle.store_model.specs.Limits.{moment_limit};
+ghost use Rattle.store_model.specs.Words.{Words as Said};
 ghost use Rattle.wire_grammar.specs.Fits.{IsWithinLimits};
 ghost use Rattle.desks.specs.Deeds.{Deed, DidAsk, DidNote, DidStop};
 ghost use Rattle.desks.specs.Faults.{HasCounts, HasShown, HasStopped, IsFaultOf};
@@ -36,6 +37,9 @@ pub trait Desk {
     /// These deeds lead from the one state to the other.
     ghost goes: { Self → List Deed → Self → Type 0 };
 
+    /// This command was asked from the one state on, and this fault was answered, which leads to the other.
+    ghost refuses: { Self → Said → Fault → Self → Type 0 };
+
     /// The first fault that it answered.
     ghost fault: { Self → Option Fault };
 
@@ -55,12 +59,13 @@ pub trait Desk {
     ghost shared: { Bool };
 
     /// Hands over a command, with the moment in seconds, which is below 2^40; its words are within the limits of RESP2
-    /// here. Each fault comes as `DeskFault` says.
+    /// here. Each fault comes as `DeskFault` says, and the command that it ends is this one.
     fn ask(&mut self, alloc: Global, at: u64, words: &Words) -> Result<Reply, DeskFault>
         requires moment { at < moment_limit }
         requires words { IsWithinLimits words.now }
         ensures ok { IfOk result (λ reply. goes self.old (DidAsk at words.now reply ∷ []) self.new) }
         ensures err { OnErr result (goes self.old [] self.new) }
+        ensures refused { IfErr result (λ f. refuses self.old words.now f self.new) }
         ensures shown { HasShown (fault self.old) (stopped self.old) (fault self.new) (stopped self.new) result }
         ensures kinds { IfErr result (IsFaultOf remote shared (faults self.old) (faults self.new) (ends self.old) (ends self.new)) }
         ensures counts { HasCounts (faults self.old) (faults self.new) (ends self.old) (ends self.new) };

@@ -1,5 +1,5 @@
 -- Pushed values, one after the other, and what ends them.
-use Rattle.std.proofs.Common.{List, Ok, Err, Option, [], append-nil, arith, length, length-append, subst, sym, true, ℕ, ◌+◌, ◌++◌, ◌≤◌, ◌∷◌, ◌≡◌}
+use Rattle.std.proofs.Common.{List, Ok, Err, Option, [], append-nil, arith, length, length-append, subst, sym, true, ℕ, ◌++◌, ◌≤◌, ◌∷◌, ◌≡◌}
 use Rattle.wire_values.specs.declared.value.Value.{Value}
 use Rattle.resp_wire.specs.Stands.{Stands}
 use Rattle.resp_wire.specs.declared.decoder.Decoder.{Decoder}

@@ -5,9 +5,9 @@ ghost use Rattle.wire_grammar.specs.Fits.{IsWithinLimits};
 ghost use Rattle.resp_wire.specs.Stands.{Stands};
 ghost use Rattle.desks.specs.Deeds.{DidAsk};
 ghost use Rattle.desks.specs.Faults.{HasCounts, HasShown, IsFaultOf, IsOpen};
-ghost use Rattle.link_desk.specs.Exchanges.{HasExchanged};
+ghost use Rattle.link_desk.specs.Exchanges.{HasExchanged, RefusesWords};
 ghost use Rattle.link_desk.specs.Hearings.{HasLinkCause};
-ghost use Rattle.link_desk.specs.LinkDeeds.{CarriesDeeds, is_open, link_desk_view};
+ghost use Rattle.link_desk.specs.LinkDeeds.{CarriesDeeds, link_desk_view, standing_of};
 
 use crate::hearing::Hearing;
 use crate::replying::reply;
@@ -92,9 +92,14 @@ impl<L: Link> Desk for LinkDesk<L> {
     ghost use Rattle.link_desk.specs.CarriesLaws.{CarriesDeeds-stays, CarriesDeeds-joins};
 
     ghost goes = { λ s l t. CarriesDeeds
-        (link_desk_view (is_open s.standing.fault s.standing.stopped) (L.sent s.link) (L.received s.link) s.hearing.decoder s.notes)
+        (link_desk_view (standing_of s.standing.fault s.standing.stopped) (L.sent s.link) (L.received s.link) s.hearing.decoder s.notes)
         l
-        (link_desk_view (is_open t.standing.fault t.standing.stopped) (L.sent t.link) (L.received t.link) t.hearing.decoder t.notes) };
+        (link_desk_view (standing_of t.standing.fault t.standing.stopped) (L.sent t.link) (L.received t.link) t.hearing.decoder t.notes) };
+
+    ghost refuses = { λ s words f t. RefusesWords
+        (link_desk_view (standing_of s.standing.fault s.standing.stopped) (L.sent s.link) (L.received s.link) s.hearing.decoder s.notes)
+        words f
+        (link_desk_view (standing_of t.standing.fault t.standing.stopped) (L.sent t.link) (L.received t.link) t.hearing.decoder t.notes) };
 
     ghost fault = { λ s. s.standing.fault };
 
@@ -109,12 +114,12 @@ impl<L: Link> Desk for LinkDesk<L> {
     ghost shared = { false };
 
     ghost stays = { λ s. CarriesDeeds-stays
-        (link_desk_view (is_open s.standing.fault s.standing.stopped) (L.sent s.link) (L.received s.link) s.hearing.decoder s.notes) };
+        (link_desk_view (standing_of s.standing.fault s.standing.stopped) (L.sent s.link) (L.received s.link) s.hearing.decoder s.notes) };
 
     ghost joins = { λ s t u. CarriesDeeds-joins
-        (link_desk_view (is_open s.standing.fault s.standing.stopped) (L.sent s.link) (L.received s.link) s.hearing.decoder s.notes)
-        (link_desk_view (is_open t.standing.fault t.standing.stopped) (L.sent t.link) (L.received t.link) t.hearing.decoder t.notes)
-        (link_desk_view (is_open u.standing.fault u.standing.stopped) (L.sent u.link) (L.received u.link) u.hearing.decoder u.notes) };
+        (link_desk_view (standing_of s.standing.fault s.standing.stopped) (L.sent s.link) (L.received s.link) s.hearing.decoder s.notes)
+        (link_desk_view (standing_of t.standing.fault t.standing.stopped) (L.sent t.link) (L.received t.link) t.hearing.decoder t.notes)
+        (link_desk_view (standing_of u.standing.fault u.standing.stopped) (L.sent u.link) (L.received u.link) u.hearing.decoder u.notes) };
 
     fn ask(&mut self, alloc: Global, _at: u64, words: &Words) -> Result<Reply, DeskFault> {
         match self.standing.enter() {

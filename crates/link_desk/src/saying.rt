@@ -2,8 +2,7 @@
 ghost use Rattle.std.specs.Io.KnownBytes.{Appends, Keeps};
 ghost use Rattle.std.specs.Prelude.{IfErr, IfOk, List, OnErr, OnOk, ℕ, map, ◌++◌, ◌≡◌};
 ghost use Rattle.link_desk.specs.Hearings.{HasLinkCause};
-ghost use Rattle.link_desk.specs.Exchanges.{IsSendFault};
-ghost use Rattle.link_desk.specs.LinkDeeds.{SendsPart, command_bytes};
+ghost use Rattle.link_desk.specs.LinkDeeds.{IsSendFault, SendsPart, command_bytes};
 
 use desks::DeskFault;
 use net_links::{Link, NetFault};

@@ -13,6 +13,7 @@ use Rattle.sessions.specs.Talkings.{AnswersAll, TalksAll}
 use Rattle.sessions.specs.declared.ends.Why.{Why}
 use Rattle.sessions.specs.declared.ends.Why.TheVariants.{Closed, Ended, Full, Link, Memory, NotWords, Turns, Wire}
 use Rattle.sessions.specs.declared.talking.Talking.{Talking}
+use Rattle.sessions.proofs.Taken.{lacks_front}
 use Rattle.local_links.specs.LocalTalks.{IsBeginning, IsOver, Serves, desk_goes, sent_at, stage_after}
 use Rattle.local_links.specs.declared.link_stage.LinkStage.{LinkStage}
 use Rattle.local_links.specs.declared.link_stage.LinkStage.TheVariants.{Asks, Over, Spent}
@@ -56,7 +57,7 @@ module _ (first now : PlainDesk) (sent piece replies : List ℕ) (t : Talking) w
   served_after fault (Ok done) a opened = (a, opened)
   served_after fault (Err NotWords) (h, answered, none) opened = (h, answered, inl none)
   served_after fault (Err (Wire kind place)) (h, answered, wrong) opened = (h, answered, inr (kind, place, wrong))
-  served_after fault (Err Memory) (h, answered, short) opened = (piece, h, answered)
+  served_after fault (Err Memory) (h, lacks) opened = (piece, h, lacks_front _ fault h.deeds h.rest (replies ++ t.out.items) lacks)
   served_after fault (Err (Full entries bytes)) (h, answered, next, is) opened = no_truth is.0
   served_after fault (Err Closed) (h, answered, next, is) opened = no_truth is.0
   served_after fault (Err Ended) never opened = absurd never

@@ -1,8 +1,9 @@
 //! Asking a store all values that are whole.
-ghost use Rattle.std.specs.Prelude.{List, Ok, OnErr, OnOk, [], false, true, ℕ, ◌++◌, ◌<◌, ◌≡◌, ◌⊎◌};
+ghost use Rattle.std.specs.Prelude.{List, Ok, OnErr, OnOk, [], false, length, true, ℕ, ◌++◌, ◌<◌, ◌≡◌, ◌⊎◌};
 ghost use Rattle.desks.specs.Faults.{IsOpen};
 ghost use Rattle.plain_desk.specs.declared.desk.PlainDesk.{PlainDesk as ThePlainDesk};
 ghost use Rattle.resp_wire.specs.Moves.{unread_of};
+ghost use Rattle.resp_wire.specs.Stands.{Stands};
 ghost use Rattle.wire_grammar.specs.Fits.{HasSpelling};
 ghost use Rattle.sessions.specs.Askings.{HasAnsweredValue};
 ghost use Rattle.sessions.specs.Talkings.{AnswersAll, AnswersNext, StandsSomewhere, Talks, TalksAll};
@@ -32,10 +33,11 @@ fn answer_value(
     answer(alloc, desk, &StillClock, &value, out, commands)
 }
 
-/// Asks the next value that is whole, and answers whether there was one.
+/// Asks the next value that is whole, and answers whether there was one; some bytes are left to be read.
 fn answer_next(alloc: Global, desk: &mut PlainDesk, talking: &mut Talking) -> Result<bool, Why>
     requires open { IsOpen desk.old.standing.fault desk.old.standing.stopped }
     requires placed { ∥ StandsSomewhere talking.old.decoder ∥₁ }
+    requires some { (before : ℕ) (rest : List ℕ) → Stands talking.old.decoder before rest → 0 < length rest }
     ensures less { result ≡ Ok true → unread_of talking.new.decoder < unread_of talking.old.decoder }
     ensures open { OnOk result (IsOpen desk.new.standing.fault desk.new.standing.stopped) }
     ensures placed { OnOk result (∥ StandsSomewhere talking.new.decoder ∥₁) }
@@ -65,13 +67,14 @@ fn answer_all(alloc: Global, desk: &mut PlainDesk, talking: &mut Talking) -> Res
     ensures answers { (first : ThePlainDesk) (stream sent : List ℕ) → Talks desk_goes IsBeginning first desk.old stream sent talking.old
         → AnswersAll desk_goes IsBeginning false desk.new.standing.fault first desk.new stream sent talking.new result }
 {
-    'values: loop {
+    'values: while talking.decoder.pending() > 0 {
         match answer_next(alloc, desk, talking) {
             Ok(true) => {}
             Ok(false) => return Ok(()),
             Err(why) => return Err(why),
         }
     }
+    Ok(())
 }
 
 /// How far is asked after that.

@@ -1,5 +1,5 @@
 -- What the program's schedules determine.
-use Rattle.std.proofs.Common.{◌≡◌, ℕ, true, List, length, ◌≤◌, refl, subst, arith}
+use Rattle.std.proofs.Common.{◌≡◌, true, List, length, ◌≤◌, refl, subst, arith}
 use Rattle.command_blocks.specs.EnvelopeTexts.{plain_setting, texts}
 use Rattle.place_model.specs.Histories.{History, after}
 use Rattle.queue_keys.specs.Layouts.{is_layout, plain}
@@ -9,9 +9,8 @@ use Rattle.place_model.specs.declared.heard.Heard.{Heard}
 use Rattle.place_theorem.proofs.Sound.{placed_one}
 use Rattle.message_places.proofs.Serving.{exchanges, facts, full}
 use Rattle.schedule_model.specs.EachPlaced.{IsEachPlaced}
-use Rattle.schedule_model.specs.Costs.{is_full}
-use Rattle.schedule_model.specs.Desk.{ScheduleReader, first_desk}
-use Rattle.schedule_model.specs.Filled.{FilledDesk, lines_read}
+use Rattle.schedule_model.specs.Desk.{ScheduleReader}
+use Rattle.schedule_model.specs.Filled.{lines_read}
 use Rattle.schedule_model.specs.Programs.{program_craft}
 use Rattle.schedule_model.specs.Schedules.{Determined, Whole, Full, Bad_line, reader_history, schedule_run}
 use Rattle.schedule_laws.specs.Sound.{IsCraft, IsSoundlyDetermined}
@@ -34,7 +33,7 @@ pub sound : HistoriesSound
 sound bytes = schedule_sound program_craft craft bytes
 
 -- in a sound history each message is in its place
-placed : (h : History Heard) → IsSound plain_setting h → IsEachPlaced h
+pub placed : (h : History Heard) → IsSound plain_setting h → IsEachPlaced h
 placed h is p t front accepted single = placed_one (full plain lawful) h p t is front accepted single
 
 all_placed : (ls : List Bytes) (r : Determined) → IsSoundlyDetermined program_craft ls r → ArePlaced ls r
@@ -58,10 +57,3 @@ whole_placed bytes d e = placed (reader_history d) (whole_sound bytes d e)
 -- and it leaves the desk's store
 pub whole_store : (bytes : Bytes) (d : ScheduleReader) → schedule_run program_craft bytes ≡ Whole d → (after (reader_history d)).store ≡ d.store
 whole_store bytes d e = (subst (IsSoundlyDetermined program_craft (lines_read bytes)) e (sound bytes)).store
-
--- ---- of a history that was full
-
--- the desk that the lines filled: it is full, its history is sound, and its messages are in their places
-pub full_desk : (bytes : Bytes) (n cost : ℕ) → schedule_run program_craft bytes ≡ Full n cost
-    → (f : FilledDesk program_craft first_desk (lines_read bytes) n cost) × (is_full f.desk.entries ≡ true) × IsSound plain_setting (reader_history f.desk) × IsEachPlaced (reader_history f.desk)
-full_desk bytes n cost e = let s = subst (IsSoundlyDetermined program_craft (lines_read bytes)) e (sound bytes) in (s.0, s.2, s.1.history, placed (reader_history s.0.desk) s.1.history)

@@ -1,6 +1,6 @@
--- What holds of a history beside the places of its messages: of stops, of returns, of passes, and of the envelopes of a message.
+-- What holds of a schedule's history beside the places of its messages: of stops, of returns, of passes, and of the envelopes of a message.
 use Rattle.std.specs.Prelude.{◌≡◌, ℕ, ◌<◌, ◌^◌, List, [], ◌∷◌, ◌++◌, Some}
-use Rattle.std.specs.FinMap.{get}
+use Rattle.std.specs.FinMap.{empty, get}
 use Rattle.wire_values.specs.declared.value.Value.{Value}
 use Rattle.store_model.specs.Words.{Words, command_of}
 use Rattle.store_model.specs.declared.command.Command.{Command}
@@ -13,13 +13,20 @@ use Rattle.command_blocks.specs.EnvelopeTexts.{plain_setting}
 use Rattle.command_blocks.specs.PassBlocks.{Done, IsPassBlock}
 use Rattle.command_blocks.specs.ReturnBlocks.{ReturnEnd}
 use Rattle.place_model.specs.Histories.{Client, History, IsHistoryPrefix, after, and_then, calls_of}
-use Rattle.place_model.specs.Identity.{HasAnywhere, HasOrigin}
+use Rattle.place_model.specs.Identity.{HasAnywhere, IsPublished}
 use Rattle.place_model.specs.Passes.{AccountsForAll, AreEarly}
 use Rattle.place_model.specs.PlaceOf.{StopMoves}
 use Rattle.place_model.specs.Seen.{seen}
+use Rattle.place_model.specs.Starts.{IsSound}
 use Rattle.place_model.specs.declared.heard.Heard.{Heard}
 use Rattle.place_model.specs.declared.history.Entry.TheVariants.{Call as Called, Stop}
 use Rattle.place_theorem.specs.Bindings.{ReturnsByBindings}
+
+-- a history such as schedules determine: it is sound, it began with no key, and its calls came before the moment 2 ^ 63
+pub record IsScheduled (h : History Heard) : Type 0 where
+  pub sound : IsSound plain_setting h
+  pub from_nothing : h.start ≡ empty
+  pub early : (c : ℕ) → AreEarly (calls_of c h.entries)
 
 -- each stop alters no key, and moves one message at most: from the client's hand to what is lost with it
 abbrev pub StopsMoveOne : History Heard → Type 0
@@ -35,13 +42,18 @@ ReturnsAreWhole h = (p : History Heard) (c at : ℕ) (words : Words) (reply : Re
 -- each pass among a client's calls that wasn't ended early accounts for all that it read: by its own range call, its own returns in their order, and their three counts
 abbrev pub PassesAccount : History Heard → Type 0
 PassesAccount h = (c v : ℕ) (token : Bytes) (ends : List ReturnEnd) (earlier l rest : List Call)
-    → calls_of c h.entries ≡ earlier ++ (l ++ rest) → IsPassBlock plain_setting token v (Done ends) l → AreEarly l → v < 2 ^ 63
+    → calls_of c h.entries ≡ earlier ++ (l ++ rest) → IsPassBlock plain_setting token v (Done ends) l → v < 2 ^ 63
     → AccountsForAll plain_setting h c v token ends earlier l
 
--- all envelopes of a tag in lists, table and hands have one tree, but for the marks of redelivery
-abbrev pub MessagesHaveOneTree : History Heard → Type 0
-MessagesHaveOneTree h = (p : History Heard) (t b b' : Bytes) → IsHistoryPrefix p h → HasAnywhere plain_setting (after p) t b → HasAnywhere plain_setting (after p) t b' → b ≡ b'
+-- each envelope in lists, table and hands is one that was published before under its tag, but for the marks of redelivery
+abbrev pub MessagesWerePublished : History Heard → Type 0
+MessagesWerePublished h = (p : History Heard) (t b : Bytes) → IsHistoryPrefix p h → HasAnywhere plain_setting (after p) t b → IsPublished plain_setting (after p) t b
 
--- and it is that of an envelope which was published under the tag, or stood in the start: none does in that of a schedule
-abbrev pub MessagesHaveOrigins : History Heard → Type 0
-MessagesHaveOrigins h = (p : History Heard) (t b : Bytes) → IsHistoryPrefix p h → HasAnywhere plain_setting (after p) t b → HasOrigin plain_setting p t b
+-- what was published under a tag in the whole history is one envelope, but for the marks
+abbrev pub MessagesPublishedOnce : History Heard → Type 0
+MessagesPublishedOnce h = (t b b' : Bytes) → IsPublished plain_setting (after h) t b → IsPublished plain_setting (after h) t b' → b ≡ b'
+
+-- so all envelopes of a tag in lists, table and hands, at whatever moments, have one tree, but for the marks
+abbrev pub MessagesHaveOneTree : History Heard → Type 0
+MessagesHaveOneTree h = (p p' : History Heard) (t b b' : Bytes) → IsHistoryPrefix p h → IsHistoryPrefix p' h
+    → HasAnywhere plain_setting (after p) t b → HasAnywhere plain_setting (after p') t b' → b ≡ b'

@@ -9,6 +9,7 @@ use Rattle.queue_keys.specs.Names.{Bytes}
 use Rattle.queue_keys.specs.QueueKeys.{Among}
 use Rattle.command_blocks.specs.Setting.{Setting}
 use Rattle.place_model.specs.Counts.{total, in_held, has_field, has_member, field_of, start_count}
+use Rattle.place_model.specs.Identity.{HasEnvelope, In_a_list, In_the_table}
 use Rattle.place_model.specs.Starts.{IsSoundStart, IsListOrNone, IsHashOrNone, IsScoresOrNone, elements_of}
 use Rattle.place_theorem.proofs.Whole.{total-empty}
 
@@ -39,3 +40,8 @@ empty_start σ = record {
         let a : total (in_held σ t) (entries (empty {X = Held} {R = bytes_cmp})) ≡ 0 = total-empty bytes_cmp bytes_total bytes_anti (in_held σ t) in
         let b = ap (one_if t) (none σ.unacked) in
         omega (arith, a, b)
+
+-- and no envelope stands in it
+pub empty_none : (σ : Setting) (t b : Bytes) → HasEnvelope σ empty t b → ⊥
+empty_none σ t b (In_a_list k v q is tag body) = absurd (subst (λ o. Among v (elements_of (value_of o))) (none k) is)
+empty_none σ t b (In_the_table u is body) = let z : field_of None t ≡ Some u = subst (λ o. field_of (value_of o) t ≡ Some u) (none σ.unacked) is in absurd (cc z)

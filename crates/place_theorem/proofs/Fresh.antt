@@ -1,5 +1,5 @@
 -- A tag is published once, and what a client hasn't drawn stands nowhere.
-use Rattle.std.proofs.Common.{◌++◌, Bool, List, None, Option, Some, [], ap, arith, false, if◌then◌else◌, inl, inr, length, nat_cmp, nat_lt, refl, subst, sym, true, ℕ, ℤ, ◌<◌, ◌≤◌, ◌∙◌, ◌∷◌, ◌≡◌, ◌≢◌, ◌⊎◌}
+use Rattle.std.proofs.Common.{◌++◌, Bool, List, None, Option, Some, [], ap, append-nil, arith, false, if◌then◌else◌, inl, inr, length, nat_cmp, nat_lt, refl, subst, sym, true, ℕ, ℤ, ◌<◌, ◌≤◌, ◌∙◌, ◌∷◌, ◌≡◌, ◌≢◌, ◌⊎◌}
 use Rattle.std.proofs.lemmas.Cmp.{nat_cmp_total}
 use Rattle.std.specs.FinMap.{get, insert, nat_cmp-IsAntisymmetric}
 use Rattle.wire_values.specs.declared.value.Value.{Value}
@@ -276,6 +276,15 @@ module _ {N : Type 0} (σ : Full) (h p : History N) (sound : IsSound σ.names h)
       let g = grown o.0 o.1 o.2 in
       (o.0, g.0, g.1, subst (PushedIn σ.names t b) g.2.1 (pushed_more σ t b o.1.calls g.2.0 o.3))
 
+  -- what was published in the prefix is published in the whole
+  pub published_later : (t b : Bytes) → IsPublished σ.names (after p) t b → IsPublished σ.names (after h) t b
+  published_later t b o = subst (λ (x : History N). IsPublished σ.names (after x) t b) pre.1 (at_end t b o)
+
+  -- and what has its origin there has it so
+  pub origin_later : (t b : Bytes) → HasOrigin σ.names p t b → HasOrigin σ.names h t b
+  origin_later t b (inl old) = inl (subst (λ (x : History N). HasEnvelope σ.names x.start t b) pre.1 old)
+  origin_later t b (inr o) = inr (published_later t b o)
+
   one_body : (t b b' : Bytes) → IsPublished σ.names end t b → IsPublished σ.names end t b' → b ≡ b'
   one_body t b b' o o' =
       let ok = pushes_ok o.0 o.1 o.2 in
@@ -362,9 +371,9 @@ module _ {N : Type 0} (σ : Full) (h p : History N) (sound : IsSound σ.names h)
       let there = seed_start first (p.entries ++ pre.0) e.0 e.1.seed (e.1, e.2, refl) in
       (e.0, there.0, there.1, (j.0, j.2 ∙ ap (λ z. σ.names.tag z j.0) (sym there.2)))
 
-  -- all envelopes of a tag are one but for their marks
-  pub one_tree : (t b b' : Bytes) → HasAnywhere σ.names (after p) t b → HasAnywhere σ.names (after p) t b' → b ≡ b'
-  one_tree t b b' st st' = go (identity_anywhere σ h p t b sound pre st) (identity_anywhere σ h p t b' sound pre st')
+  -- what has its origin under one tag is one
+  pub one_origin : (t b b' : Bytes) → HasOrigin σ.names p t b → HasOrigin σ.names p t b' → b ≡ b'
+  one_origin t b b' st st' = go st st'
     where
       mixed : (x y : Bytes) → HasEnvelope σ.names p.start t x → IsPublished σ.names (after p) t y → ⊥
       mixed x y old o = let w = own_seed t y o in start_seed σ p.start p.used p.clients t x s.start s.table old w.0 w.1 w.2 w.3.0 w.3.1
@@ -374,3 +383,12 @@ module _ {N : Type 0} (σ : Full) (h p : History N) (sound : IsSound σ.names h)
       go (inl old) (inr o') = absurd (mixed b b' old o')
       go (inr o) (inl old') = absurd (mixed b' b old' o)
       go (inr o) (inr o') = one_publication t b b' o o'
+
+-- a history is a prefix of itself
+pub whole_prefix : {N : Type 0} (h : History N) → IsHistoryPrefix h h
+whole_prefix h = ([], ap (λ es. record h { entries = es }) (append-nil h.entries))
+
+-- all envelopes of a tag, at two moments of a history, are one but for their marks
+pub one_tree : {N : Type 0} (σ : Full) (h p p' : History N) → IsSound σ.names h → IsHistoryPrefix p h → IsHistoryPrefix p' h → (t b b' : Bytes) → HasAnywhere σ.names (after p) t b → HasAnywhere σ.names (after p') t b' → b ≡ b'
+one_tree σ h p p' sound pre pre' t b b' st st' =
+    one_origin σ h h sound (whole_prefix h) t b b' (origin_later σ h p sound pre t b (identity_anywhere σ h p t b sound pre st)) (origin_later σ h p' sound pre' t b' (identity_anywhere σ h p' t b' sound pre' st'))

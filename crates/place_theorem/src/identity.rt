@@ -18,16 +18,16 @@ pub fn origin<N>()
         → HasAnywhere σ (after p) t b → HasOrigin σ p t b }
 {}
 
-/// What is published under one tag has one body.
+/// What is published under one tag has one body, after each prefix of a history, so in the whole of it.
 pub fn one_publication<N>()
     ensures { (σ : Setting) → IsLawful σ → (h p : History N) (t b b' : Bytes) → IsSound σ h → IsHistoryPrefix p h
         → IsPublished σ (after p) t b → IsPublished σ (after p) t b' → b ≡ b' }
 {}
 
-/// So all envelopes of a tag in lists, table and hands have one body.
+/// So all envelopes of a tag in lists, table and hands have one body, at whatever moments of a history they stand there.
 pub fn one_tree<N>()
-    ensures { (σ : Setting) → IsLawful σ → (h p : History N) (t b b' : Bytes) → IsSound σ h → IsHistoryPrefix p h
-        → HasAnywhere σ (after p) t b → HasAnywhere σ (after p) t b' → b ≡ b' }
+    ensures { (σ : Setting) → IsLawful σ → (h p p' : History N) (t b b' : Bytes) → IsSound σ h → IsHistoryPrefix p h → IsHistoryPrefix p' h
+        → HasAnywhere σ (after p) t b → HasAnywhere σ (after p') t b' → b ≡ b' }
 {}
 
 /// A tag that a client hasn't drawn stands nowhere: nobody published it, and no list, no table, no saved start, no hand and no

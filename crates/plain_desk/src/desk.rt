@@ -58,6 +58,8 @@ impl Desk for PlainDesk {
 
     ghost goes = { λ s l t. LeadsOn s.conn (live_state s.store.spent s.store.state) l t.conn (live_state t.store.spent t.store.state) };
 
+    ghost refuses = { λ s words f t. IsPlainFault f };
+
     ghost fault = { λ s. s.standing.fault };
 
     ghost stopped = { λ s. s.standing.stopped };
@@ -80,6 +82,7 @@ impl Desk for PlainDesk {
         requires words { IsWithinLimits words.now }
         ensures ok { IfOk result (λ reply. LeadsOn self.old.conn (live_state self.old.store.spent self.old.store.state) (DidAsk at words.now reply ∷ []) self.new.conn (live_state self.new.store.spent self.new.store.state)) }
         ensures err { OnErr result (LeadsOn self.old.conn (live_state self.old.store.spent self.old.store.state) [] self.new.conn (live_state self.new.store.spent self.new.store.state)) }
+        ensures refused { IfErr result IsPlainFault }
         ensures shown { HasShown self.old.standing.fault self.old.standing.stopped self.new.standing.fault self.new.standing.stopped result }
         ensures kinds { IfErr result (IsFaultOf false false 0 0 0 0) }
         ensures counts { HasCounts 0 0 0 0 }

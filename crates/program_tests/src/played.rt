@@ -87,10 +87,7 @@ fn expect_each<R: Abort>(rt: &R, alloc: Global, front: &str, rows: &str) -> Resu
 fn a_bad_line_has_its_reason(rt: HostRuntime) -> Result<(), Fail> {
     let header = "celery-schedule 1\\n";
     expect_each(&rt, rt.alloc(), "", bad_lines::headers())?;
-    expect_each(&rt, rt.alloc(), header, bad_lines::each_reason())?;
-    expect_each(&rt, rt.alloc(), header, bad_lines::first_of_two())?;
-    expect_each(&rt, rt.alloc(), header, bad_lines::long_names())?;
-    Ok(expect_each(&rt, rt.alloc(), header, bad_lines::no_arguments())?)
+    Ok(expect_each(&rt, rt.alloc(), header, bad_lines::after_a_header())?)
 }
 
 /// Asserts a row's status, place and text.
@@ -122,11 +119,9 @@ fn wanted(alloc: Global, text: &str) -> Result<String, AllocError> {
 
 #[test]
 fn a_schedule_at_the_limits_ends_so(rt: HostRuntime) -> Result<(), Fail> {
-    for rows in [limits::lines(), limits::long_first(), limits::lawful()] {
-        for row in rows.split('\n') {
-            if !row.is_empty() {
-                expect_row(&rt, rt.alloc(), row)?;
-            }
+    for row in limits::at_limits().split('\n') {
+        if !row.is_empty() && !row.starts_with('#') {
+            expect_row(&rt, rt.alloc(), row)?;
         }
     }
     Ok(())
@@ -148,16 +143,25 @@ fn expect_report<R: Abort>(
     )
 }
 
-#[test]
-fn a_schedule_has_its_report(rt: HostRuntime) -> Result<(), Fail> {
-    for (schedule, report) in reports::reports() {
-        expect_report(&rt, rt.alloc(), schedule, report)?;
-    }
-    for (schedule, report) in returned::returns() {
-        expect_report(&rt, rt.alloc(), schedule, report)?;
-    }
-    for (schedule, report) in overdue::passes() {
-        expect_report(&rt, rt.alloc(), schedule, report)?;
+/// Asserts that the schedule of each row, which stands after its remark, has the report after it.
+fn expect_reports<R: Abort>(rt: &R, alloc: Global, rows: &str) -> Result<(), AllocError> {
+    for row in rows.split("\n# ") {
+        if !row.is_empty() {
+            let (_, row) = row.split_once('\n').expect(rt, "a remark");
+            let (schedule, lines) = row.split_once("celery-report 1\n").expect(rt, "a report");
+            let report = format!(in alloc; "celery-report 1\n{lines}\n")?;
+            expect_report(rt, alloc, schedule, report.as_str())?;
+        }
     }
     Ok(())
+}
+
+#[test]
+fn a_schedule_has_its_report(rt: HostRuntime) -> Result<(), Fail> {
+    for (schedule, report) in reports::shared() {
+        expect_report(&rt, rt.alloc(), schedule, report)?;
+    }
+    expect_reports(&rt, rt.alloc(), reports::reports())?;
+    expect_reports(&rt, rt.alloc(), returned::returns())?;
+    Ok(expect_reports(&rt, rt.alloc(), overdue::passes())?)
 }

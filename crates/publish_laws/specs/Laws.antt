@@ -7,6 +7,8 @@ use Rattle.queue_keys.specs.Names.{Bytes}
 use Rattle.schedule_model.specs.Drafts.{arguments_of, sealed_task}
 use Rattle.task_message.specs.Tasks.{TaskParts, task_of}
 use Rattle.client_plans.specs.Tasks.{published_task}
+use Rattle.publish_script.specs.Drafts.{timed_task}
+use Rattle.publish_script.specs.Scripts.{no_times}
 
 -- the bytes are an envelope that carries the task
 pub record CarriesTask (t : TaskParts) (v : Bytes) : Type 0 where
@@ -19,3 +21,8 @@ abbrev pub PublishLinesSendTasks : Type 0
 PublishLinesSendTasks = (s n : ℕ) (exchange routing_key : Bytes) (priority : ℕ) (task j v : Bytes)
     → 1 ≤ length task → sealed_task s n exchange routing_key priority task j ≡ Some v
     → (args : Data) × (arguments_of j ≡ Some args) × CarriesTask (published_task (tag s n) task args) v
+
+-- a publish line of a script that no moment stands before sends what the same line of a schedule sends
+abbrev pub PlainLinesAgree : Type 0
+PlainLinesAgree = (s n : ℕ) (exchange routing_key : Bytes) (priority : ℕ) (task j : Bytes)
+    → timed_task no_times s n exchange routing_key priority task j ≡ sealed_task s n exchange routing_key priority task j

@@ -1,10 +1,16 @@
-//! What the publish lines of a schedule send, as a law whose function has an empty body.
+//! What the publish lines of schedules and of scripts send, as laws whose functions have empty bodies.
 #![tactic(auto)]
 
-ghost use Rattle.publish_laws.specs.Laws.{PublishLinesSendTasks};
+ghost use Rattle.publish_laws.specs.Laws.{PlainLinesAgree, PublishLinesSendTasks};
 
 /// What a publish line sends is the text of an envelope, and the task that is read from it is that of the line: its name
 /// and its arguments, without keywords, never retried and at no moment, under the text of its tag as its id.
 pub fn publish_lines_send_tasks()
     ensures { PublishLinesSendTasks }
+{}
+
+/// A publish line of a script before which no moment stands sends what the same line of a schedule sends, by the same tag:
+/// so what is read from it is that line's task too.
+pub fn plain_lines_agree()
+    ensures { PlainLinesAgree }
 {}

@@ -12,6 +12,9 @@ use Rattle.command_blocks.specs.Blocks.{CounterUse, Drawing, Other, Passing, dra
 use Rattle.command_blocks.specs.Calls.{Call}
 use Rattle.command_blocks.specs.Scripts.{Plan, counter_use}
 use Rattle.desks.specs.Deeds.{Deed}
+use Rattle.desks.specs.declared.desk.DeskFault.{DeskFault}
+use Rattle.desks.specs.declared.desk.DeskFault.TheVariants as fault
+use Rattle.store_model.specs.Words.{Words}
 use Rattle.schedule_model.specs.Faults.{asked_tests, first_reason}
 use Rattle.schedule_model.specs.Lines.{declare_in, publish_in}
 use Rattle.schedule_model.specs.Schedules.{max_line, plan_of}
@@ -26,8 +29,8 @@ use Rattle.publish_script.specs.Readings.{plan_said}
 use Rattle.publish_script.specs.declared.reader.PublishStep.{PublishStep}
 use Rattle.publish_script.specs.declared.reader.PublishStep.TheVariants as says
 use Rattle.publish_run.specs.Blocks.{AreBlocksTold, HasCounter, IsBlockTold, IsNotWrong, drawn_after}
-use Rattle.publish_run.specs.Publishings.{HasSaidLine, HasSaidPlan, HasSaidScript, IsAmidScript, IsCause}
-use Rattle.publish_run.specs.Saids.{DeskShows, IsLater, StandsOpen, calls_said}
+use Rattle.publish_run.specs.Publishings.{HasSaidLine, HasSaidPlan, HasSaidScript, IsAmidScript, IsCause, IsCutNext}
+use Rattle.publish_run.specs.Saids.{DeskShows, HasCutAfter, IsLater, StandsOpen, calls_said}
 use Rattle.publish_run.specs.declared.ending.PublishingEnd.{PublishingEnd}
 use Rattle.publish_run.specs.declared.ending.PublishingEnd.TheVariants as end
 use Rattle.publish_run.proofs.Sayings.{calls-append, failed_since}
@@ -130,9 +133,27 @@ told_one s n (q ∷ ps) p calls block text line (b, rest, l, more, is, says, fir
   told_one s (drawn (counter_use q) n) ps p rest block more line others told,
 )
 
+-- ---- causes
+
+-- the same of a cut that tells of another
+pub cut_by : (Cut Cut2 : Words → DeskFault → Type 0) → ((words : Words) (f : DeskFault) → Cut words f → Cut2 words f) → (remote shared : Bool) (s n : ℕ) (left : List Plan) (calls : List Call) (shows shows2 : DeskShows) (f : DeskFault)
+    → IsCutNext Cut remote shared s n left calls shows shows2 f → IsCutNext Cut2 remote shared s n left calls shows shows2 f
+cut_by Cut Cut2 tells remote shared s n left calls shows shows2 f (words, next, cut, failed) = (words, next, tells words f cut, failed)
+
+pub cause_by : (Cut Cut2 : Words → DeskFault → Type 0) → ((words : Words) (f : DeskFault) → Cut words f → Cut2 words f) → (remote shared : Bool) (s n : ℕ) (left : List Plan) (calls : List Call) (shows shows2 : DeskShows) (old new : SinkView) (e : PublishingEnd)
+    → IsCause Cut remote shared s n left calls shows shows2 old new e → IsCause Cut2 remote shared s n left calls shows shows2 old new e
+cause_by Cut Cut2 tells remote shared s n left calls shows shows2 old new end.Published k = k
+cause_by Cut Cut2 tells remote shared s n left calls shows shows2 old new end.LinkFault ((f, links, c), same) = ((f, links, cut_by Cut Cut2 tells remote shared s n left calls shows shows2 f c), same)
+cause_by Cut Cut2 tells remote shared s n left calls shows shows2 old new (end.Refused answer) k = k
+cause_by Cut Cut2 tells remote shared s n left calls shows shows2 old new end.WriteFault k = k
+cause_by Cut Cut2 tells remote shared s n left calls shows shows2 old new end.Memory (inl c, same) = (inl (cut_by Cut Cut2 tells remote shared s n left calls shows shows2 fault.Memory c), same)
+cause_by Cut Cut2 tells remote shared s n left calls shows shows2 old new end.Memory (inr w, same) = (inr w, same)
+cause_by Cut Cut2 tells remote shared s n left calls shows shows2 old new (end.BadLine bad) k = absurd k
+cause_by Cut Cut2 tells remote shared s n left calls shows shows2 old new end.ReadFault k = absurd k
+
 -- ---- amid a script
 
-module _ {D : Type 0} (goes : D → List Deed → D → Type 0) (joins : (s t u : D) (l m : List Deed) → goes s l t → goes t m u → goes s (l ++ m) u) (remote shared : Bool) (s : ℕ) where
+module _ {D : Type 0} (goes : D → List Deed → D → Type 0) (joins : (s t u : D) (l m : List Deed) → goes s l t → goes t m u → goes s (l ++ m) u) (refuses : D → Words → DeskFault → D → Type 0) (remote shared : Bool) (s : ℕ) where
   pub amid_begun : (plans : List Plan) (desk : D) (sink : SinkView) (lines : List (ℕ × Bytes)) → goes desk [] desk → lines_script s false new_reader lines ≡ Blocks plans → IsAmidScript goes s plans desk desk sink sink new_reader lines
   amid_begun plans desk sink lines stays is = record {
     done = [];
@@ -180,7 +201,7 @@ module _ {D : Type 0} (goes : D → List Deed → D → Type 0) (joins : (s t u 
       next = subst (λ x. LeadsSo (λ e. lines_script s false e lines) x a.left) is ahead
 
       -- its block was said and told
-      pub amid_said : (desk3 : D) (new2 : SinkView) (shows shows2 : DeskShows) → HasSaidPlan goes remote shared s reader.drawn p desk2 desk3 shows shows2 new new2 (Ok tt) → IsAmidScript goes s plans desk desk3 old new2 r lines
+      pub amid_said : (desk3 : D) (new2 : SinkView) (shows shows2 : DeskShows) → HasSaidPlan goes refuses remote shared s reader.drawn p desk2 desk3 shows shows2 new new2 (Ok tt) → IsAmidScript goes s plans desk desk3 old new2 r lines
       amid_said desk3 new2 shows shows2 h = record {
         done = a.done ++ p ∷ [];
         left = next.0;
@@ -196,42 +217,54 @@ module _ {D : Type 0} (goes : D → List Deed → D → Type 0) (joins : (s t u 
         calm = h.taken.1 ∙ a.calm;
       }
 
-      cause_on : (shows shows2 shows3 : DeskShows) (calls : List Call) (new2 : SinkView) (e : PublishingEnd) → IsLater shows shows2 → IsCause remote shared s reader.drawn (p ∷ []) calls shows2 shows3 new new2 e → IsCause remote shared s (drawn_after 0 a.done) a.left calls shows shows3 new new2 e
-      cause_on shows shows2 shows3 calls new2 e later h = subst (λ l. IsCause remote shared s (drawn_after 0 a.done) l calls shows shows3 new new2 e) (sym next.1) (subst (λ k. IsCause remote shared s k (p ∷ next.0) calls shows shows3 new new2 e) a.counts (by e h)) where
-        by : (e : PublishingEnd) → IsCause remote shared s reader.drawn (p ∷ []) calls shows2 shows3 new new2 e → IsCause remote shared s reader.drawn (p ∷ next.0) calls shows shows3 new new2 e
+      -- its cause is the script's, seen from where the script began
+      cause_on : (Cut : Words → DeskFault → Type 0) (shows shows2 shows3 : DeskShows) (calls : List Call) (new2 : SinkView) (e : PublishingEnd) → IsLater shows shows2 → IsCause Cut remote shared s reader.drawn (p ∷ []) calls shows2 shows3 new new2 e
+          → IsCause Cut remote shared s (drawn_after 0 a.done) a.left calls shows shows3 new new2 e
+      cause_on Cut shows shows2 shows3 calls new2 e later h = subst (λ l. IsCause Cut remote shared s (drawn_after 0 a.done) l calls shows shows3 new new2 e) (sym next.1) (subst (λ k. IsCause Cut remote shared s k (p ∷ next.0) calls shows shows3 new new2 e) a.counts (by e h)) where
+        cut : (f : DeskFault) → IsCutNext Cut remote shared s reader.drawn (p ∷ []) calls shows2 shows3 f → IsCutNext Cut remote shared s reader.drawn (p ∷ next.0) calls shows shows3 f
+        cut f (words, goes_on, so, failed) = (words, goes_on, so, failed_since remote shared shows shows2 shows3 f later failed)
+
+        by : (e : PublishingEnd) → IsCause Cut remote shared s reader.drawn (p ∷ []) calls shows2 shows3 new new2 e → IsCause Cut remote shared s reader.drawn (p ∷ next.0) calls shows shows3 new new2 e
         by end.Published k = absurd (no_plan p k.0)
           where
             no_plan : (q : Plan) → ◌≡◌ {A = List Plan} (q ∷ []) [] → ⊥
             no_plan q x = cc
-        by end.LinkFault k = (k.0, (k.1.0, k.1.1, failed_since remote shared shows shows2 shows3 k.1.0 later k.1.2), k.2)
+        by end.LinkFault ((f, links, c), same) = ((f, links, cut f c), same)
         by (end.Refused answer) k = k
         by end.WriteFault k = k
-        by end.Memory k = k
+        by end.Memory (inl c, same) = (inl (cut fault.Memory c), same)
+        by end.Memory (inr w, same) = (inr w, same)
         by (end.BadLine bad) k = absurd k
         by end.ReadFault k = absurd k
 
       -- saying ended amid it
-      pub stopped_amid : (desk3 : D) (new2 : SinkView) (shows shows2 shows3 : DeskShows) (e : PublishingEnd) → IsLater shows shows2 → HasSaidPlan goes remote shared s reader.drawn p desk2 desk3 shows2 shows3 new new2 (Err e)
-          → HasSaidScript goes remote shared s 0 plans desk desk3 shows shows3 old new2 e
-      stopped_amid desk3 new2 shows shows2 shows3 e later h = record {
-        done = a.done;
-        left = a.left;
-        all = a.all;
-        deeds = a.deeds;
-        amid = h.deeds;
-        went = joins desk desk2 desk3 a.deeds h.deeds a.went h.went;
-        text = a.text;
-        told = a.told;
-        between = new;
-        written = a.written;
-        calm = a.calm;
-        cause = cause_on shows shows2 shows3 (calls_said h.deeds) new2 e later h.taken;
-      }
+      pub stopped_amid : (desk3 : D) (new2 : SinkView) (shows shows2 shows3 : DeskShows) (e : PublishingEnd) → IsLater shows shows2 → HasSaidPlan goes refuses remote shared s reader.drawn p desk2 desk3 shows2 shows3 new new2 (Err e)
+          → HasSaidScript goes refuses remote shared s 0 plans desk desk3 shows shows3 old new2 e
+      stopped_amid desk3 new2 shows shows2 shows3 e later h = by where
+        since : (words : Words) (f : DeskFault) → HasCutAfter goes refuses desk2 h.deeds desk3 words f → HasCutAfter goes refuses desk (a.deeds ++ h.deeds) desk3 words f
+        since words f (mid, went, cut) = (mid, joins desk desk2 mid a.deeds h.deeds a.went went, cut)
+
+        by : HasSaidScript goes refuses remote shared s 0 plans desk desk3 shows shows3 old new2 e
+        by = record {
+          done = a.done;
+          left = a.left;
+          all = a.all;
+          deeds = a.deeds;
+          amid = h.deeds;
+          went = joins desk desk2 desk3 a.deeds h.deeds a.went h.went;
+          text = a.text;
+          told = a.told;
+          between = new;
+          written = a.written;
+          calm = a.calm;
+          cause = cause_on (HasCutAfter goes refuses desk (a.deeds ++ h.deeds) desk3) shows shows2 shows3 (calls_said h.deeds) new2 e later
+              (cause_by (HasCutAfter goes refuses desk2 h.deeds desk3) (HasCutAfter goes refuses desk (a.deeds ++ h.deeds) desk3) since remote shared s reader.drawn (p ∷ []) (calls_said h.deeds) shows2 shows3 new new2 e h.taken);
+        }
 
   module _ (plans : List Plan) (desk desk2 : D) (old new : SinkView) (reader : ScriptReader) (lines : List (ℕ × Bytes)) (a : IsAmidScript goes s plans desk desk2 old new reader lines) where
     -- there was no memory for the next line
-    pub stopped_before : (shows shows2 : DeskShows) → HasSaidScript goes remote shared s 0 plans desk desk2 shows shows2 old new end.Memory
-    stopped_before shows shows2 = record {
+    pub stopped_before : (shows shows2 : DeskShows) → StandsOpen shows2 → HasSaidScript goes refuses remote shared s 0 plans desk desk2 shows shows2 old new end.Memory
+    stopped_before shows shows2 opened = record {
       done = a.done;
       left = a.left;
       all = a.all;
@@ -243,11 +276,11 @@ module _ {D : Type 0} (goes : D → List Deed → D → Type 0) (joins : (s t u 
       between = new;
       written = a.written;
       calm = a.calm;
-      cause = (inl refl, refl);
+      cause = (inr (opened, inl refl), refl);
     }
 
     -- no line is left
-    pub said_all : (shows shows2 : DeskShows) → StandsOpen shows2 → lines ≡ [] → HasSaidScript goes remote shared s 0 plans desk desk2 shows shows2 old new end.Published
+    pub said_all : (shows shows2 : DeskShows) → StandsOpen shows2 → lines ≡ [] → HasSaidScript goes refuses remote shared s 0 plans desk desk2 shows shows2 old new end.Published
     said_all shows shows2 opened none = record {
       done = a.done;
       left = a.left;
@@ -269,9 +302,9 @@ module _ {D : Type 0} (goes : D → List Deed → D → Type 0) (joins : (s t u 
 
 -- ---- one line
 
-module _ {D : Type 0} (goes : D → List Deed → D → Type 0) (remote shared : Bool) (s n : ℕ) (step : ScriptStep) (reader : ScriptReader) (desk desk2 : D) (shows shows2 : DeskShows) (old new : SinkView) where
+module _ {D : Type 0} (goes : D → List Deed → D → Type 0) (refuses : D → Words → DeskFault → D → Type 0) (remote shared : Bool) (s n : ℕ) (step : ScriptStep) (reader : ScriptReader) (desk desk2 : D) (shows shows2 : DeskShows) (old new : SinkView) where
   -- the block of a line was said, as far as it came
-  pub line_said : (p : Plan) (result : Result ⊤ PublishingEnd) → step ≡ Says reader p → HasSaidPlan goes remote shared s n p desk desk2 shows shows2 old new result → HasSaidLine goes remote shared s n step reader desk desk2 shows shows2 old new result
+  pub line_said : (p : Plan) (result : Result ⊤ PublishingEnd) → step ≡ Says reader p → HasSaidPlan goes refuses remote shared s n p desk desk2 shows shows2 old new result → HasSaidLine goes refuses remote shared s n step reader desk desk2 shows shows2 old new result
   line_said p (Ok u) is h = inr (p, is, h)
   line_said p (Err e) is h = inr (reader, p, is, h)
 
@@ -289,32 +322,32 @@ counter_said n counter (says.Declare d) is = by d.change
 
 -- ---- from line to line
 
-module _ {D : Type 0} (goes : D → List Deed → D → Type 0) (joins : (s t u : D) (l m : List Deed) → goes s l t → goes t m u → goes s (l ++ m) u) (remote shared : Bool) (s : ℕ)
+module _ {D : Type 0} (goes : D → List Deed → D → Type 0) (joins : (s t u : D) (l m : List Deed) → goes s l t → goes t m u → goes s (l ++ m) u) (refuses : D → Words → DeskFault → D → Type 0) (remote shared : Bool) (s : ℕ)
     (plans : List Plan) (desk desk2 desk3 : D) (old new new2 : SinkView) (shows shows2 shows3 : DeskShows) (reader reader2 : ScriptReader) (n : ℕ) (line : Bytes) (before lines : List (ℕ × Bytes))
     (amid : IsAmidScript goes s plans desk desk2 old new reader before) (is : before ≡ (n, line) ∷ lines) where
   here : IsAmidScript goes s plans desk desk2 old new reader ((n, line) ∷ lines)
   here = subst (IsAmidScript goes s plans desk desk2 old new reader) is amid
 
   pub good_line : IsNotWrong (line_step s reader line)
-  good_line = good_next goes joins remote shared s plans desk desk2 old new reader n line lines here
+  good_line = good_next goes joins refuses remote shared s plans desk desk2 old new reader n line lines here
 
-  pub amid_next : HasSaidLine goes remote shared s reader.drawn (line_step s reader line) reader2 desk2 desk3 shows2 shows3 new new2 (Ok tt) → IsAmidScript goes s plans desk desk3 old new2 reader2 lines
+  pub amid_next : HasSaidLine goes refuses remote shared s reader.drawn (line_step s reader line) reader2 desk2 desk3 shows2 shows3 new new2 (Ok tt) → IsAmidScript goes s plans desk desk3 old new2 reader2 lines
   amid_next (inl (step, same, quiet)) =
       subst (λ d. IsAmidScript goes s plans desk d old new2 reader2 lines) (sym same)
       (subst (λ v. IsAmidScript goes s plans desk desk2 old v reader2 lines) (sym quiet)
-      (amid_noted goes joins remote shared s plans desk desk2 old new reader n line lines here reader2 step))
-  amid_next (inr (p, step, said)) = amid_said goes joins remote shared s plans desk desk2 old new reader n line lines here reader2 p step desk3 new2 shows2 shows3 said
+      (amid_noted goes joins refuses remote shared s plans desk desk2 old new reader n line lines here reader2 step))
+  amid_next (inr (p, step, said)) = amid_said goes joins refuses remote shared s plans desk desk2 old new reader n line lines here reader2 p step desk3 new2 shows2 shows3 said
 
-  pub stops_next : (e : PublishingEnd) → IsLater shows shows2 → HasSaidLine goes remote shared s reader.drawn (line_step s reader line) reader2 desk2 desk3 shows2 shows3 new new2 (Err e) → HasSaidScript goes remote shared s 0 plans desk desk3 shows shows3 old new2 e
-  stops_next e later (inl (memory, same, quiet)) =
-      subst (λ d. HasSaidScript goes remote shared s 0 plans desk d shows shows3 old new2 e) (sym same)
-      (subst (λ v. HasSaidScript goes remote shared s 0 plans desk desk2 shows shows3 old v e) (sym quiet)
-      (subst (HasSaidScript goes remote shared s 0 plans desk desk2 shows shows3 old new) (sym memory)
-      (stopped_before goes joins remote shared s plans desk desk2 old new reader ((n, line) ∷ lines) here shows shows3)))
-  stops_next e later (inr (r, p, step, said)) = stopped_amid goes joins remote shared s plans desk desk2 old new reader n line lines here r p step desk3 new2 shows shows2 shows3 e later said
+  pub stops_next : (e : PublishingEnd) → IsLater shows shows2 → HasSaidLine goes refuses remote shared s reader.drawn (line_step s reader line) reader2 desk2 desk3 shows2 shows3 new new2 (Err e) → HasSaidScript goes refuses remote shared s 0 plans desk desk3 shows shows3 old new2 e
+  stops_next e later (inl (memory, same, opened, quiet)) =
+      subst (λ d. HasSaidScript goes refuses remote shared s 0 plans desk d shows shows3 old new2 e) (sym same)
+      (subst (λ v. HasSaidScript goes refuses remote shared s 0 plans desk desk2 shows shows3 old v e) (sym quiet)
+      (subst (HasSaidScript goes refuses remote shared s 0 plans desk desk2 shows shows3 old new) (sym memory)
+      (stopped_before goes joins refuses remote shared s plans desk desk2 old new reader ((n, line) ∷ lines) here shows shows3 opened)))
+  stops_next e later (inr (r, p, step, said)) = stopped_amid goes joins refuses remote shared s plans desk desk2 old new reader n line lines here r p step desk3 new2 shows shows2 shows3 e later said
 
 -- the desk stays open after a line
-pub open_after : {D : Type 0} (goes : D → List Deed → D → Type 0) (remote shared : Bool) (s n : ℕ) (step : ScriptStep) (reader : ScriptReader) (desk desk2 : D) (show : D → DeskShows) (old new : SinkView)
-    → StandsOpen (show desk) → HasSaidLine goes remote shared s n step reader desk desk2 (show desk) (show desk2) old new (Ok tt) → StandsOpen (show desk2)
-open_after goes remote shared s n step reader desk desk2 show old new opened (inl (is, same, quiet)) = subst (λ d. StandsOpen (show d)) (sym same) opened
-open_after goes remote shared s n step reader desk desk2 show old new opened (inr (p, is, said)) = said.taken.2
+pub open_after : {D : Type 0} (goes : D → List Deed → D → Type 0) (refuses : D → Words → DeskFault → D → Type 0) (remote shared : Bool) (s n : ℕ) (step : ScriptStep) (reader : ScriptReader) (desk desk2 : D) (show : D → DeskShows) (old new : SinkView)
+    → StandsOpen (show desk) → HasSaidLine goes refuses remote shared s n step reader desk desk2 (show desk) (show desk2) old new (Ok tt) → StandsOpen (show desk2)
+open_after goes refuses remote shared s n step reader desk desk2 show old new opened (inl (is, same, quiet)) = subst (λ d. StandsOpen (show d)) (sym same) opened
+open_after goes refuses remote shared s n step reader desk desk2 show old new opened (inr (p, is, said)) = said.taken.2

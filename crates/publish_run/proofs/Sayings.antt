@@ -17,7 +17,7 @@ use Rattle.desks.specs.Deeds.{Deed, DidAsk, DidNote, DidStop}
 use Rattle.desks.specs.Faults.{HasCounts, IsFaultOf}
 use Rattle.desks.specs.declared.desk.DeskFault.{DeskFault}
 use Rattle.desks.specs.declared.desk.DeskFault.TheVariants as fault
-use Rattle.publish_run.specs.Saids.{DeskShows, EndsWith, HasFailed, HasHeardReply, HasSaidBlock, HasSaidOne, IsAmid, IsLater, IsSaidBlock, IsSaidOne, StandsOpen, calls_said}
+use Rattle.publish_run.specs.Saids.{DeskShows, EndsWith, HasCutAfter, HasFailed, HasHeardReply, HasSaidBlock, HasSaidOne, IsAmid, IsLater, IsSaidBlock, IsSaidOne, StandsOpen, calls_said}
 use Rattle.publish_run.specs.declared.saying.SayFault.{SayFault}
 use Rattle.publish_run.specs.declared.saying.SayFault.TheVariants.{Desk, Memory, Refused}
 
@@ -50,7 +50,7 @@ pub later_on : (a b c : DeskShows) → IsLater a b → IsLater b c → IsLater a
 later_on a b c h k = record { faults = omega (arith, h.faults, k.faults); ends = omega (arith, h.ends, k.ends) }
 
 pub failed_since : (remote shared : Bool) (a b c : DeskShows) (f : DeskFault) → IsLater a b → HasFailed remote shared b c f → HasFailed remote shared a c f
-failed_since remote shared a b c f later h = record { shown = h.shown; cause = cause_since remote shared a.faults b.faults c.faults a.ends b.ends c.ends f later.faults later.ends h.cause }
+failed_since remote shared a b c f later h = record { shown = h.shown; cause = cause_since remote shared a.faults b.faults c.faults a.ends b.ends c.ends f later.faults later.ends h.cause; timely = h.timely }
 
 -- ---- a block's commands
 
@@ -72,14 +72,14 @@ on_ok P (Err e) p = tt
 pub later_counts : (fault fault2 : Option DeskFault) (stopped stopped2 : Bool) (a b x y : ℕ) → HasCounts a b x y → IsLater (record { fault = fault; stopped = stopped; faults = a; ends = x }) (record { fault = fault2; stopped = stopped2; faults = b; ends = y })
 later_counts fault fault2 stopped stopped2 a b x y h = record { faults = h.later_faults; ends = h.later_ends }
 
-module _ {D S E : Type 0} (goes : D → List Deed → D → Type 0) (joins : (s t u : D) (l m : List Deed) → goes s l t → goes t m u → goes s (l ++ m) u) (remote shared : Bool)
+module _ {D S E : Type 0} (goes : D → List Deed → D → Type 0) (joins : (s t u : D) (l m : List Deed) → goes s l t → goes t m u → goes s (l ++ m) u) (refuses : D → Words → DeskFault → D → Type 0) (remote shared : Bool)
     (left : S → Script) (had : Plan → List Call → S → Type 0) (tell : Plan → List Call → E → Type 0) (s p : ℕ) (plan : Plan) where
   pub amid_first : (desk : D) (core : BlockCore S E) → goes desk [] desk → HasHad left had tell s p plan [] core → IsAmid goes left had tell s p plan desk desk core
   amid_first desk core stays h = record { deeds = []; went = stays; had_so = h }
 
   module _ (desk desk2 desk3 : D) (core core2 : BlockCore S E) (shows shows2 shows3 : DeskShows) (a : IsAmid goes left had tell s p plan desk desk2 core) where
     -- one command more
-    pub amid_on : HasSaidOne goes remote shared left had tell s p plan (calls_said a.deeds) desk2 desk3 shows2 shows3 core2 (Ok tt) → IsAmid goes left had tell s p plan desk desk3 core2
+    pub amid_on : HasSaidOne goes refuses remote shared left had tell s p plan (calls_said a.deeds) desk2 desk3 shows2 shows3 core2 (Ok tt) → IsAmid goes left had tell s p plan desk desk3 core2
     amid_on h = record {
       deeds = a.deeds ++ h.deeds;
       went = joins desk desk2 desk3 a.deeds h.deeds a.went h.went;
@@ -89,39 +89,38 @@ module _ {D S E : Type 0} (goes : D → List Deed → D → Type 0) (joins : (s 
     ends_later : (front calls : List Call) (answer : Value) → EndsWith calls answer → EndsWith (front ++ calls) answer
     ends_later front calls answer (before, at, words, is) = (front ++ before, at, words, ap (λ l. front ++ l) is ∙ sym (append_assoc front before (call at words answer ∷ [])))
 
-    come_so : (f : SayFault) (deeds more : List Deed) (rest : Script) → IsLater shows shows2 → (deeds ≡ [] → rest ≡ Off → ⊥) → IsSaidOne remote shared shows2 shows3 deeds rest (Err f) → IsSaidBlock remote shared (tell plan) shows shows3 (more ++ deeds) rest (Err f)
-    come_so (Desk f) deeds more rest later on h = (failed_since remote shared shows shows2 shows3 f later h.0, on h.1)
-    come_so (Refused answer) deeds more rest later on h = (h.0, h.1, subst (λ l. EndsWith l answer) (sym (calls-append more deeds)) (ends_later (calls_said more) (calls_said deeds) answer h.2))
-    come_so Memory deeds more rest later on h = h
+    -- up to where nothing more was said
+    gone : (deeds : List Deed) → deeds ≡ [] → goes desk (a.deeds ++ deeds) desk2
+    gone deeds none = subst (λ l. goes desk l desk2) (sym (ap (λ l. a.deeds ++ l) none ∙ append-nil a.deeds)) a.went
 
-    -- saying ended amid the block; where nothing more was said it hadn't been off
-    pub amid_end : (f : SayFault) → IsLater shows shows2 → (core_left left core ≡ Off → ⊥) → HasSaidOne goes remote shared left had tell s p plan (calls_said a.deeds) desk2 desk3 shows2 shows3 core2 (Err f)
-        → HasSaidBlock goes remote shared tell s p plan desk desk3 shows shows3 (Err f)
-    amid_end f later on h = record {
+    come_so : (f : SayFault) (deeds : List Deed) (rest : Script) → IsLater shows shows2 → IsSaidOne (λ words g. refuses desk2 words g desk3) remote shared shows2 shows3 deeds rest (Err f)
+        → IsSaidBlock (HasCutAfter goes refuses desk (a.deeds ++ deeds) desk3) remote shared (tell plan) shows shows3 (a.deeds ++ deeds) rest (Err f)
+    come_so (Desk f) deeds rest later (failed, none, (words, next, cut)) = (failed_since remote shared shows shows2 shows3 f later failed, (words, next, (desk2, gone deeds none, cut)))
+    come_so (Refused answer) deeds rest later h = (h.0, h.1, subst (λ l. EndsWith l answer) (sym (calls-append a.deeds deeds)) (ends_later (calls_said a.deeds) (calls_said deeds) answer h.2))
+    come_so Memory deeds rest later h = h
+
+    -- saying ended amid the block
+    pub amid_end : (f : SayFault) → IsLater shows shows2 → HasSaidOne goes refuses remote shared left had tell s p plan (calls_said a.deeds) desk2 desk3 shows2 shows3 core2 (Err f)
+        → HasSaidBlock goes refuses remote shared tell s p plan desk desk3 shows shows3 (Err f)
+    amid_end f later h = record {
       deeds = a.deeds ++ h.deeds;
       rest = h.rest;
       went = joins desk desk2 desk3 a.deeds h.deeds a.went h.went;
       trace = subst (λ l. IsTrace (script_of plain_setting s p plan) l h.rest) (sym (calls-append a.deeds h.deeds)) h.trace;
-      come = come_so f h.deeds a.deeds h.rest later (same h.deeds h.rest h.trace) h.come;
+      come = come_so f h.deeds h.rest later h.come;
     }
-      where
-        -- a trace of the same calls leaves the same
-        same : (deeds : List Deed) (rest : Script) → IsTrace (script_of plain_setting s p plan) (calls_said a.deeds ++ calls_said deeds) rest → deeds ≡ [] → rest ≡ Off → ⊥
-        same deeds rest t none off =
-            let calls : calls_said a.deeds ++ calls_said deeds ≡ calls_said a.deeds = ap (λ l. calls_said a.deeds ++ calls_said l) none ∙ append-nil (calls_said a.deeds) in
-            on (a.had_so.trace.left ∙ sym (subst (λ l. IsTrace (script_of plain_setting s p plan) l rest) calls t).left ∙ off)
 
     -- there was no memory to go on, or it was whole
-    pub amid_memory : StandsOpen shows2 → HasSaidBlock goes remote shared tell s p plan desk desk2 shows shows2 (Err Memory)
+    pub amid_memory : StandsOpen shows2 → HasSaidBlock goes refuses remote shared tell s p plan desk desk2 shows shows2 (Err Memory)
     amid_memory opened = record { deeds = a.deeds; rest = core_left left core; went = a.went; trace = a.had_so.trace; come = opened }
 
-    pub amid_whole : (end : E) → StandsOpen shows2 → core_left left core ≡ Over → tell plan (calls_said a.deeds) end → HasSaidBlock goes remote shared tell s p plan desk desk2 shows shows2 (Ok end)
+    pub amid_whole : (end : E) → StandsOpen shows2 → core_left left core ≡ Over → tell plan (calls_said a.deeds) end → HasSaidBlock goes refuses remote shared tell s p plan desk desk2 shows shows2 (Ok end)
     amid_whole end opened over told = record { deeds = a.deeds; rest = core_left left core; went = a.went; trace = a.had_so.trace; come = (opened, over, told) }
 
   -- one command was said, and this came of its reply
   pub said_one : (desk desk2 : D) (core core2 : BlockCore S E) (shows shows2 : DeskShows) (calls : List Call) (words : Words) (reply : Reply) (result : Result ⊤ SayFault)
       → goes desk (DidAsk 0 words reply ∷ []) desk2 → StandsOpen shows2 → HasHad left had tell s p plan calls core → next_words (core_left left core) 0 ≡ Some words → HasHeardReply left had tell s p plan calls words reply core2 result
-      → HasSaidOne goes remote shared left had tell s p plan calls desk desk2 shows shows2 core2 result
+      → HasSaidOne goes refuses remote shared left had tell s p plan calls desk desk2 shows shows2 core2 result
   said_one desk desk2 core core2 shows shows2 calls words reply (Ok u) went opened h next heard = record {
     deeds = DidAsk 0 words reply ∷ [];
     rest = core_left left core2;
@@ -149,20 +148,21 @@ module _ {D S E : Type 0} (goes : D → List Deed → D → Type 0) (joins : (s 
   said_one desk desk2 core core2 shows shows2 calls words reply (Err (Desk f)) went opened h next heard = absurd heard
 
   -- the desk took no command
-  pub said_none : (desk desk2 : D) (core : BlockCore S E) (shows shows2 : DeskShows) (calls : List Call) (f : DeskFault) → goes desk [] desk2 → HasFailed remote shared shows shows2 f → HasHad left had tell s p plan calls core
-      → HasSaidOne goes remote shared left had tell s p plan calls desk desk2 shows shows2 core (Err (Desk f))
-  said_none desk desk2 core shows shows2 calls f went failed h = record {
+  pub said_none : (desk desk2 : D) (core : BlockCore S E) (shows shows2 : DeskShows) (calls : List Call) (words : Words) (f : DeskFault) → goes desk [] desk2 → refuses desk words f desk2 → next_words (core_left left core) 0 ≡ Some words
+      → HasFailed remote shared shows shows2 f → HasHad left had tell s p plan calls core
+      → HasSaidOne goes refuses remote shared left had tell s p plan calls desk desk2 shows shows2 core (Err (Desk f))
+  said_none desk desk2 core shows shows2 calls words f went cut next failed h = record {
     deeds = [];
     rest = core_left left core;
     went = went;
     trace = subst (λ l. IsTrace (script_of plain_setting s p plan) l (core_left left core)) (sym (append-nil calls)) h.trace;
-    come = (failed, refl);
+    come = (failed, refl, (words, next, cut));
     kept = tt;
   }
 
   -- there was no memory for the next command
   pub said_nothing : (desk : D) (core : BlockCore S E) (shows : DeskShows) (calls : List Call) → goes desk [] desk → StandsOpen shows → HasHad left had tell s p plan calls core
-      → HasSaidOne goes remote shared left had tell s p plan calls desk desk shows shows core (Err Memory)
+      → HasSaidOne goes refuses remote shared left had tell s p plan calls desk desk shows shows core (Err Memory)
   said_nothing desk core shows calls stays opened h = record {
     deeds = [];
     rest = core_left left core;

@@ -42,6 +42,11 @@ abbrev pub BeginsNext : ℕ → ℕ → List Plan → List Call → Type 0
 BeginsNext s n [] calls = calls ≡ []
 BeginsNext s n (p ∷ ps) calls = (more : List Call) × IsPlanBlock plain_setting s n 0 p (calls ++ more)
 
+-- these calls begin the block of the next of these plans, and then go on with a command of these words
+abbrev pub IsNextCommand : ℕ → ℕ → List Plan → List Call → Words → Type 0
+IsNextCommand s n [] calls words = ⊥
+IsNextCommand s n (p ∷ ps) calls words = (answer : Value) × (more : List Call) × IsPlanBlock plain_setting s n 0 p (calls ++ call 0 words answer ∷ more)
+
 -- these calls begin no block of a plan; with another answer to the last of them, in place of this one, they would
 pub record IsUnlistedIn (s n : ℕ) (p : Plan) (calls : List Call) (answer : Value) : Type 0 where
   pub before : List Call

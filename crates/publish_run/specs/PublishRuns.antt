@@ -1,21 +1,22 @@
 -- How a run of publishing ends, by what it read, what its link carried and what it wrote.
-use Rattle.std.specs.Prelude.{◌≡◌, ◌≤◌, ◌+◌, ◌⊎◌, ℕ, Bool, List, [], Option, Some, Result, Ok, Err, true, false}
+use Rattle.std.specs.Prelude.{◌≡◌, ◌≤◌, ◌+◌, ◌⊎◌, ℕ, List, [], Option, Result, Ok, Err, true, false}
 use Rattle.links.specs.Causes.{Rose}
 use Rattle.links.specs.Ends.{HasReadUpTo, IsPast, IsWholeInput}
 use Rattle.links.specs.Views.{SinkView, SourceView}
 use Rattle.net_links.specs.LinkViews.{LinkView}
-use Rattle.net_links.specs.NetCauses.{HasClosedFaults, HasNetCause}
+use Rattle.net_links.specs.NetCauses.{HasClosedFaults}
 use Rattle.net_links.specs.Traffics.{ClosesOne, IsFresh, KeepsClosed}
 use Rattle.command_blocks.specs.Scripts.{Plan}
 use Rattle.queue_keys.specs.Names.{Bytes}
 use Rattle.resp_wire.specs.Stands.{Stands}
 use Rattle.schedule_model.specs.Schedules.{max_input}
-use Rattle.link_desk.specs.LinkDeeds.{CarriesDeeds, LinkDeskView, is_open}
+use Rattle.link_desk.specs.Exchanges.{RefusesWords}
+use Rattle.link_desk.specs.LinkDeeds.{CarriesDeeds, LinkDeskView, StandsReady, standing_of}
 use Rattle.publish_script.specs.Scripts.{Blocks, Wrong_line, script_told}
 use Rattle.publish_run.specs.Publishings.{HasSaidScript}
 use Rattle.publish_run.specs.Saids.{DeskShows}
 use Rattle.publish_run.specs.declared.ending.PublishingEnd.{PublishingEnd}
-use Rattle.publish_run.specs.declared.ending.PublishingEnd.TheVariants.{BadLine, LinkFault, Memory, Published, ReadFault, Refused, WriteFault}
+use Rattle.publish_run.specs.declared.ending.PublishingEnd.TheVariants.{BadLine, LinkFault, Memory, ReadFault}
 
 -- a net at one moment: what the links told that it closed, where it tells it, its count of faults, and the count of links that were closed with a fault or an end
 pub record NetShows : Type 0 where
@@ -61,12 +62,12 @@ pub record HasCarried (s : ℕ) (plans : List Plan) (link link2 : LinkView) (old
   pub shows : DeskShows
   pub shows2 : DeskShows
   -- the desk begins open, with nothing unread
-  pub opened : desk.takes ≡ true
+  pub opened : desk.standing ≡ StandsReady
   pub stands : Stands desk.decoder 0 []
   pub begins : (desk.sent ≡ link.sent) × (desk.received ≡ link.received) × (shows.faults ≡ link.faults) × (shows.ends ≡ link.ends)
-  pub takes : desk2.takes ≡ is_open shows2.fault shows2.stopped
+  pub stands2 : desk2.standing ≡ standing_of shows2.fault shows2.stopped
   pub ends : (desk2.sent ≡ link2.sent) × (desk2.received ≡ link2.received) × (shows2.faults ≡ link2.faults) × (shows2.ends ≡ link2.ends)
-  pub said : HasSaidScript CarriesDeeds true false s 0 plans desk desk2 shows shows2 old new end
+  pub said : HasSaidScript CarriesDeeds RefusesWords true false s 0 plans desk desk2 shows shows2 old new end
 
 -- one link was opened, which nobody had used; the blocks of the plans were said over it, and told, up to where it ended so; and it was closed
 pub record HasLinked (s : ℕ) (plans : List Plan) (before after : NetShows) (old new : SinkView) (end : PublishingEnd) : Type 0 where

@@ -132,7 +132,7 @@ fn say_script<D: Desk, K: Sink>(
     requires open { IsOpen (D.fault desk.old) (D.stopped desk.old) }
     requires good { (plans : Listed Plan) × (script_told seed bytes.now ≡ Blocks plans) }
     ensures said { (plans : Listed Plan) × (script_told seed bytes.now ≡ Blocks plans)
-        × HasSaidScript D.goes D.remote D.shared seed 0 plans desk.old desk.new
+        × HasSaidScript D.goes D.refuses D.remote D.shared seed 0 plans desk.old desk.new
         (desk_shows D.fault D.stopped D.faults D.ends desk.old) (desk_shows D.fault D.stopped D.faults D.ends desk.new)
         (sink_view K.taken K.write_faults out.old) (sink_view K.taken K.write_faults out.new) result }
 {

@@ -42,7 +42,7 @@ pub fn say_block<D: Desk, S: Stage>(
     ensures later { IsLater (desk_shows D.fault D.stopped D.faults D.ends desk.old) (desk_shows D.fault D.stopped D.faults D.ends desk.new) }
     // Of whatever plan the core is: its calls are the front of a block, or the whole block.
     ensures said { (s p : ℕ) (plan : Plan) → HasHad S.left S.had S.tells s p plan [] core.old
-        → HasSaidBlock D.goes D.remote D.shared S.tells s p plan desk.old desk.new
+        → HasSaidBlock D.goes D.refuses D.remote D.shared S.tells s p plan desk.old desk.new
         (desk_shows D.fault D.stopped D.faults D.ends desk.old) (desk_shows D.fault D.stopped D.faults D.ends desk.new) result }
 {
     'commands: for _ in 0..u64::MAX {
@@ -72,7 +72,7 @@ fn say_one<D: Desk, S: Stage>(
     ensures is_open { OnOk result (IsOpen (D.fault desk.new) (D.stopped desk.new)) }
     ensures later { IsLater (desk_shows D.fault D.stopped D.faults D.ends desk.old) (desk_shows D.fault D.stopped D.faults D.ends desk.new) }
     ensures said { (s p : ℕ) (plan : Plan) (calls : Listed Call) → HasHad S.left S.had S.tells s p plan calls core.old
-        → HasSaidOne D.goes D.remote D.shared S.left S.had S.tells s p plan calls desk.old desk.new
+        → HasSaidOne D.goes D.refuses D.remote D.shared S.left S.had S.tells s p plan calls desk.old desk.new
         (desk_shows D.fault D.stopped D.faults D.ends desk.old) (desk_shows D.fault D.stopped D.faults D.ends desk.new) core.new result }
 {
     let words = match core.next(alloc, MOMENT) {

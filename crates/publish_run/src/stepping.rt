@@ -38,7 +38,7 @@ pub(crate) fn say_lines<D: Desk, K: Sink>(
     requires open { IsOpen (D.fault desk.old) (D.stopped desk.old) }
     requires good { (plans : Listed Plan) × (lines_script seed false new_reader (lines_left lines) ≡ Blocks plans) }
     ensures said { (plans : Listed Plan) × (lines_script seed false new_reader (lines_left lines.entry) ≡ Blocks plans)
-        × HasSaidScript D.goes D.remote D.shared seed 0 plans desk.old desk.new
+        × HasSaidScript D.goes D.refuses D.remote D.shared seed 0 plans desk.old desk.new
         (desk_shows D.fault D.stopped D.faults D.ends desk.old) (desk_shows D.fault D.stopped D.faults D.ends desk.new)
         (sink_view K.taken K.write_faults out.old) (sink_view K.taken K.write_faults out.new) result }
 {
@@ -63,7 +63,7 @@ fn say_line<D: Desk, K: Sink>(
     requires open { IsOpen (D.fault desk.old) (D.stopped desk.old) }
     requires good { IsNotWrong (line_step reader.old.seed (reader_of reader.old) line.now) }
     ensures later { IsLater (desk_shows D.fault D.stopped D.faults D.ends desk.old) (desk_shows D.fault D.stopped D.faults D.ends desk.new) }
-    ensures said { HasSaidLine D.goes D.remote D.shared reader.old.seed reader.old.drawn
+    ensures said { HasSaidLine D.goes D.refuses D.remote D.shared reader.old.seed reader.old.drawn
         (line_step reader.old.seed (reader_of reader.old) line.now) (reader_of reader.new) desk.old desk.new
         (desk_shows D.fault D.stopped D.faults D.ends desk.old) (desk_shows D.fault D.stopped D.faults D.ends desk.new)
         (sink_view K.taken K.write_faults out.old) (sink_view K.taken K.write_faults out.new) result }
@@ -90,7 +90,7 @@ fn say_step<D: Desk, K: Sink>(
     requires sayable { (n : ℕ) × IsSayable seed n step }
     ensures later { IsLater (desk_shows D.fault D.stopped D.faults D.ends desk.old) (desk_shows D.fault D.stopped D.faults D.ends desk.new) }
     ensures said { (n : ℕ) → IsSayable seed n step → HasCounter n counter (plan_said step)
-        → HasSaidPlan D.goes D.remote D.shared seed n (plan_said step) desk.old desk.new
+        → HasSaidPlan D.goes D.refuses D.remote D.shared seed n (plan_said step) desk.old desk.new
         (desk_shows D.fault D.stopped D.faults D.ends desk.old) (desk_shows D.fault D.stopped D.faults D.ends desk.new)
         (sink_view K.taken K.write_faults out.old) (sink_view K.taken K.write_faults out.new) result }
 {
@@ -108,7 +108,7 @@ fn declare<D: Desk>(
 ) -> Result<(), PublishingEnd>
     requires open { IsOpen (D.fault desk.old) (D.stopped desk.old) }
     ensures later { IsLater (desk_shows D.fault D.stopped D.faults D.ends desk.old) (desk_shows D.fault D.stopped D.faults D.ends desk.new) }
-    ensures said { (s n : ℕ) (view : SinkView) → HasSaidPlan D.goes D.remote D.shared s n (declaration_plan declaration) desk.old desk.new
+    ensures said { (s n : ℕ) (view : SinkView) → HasSaidPlan D.goes D.refuses D.remote D.shared s n (declaration_plan declaration) desk.old desk.new
         (desk_shows D.fault D.stopped D.faults D.ends desk.old) (desk_shows D.fault D.stopped D.faults D.ends desk.new) view view result }
 {
     let mut core = declare_core(declaration);
@@ -132,7 +132,7 @@ fn publish<D: Desk, K: Sink>(
     requires way { IsPublishable (data_of envelope) }
     ensures later { IsLater (desk_shows D.fault D.stopped D.faults D.ends desk.old) (desk_shows D.fault D.stopped D.faults D.ends desk.new) }
     ensures said { (n : ℕ) → counter ≡ suc n → IsNextEnvelope seed n (compact_text (data_of envelope))
-        → HasSaidPlan D.goes D.remote D.shared seed n (Publish (compact_text (data_of envelope))) desk.old desk.new
+        → HasSaidPlan D.goes D.refuses D.remote D.shared seed n (Publish (compact_text (data_of envelope))) desk.old desk.new
         (desk_shows D.fault D.stopped D.faults D.ends desk.old) (desk_shows D.fault D.stopped D.faults D.ends desk.new)
         (sink_view K.taken K.write_faults out.old) (sink_view K.taken K.write_faults out.new) result }
 {

@@ -6,6 +6,8 @@ use Rattle.place_model.specs.Histories.{History, after}
 use Rattle.place_model.specs.Shown.{history_of}
 use Rattle.place_model.specs.Starts.{IsSound}
 use Rattle.place_model.specs.declared.heard.Heard.{Heard}
+use Rattle.message_schedules.specs.Companions.{IsScheduled}
+use Rattle.message_schedules.proofs.Companions.{whole_scheduled}
 use Rattle.message_schedules.proofs.Program.{whole_placed, whole_sound, whole_store}
 use Rattle.schedule_model.specs.Desk.{ScheduleReader}
 use Rattle.schedule_model.specs.Programs.{program_craft}
@@ -23,9 +25,9 @@ pub run_placed : (bytes : Bytes) (result : Result ScheduleRun RunFault) → HasR
 run_placed bytes (Ok ran) answer = subst IsEachPlaced answer.2 (whole_placed bytes answer.0 answer.1)
 run_placed bytes (Err fault) answer = tt
 
--- so is all that holds of each sound history
-pub run_has : (P : History Heard → Type 0) → ((h : History Heard) → IsSound plain_setting h → P h) → (bytes : Bytes) (result : Result ScheduleRun RunFault) → HasRun (schedule_run program_craft bytes) result → IfOk result (λ ran. P (history_of ran.history))
-run_has P all bytes (Ok ran) answer = subst P answer.2 (all (reader_history answer.0) (whole_sound bytes answer.0 answer.1))
+-- so is all that holds of each history of a schedule
+pub run_has : (P : History Heard → Type 0) → ((h : History Heard) → IsScheduled h → P h) → (bytes : Bytes) (result : Result ScheduleRun RunFault) → HasRun (schedule_run program_craft bytes) result → IfOk result (λ ran. P (history_of ran.history))
+run_has P all bytes (Ok ran) answer = subst P answer.2 (all (reader_history answer.0) (whole_scheduled bytes answer.0 answer.1))
 run_has P all bytes (Err fault) answer = tt
 
 pub run_store : (bytes : Bytes) (result : Result ScheduleRun RunFault) → HasRun (schedule_run program_craft bytes) result → IfOk result (λ ran. ran.store.state ≡ (after (history_of ran.history)).store)

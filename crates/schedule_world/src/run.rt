@@ -6,7 +6,7 @@ ghost use Rattle.command_blocks.specs.EnvelopeTexts.{plain_setting};
 ghost use Rattle.place_model.specs.Histories.{after};
 ghost use Rattle.place_model.specs.Shown.{history_of};
 ghost use Rattle.place_model.specs.Starts.{IsSound};
-ghost use Rattle.message_schedules.specs.Companions.{MessagesHaveOneTree, MessagesHaveOrigins, PassesAccount, ReturnsAreWhole, StopsMoveOne};
+ghost use Rattle.message_schedules.specs.Companions.{MessagesHaveOneTree, MessagesPublishedOnce, MessagesWerePublished, PassesAccount, ReturnsAreWhole, StopsMoveOne};
 ghost use Rattle.schedule_model.specs.Desk.{first_desk};
 ghost use Rattle.schedule_model.specs.Programs.{program_craft};
 ghost use Rattle.schedule_model.specs.Schedules.{header_led, header_on, last_led};
@@ -57,8 +57,9 @@ pub fn run_schedule(alloc: Global, bytes: &[u8]) -> Result<History, RunFault>
     ensures stops { IfOk result (λ h. StopsMoveOne (history_of h)) }
     ensures whole_returns { IfOk result (λ h. ReturnsAreWhole (history_of h)) }
     ensures passes { IfOk result (λ h. PassesAccount (history_of h)) }
+    ensures published { IfOk result (λ h. MessagesWerePublished (history_of h)) }
+    ensures once { IfOk result (λ h. MessagesPublishedOnce (history_of h)) }
     ensures trees { IfOk result (λ h. MessagesHaveOneTree (history_of h)) }
-    ensures origins { IfOk result (λ h. MessagesHaveOrigins (history_of h)) }
 {
     match run_whole(alloc, bytes) {
         Ok(ran) => Ok(ran.history),
@@ -77,8 +78,9 @@ pub fn run_whole(alloc: Global, bytes: &[u8]) -> Result<ScheduleRun, RunFault>
     ensures stops { IfOk result (λ ran. StopsMoveOne (history_of ran.history)) }
     ensures whole_returns { IfOk result (λ ran. ReturnsAreWhole (history_of ran.history)) }
     ensures passes { IfOk result (λ ran. PassesAccount (history_of ran.history)) }
+    ensures published { IfOk result (λ ran. MessagesWerePublished (history_of ran.history)) }
+    ensures once { IfOk result (λ ran. MessagesPublishedOnce (history_of ran.history)) }
     ensures trees { IfOk result (λ ran. MessagesHaveOneTree (history_of ran.history)) }
-    ensures origins { IfOk result (λ ran. MessagesHaveOrigins (history_of ran.history)) }
     ensures store { IfOk result (λ ran. ran.store.state ≡ (after (history_of ran.history)).store) }
 {
     let is_cut = INPUT_LIMIT < bytes.len();

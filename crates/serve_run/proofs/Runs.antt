@@ -16,11 +16,11 @@ use Rattle.sessions.specs.declared.ends.Why.{Why}
 use Rattle.sessions.specs.declared.ends.Why.TheVariants as why
 use Rattle.store_server.specs.Servings.{HasServedAll, HasServedOne}
 use Rattle.store_server.proofs.Served.{none_served, serves_after}
-use Rattle.serve_run.specs.Endings.{end_after, end_at, end_with, full_by}
+use Rattle.serve_run.specs.Endings.{end_after, net_end, end_with, full_by}
 use Rattle.serve_run.specs.Lines.{session_line, session_lines}
 use Rattle.serve_run.specs.NetViews.{NetView}
 use Rattle.serve_run.specs.ServeRuns.{HasServedOn, IsAllServed, IsServingEnd, IsStop, TellsCut}
-use Rattle.serve_run.specs.Tellings.{InServing, TellsLine, TellsNext}
+use Rattle.serve_run.specs.Tellings.{InServing, TellsLine, TellsSession}
 use Rattle.serve_run.specs.declared.ending.ServingEnd.{ServingEnd}
 use Rattle.serve_run.specs.declared.ending.ServingEnd.TheVariants.{Full, Memory, Net, Served, WriteFault}
 
@@ -101,7 +101,7 @@ module _ (gives : ℕ → Type 0) (turns : ℕ) (s m t : StoreView) (a b d : Net
   next_number = omega (arith, is, amid.count)
 
   -- one session more was had and told
-  pub goes_on : (end : SessionEnd) → TellsNext gives turns k m t b d x y (Ok end) → InServing gives turns s t a d o y k (end_with so_far end.why)
+  pub goes_on : (end : SessionEnd) → TellsSession gives turns k m t b d x y (Ok end) → InServing gives turns s t a d o y k (end_with so_far end.why)
   goes_on end (one, no_fault, (line, calm)) = record {
     ends = amid.ends ++ end ∷ [];
     count = omega (arith, length-append amid.ends (end ∷ []), amid.count, is);
@@ -123,13 +123,13 @@ module _ (gives : ℕ → Type 0) (turns : ℕ) (s m t : StoreView) (a b d : Net
 
   stopped_so : (wanted : ℕ) (untold : List SessionEnd) (stop : ServingEnd) → k ≤ wanted → IsStop a d untold stop → IsServingEnd wanted a d amid.ends untold stop
   stopped_so wanted untold Net within it = (it, inl (omega (arith, amid.count, is, within)))
-  stopped_so wanted untold WriteFault within it = it
-  stopped_so wanted untold Memory within it = it
+  stopped_so wanted untold WriteFault within it = (it, omega (arith, amid.count, is, within))
+  stopped_so wanted untold Memory within it = (it, inl (omega (arith, amid.count, is, within)))
   stopped_so wanted untold Served within it = absurd it
   stopped_so wanted untold (Full entries bytes) within it = absurd it
 
   -- serving stops
-  pub stops : (wanted : ℕ) (stop : ServingEnd) → k ≤ wanted → TellsNext gives turns k m t b d x y (Err stop) → HasServedOn gives turns wanted s t a d o y stop
+  pub stops : (wanted : ℕ) (stop : ServingEnd) → k ≤ wanted → TellsSession gives turns k m t b d x y (Err stop) → HasServedOn gives turns wanted s t a d o y stop
   stops wanted stop within (untold, all, few, it, cut) = record {
     ends = amid.ends;
     untold = untold;
@@ -147,7 +147,7 @@ module _ (gives : ℕ → Type 0) (turns k : ℕ) (m t : StoreView) (b d : NetVi
   this_one : HasServedAll gives turns k m t b.closed d.closed (end ∷ [])
   this_one = (t, d.closed, one, none_served gives turns t d.closed)
 
-  pub stops_in_line : (stop : ServingEnd) → TellsLine x y (session_line k end) (Err stop) → TellsNext gives turns k m t b d x y (Err stop)
+  pub stops_in_line : (stop : ServingEnd) → TellsLine x y (session_line k end) (Err stop) → TellsSession gives turns k m t b d x y (Err stop)
   stops_in_line WriteFault (front, later, rose) =
       (end ∷ [], this_one, omega arith, (refl, same), (subst (λ l. AppendsFront x.taken y.taken l) (sym (append-nil (session_line k end))) front, later, rose))
   stops_in_line Memory still = (end ∷ [], this_one, omega arith, (omega arith, same), still)
@@ -191,8 +191,8 @@ module _ (gives : ℕ → Type 0) (turns wanted : ℕ) (s t : StoreView) (a b d 
   cause_from ends untold Served it = record { count = it.count; all_told = it.all_told; no_fault = it.no_fault ∙ same; ends_so = it.ends_so }
   cause_from ends untold (Full entries bytes) it = record { count = it.count; all_told = it.all_told; no_fault = it.no_fault ∙ same; ends_so = it.ends_so }
   cause_from ends untold Net ((none, later, rose), more) = ((none, omega (arith, later, same), subst (λ (i : ℕ). Rose i d.faults) same rose), more)
-  cause_from ends untold WriteFault (one, no_fault) = (one, no_fault ∙ same)
-  cause_from ends untold Memory (few, no_fault) = (few, no_fault ∙ same)
+  cause_from ends untold WriteFault ((one, no_fault), more) = ((one, no_fault ∙ same), more)
+  cause_from ends untold Memory ((few, no_fault), more) = ((few, no_fault ∙ same), more)
 
   -- the net listened before
   pub listened : (end : ServingEnd) → HasServedOn gives turns wanted s t b d o x end → HasServedOn gives turns wanted s t a d o x end
@@ -223,6 +223,6 @@ module _ (gives : ℕ → Type 0) (turns wanted : ℕ) (s : StoreView) (a b : Ne
   }
 
   -- the net didn't listen
-  pub refused : (fault : NetFault) → HasNetCause {T = ⊤} a.faults b.faults (Err fault) → HasServedOn gives turns wanted s s a b o o (end_at fault)
+  pub refused : (fault : NetFault) → HasNetCause {T = ⊤} a.faults b.faults (Err fault) → HasServedOn gives turns wanted s s a b o o (net_end fault)
   refused Failed (later, rose) = refused_so Net ((refl, later, rose), inr refl) refl
-  refused net.Memory same = refused_so Memory (omega arith, same) refl
+  refused net.Memory same = refused_so Memory ((omega arith, same), inr refl) refl

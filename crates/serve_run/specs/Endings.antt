@@ -34,6 +34,6 @@ end_after so_far [] = so_far
 end_after so_far (end ∷ ends) = end_after (end_with so_far end.why) ends
 
 -- the end where the net answered this
-abbrev pub end_at : NetFault → ServingEnd
-end_at Failed = Net
-end_at net.Memory = Memory
+abbrev pub net_end : NetFault → ServingEnd
+net_end Failed = Net
+net_end net.Memory = Memory

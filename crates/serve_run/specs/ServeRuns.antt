@@ -27,13 +27,13 @@ pub record IsAllServed (wanted : ℕ) (before after : NetView) (ends untold : Li
   pub no_fault : after.faults ≡ before.faults
   pub ends_so : end ≡ end_after Served ends
 
--- why serving ends: all sessions ended; or the net failed before that, or before any was wanted; or the sink failed, or memory was wanting
+-- why serving ends: all sessions ended; or the net failed, or memory was wanting, before that, or before any was wanted; or the sink failed within the line of a wanted one
 abbrev pub IsServingEnd : ℕ → NetView → NetView → List SessionEnd → List SessionEnd → ServingEnd → Type 0
 IsServingEnd wanted before after ends untold Served = IsAllServed wanted before after ends untold Served
 IsServingEnd wanted before after ends untold (Full entries bytes) = IsAllServed wanted before after ends untold (Full entries bytes)
 IsServingEnd wanted before after ends untold Net = IsStop before after untold Net × ((length ends < wanted) ⊎ (ends ≡ []))
-IsServingEnd wanted before after ends untold WriteFault = IsStop before after untold WriteFault
-IsServingEnd wanted before after ends untold Memory = IsStop before after untold Memory
+IsServingEnd wanted before after ends untold WriteFault = IsStop before after untold WriteFault × (length ends < wanted)
+IsServingEnd wanted before after ends untold Memory = IsStop before after untold Memory × ((length ends < wanted) ⊎ (ends ≡ []))
 
 -- what was written after the lines of all sessions that were told: a front of the next one's line where the sink failed, and else nothing
 abbrev pub TellsCut : SinkView → SinkView → ℕ → List SessionEnd → ServingEnd → Type 0

@@ -27,10 +27,10 @@ TellsLine old new line (Err (Full entries bytes)) = ⊥
 TellsLine old new line (Err Net) = ⊥
 
 -- one session more was had and told; or serving stops, with at most this one untold
-abbrev pub TellsNext : (ℕ → Type 0) → ℕ → ℕ → StoreView → StoreView → NetView → NetView → SinkView → SinkView → Result SessionEnd ServingEnd → Type 0
-TellsNext gives turns c store store2 before after old new (Ok end) =
+abbrev pub TellsSession : (ℕ → Type 0) → ℕ → ℕ → StoreView → StoreView → NetView → NetView → SinkView → SinkView → Result SessionEnd ServingEnd → Type 0
+TellsSession gives turns c store store2 before after old new (Ok end) =
     HasServedOne gives turns c store store2 before.closed after.closed end × (after.faults ≡ before.faults) × WritesLine old new (session_line c end)
-TellsNext gives turns c store store2 before after old new (Err stop) =
+TellsSession gives turns c store store2 before after old new (Err stop) =
     (untold : List SessionEnd) × HasServedAll gives turns c store store2 before.closed after.closed untold × (length untold ≤ 1) × IsStop before after untold stop × TellsCut old new c untold stop
 
 -- amid serving, so many sessions ended, each was told, and neither net nor sink failed; if no more are wanted, serving ends so

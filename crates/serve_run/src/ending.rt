@@ -1,6 +1,6 @@
 //! How a run of sessions ends.
 ghost use Rattle.std.specs.Prelude.{◌≡◌};
-ghost use Rattle.serve_run.specs.Endings.{end_at, end_with};
+ghost use Rattle.serve_run.specs.Endings.{net_end, end_with};
 
 use net_links::NetFault;
 use sessions::Why;
@@ -37,7 +37,7 @@ impl ServingEnd {
 
     /// The end where the net answered this.
     pub fn at(fault: NetFault) -> ServingEnd
-        ensures { result ≡ end_at fault }
+        ensures { result ≡ net_end fault }
     {
         match fault {
             NetFault::Failed => ServingEnd::Net,

@@ -3,7 +3,7 @@ ghost use Rattle.links.specs.Views.{sink_view};
 ghost use Rattle.serve_run.specs.Lines.{session_line};
 ghost use Rattle.serve_run.specs.NetViews.{net_view};
 ghost use Rattle.serve_run.specs.ServeRuns.{HasServedOn, HasServedRun};
-ghost use Rattle.serve_run.specs.Tellings.{TellsLine, TellsNext};
+ghost use Rattle.serve_run.specs.Tellings.{TellsLine, TellsSession};
 
 use crate::ending::ServingEnd;
 use crate::lines::session_line;
@@ -78,7 +78,7 @@ fn serve_next<K: Sink, N: Net, C: Clock>(
     number: u32,
     turns: u64,
 ) -> Result<SessionEnd, ServingEnd>
-    ensures next { TellsNext (C.gives clock.now) turns number store.old store.new
+    ensures next { TellsSession (C.gives clock.now) turns number store.old store.new
         (net_view N.closed N.faults net.old) (net_view N.closed N.faults net.new)
         (sink_view K.taken K.write_faults out.old) (sink_view K.taken K.write_faults out.new) result }
 {

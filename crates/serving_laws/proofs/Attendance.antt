@@ -1,5 +1,5 @@
 -- What a served connection asked, and what went back.
-use Rattle.std.proofs.Common.{List, [], ap, append-nil, append_assoc, false, inl, inr, subst, sym, true, ℕ, ◌++◌, ◌∙◌, ◌∷◌, ◌≡◌}
+use Rattle.std.proofs.Common.{List, [], ap, append-nil, append_assoc, arith, false, inl, inr, length, refl, subst, sym, true, ℕ, ◌++◌, ◌<◌, ◌∙◌, ◌∷◌, ◌≡◌}
 use Rattle.std.specs.Prelude.{None, Option, Some}
 use Rattle.std.specs.Io.KnownBytes.{Appends}
 use Rattle.links.specs.Causes.{Rose}
@@ -8,7 +8,11 @@ use Rattle.desks.specs.Deeds.{Deed}
 use Rattle.desks.specs.declared.desk.DeskFault.{DeskFault}
 use Rattle.net_links.specs.LinkViews.{LinkView}
 use Rattle.net_links.specs.Traffics.{ClosesOne, IsFresh, KeepsClosed}
-use Rattle.sessions.specs.Hearings.{HasHeard}
+use Rattle.wire_values.specs.declared.value.Value.{Value}
+use Rattle.wire_grammar.specs.Streams.{Leads}
+use Rattle.sessions.specs.Calls.{AreCalls, answers}
+use Rattle.sessions.specs.Hearings.{BeginsCommand, HasHeard, WritesAll}
+use Rattle.serving_laws.proofs.Wholes.{none_begun}
 use Rattle.sessions.specs.SessionEnds.{EndsSession, HasSession}
 use Rattle.sessions.specs.declared.conversing.SessionEnd.{SessionEnd}
 use Rattle.sessions.specs.declared.ends.Why.{Why}
@@ -18,22 +22,44 @@ use Rattle.serving_laws.specs.ServedHistories.{Attended, ClosesAll, HasAttended,
 
 -- what was asked in a session at a desk that nobody shares, and what stands at its end
 abbrev AsksUntil : {D : Type 0} → (D → List Deed → D → Type 0) → (ℕ → Type 0) → D → D → LinkView → List ℕ → List ℕ → ℕ → Why → Type 0
-AsksUntil goes gives first now link stream sent count why = (h : HasHeard goes gives first now stream count) × IsLeftSo link why h.deeds sent h.from h.rest
+AsksUntil goes gives first now link stream sent count why = (h : HasHeard goes gives first now stream count) × IsLeftSo link why h.deeds stream sent h.from h.rest
 
 unshared : false ≡ true → ⊥
 unshared e = absurd cc
+
+-- nothing came, so nothing was asked
+no_values : (p : ℕ) (stream : List ℕ) (values : List Value) (from : ℕ) (rest : List ℕ) → stream ≡ [] → Leads p stream values from rest → values ≡ []
+no_values p stream [] from rest none l = refl
+no_values p stream (v ∷ vs) from rest none l = absurd (none_begun v l.0 l.1 (sym none ∙ l.2) l.3)
+
+no_deeds : (gives : ℕ → Type 0) (values : List Value) (deeds : List Deed) → values ≡ [] → AreCalls gives values deeds → deeds ≡ []
+no_deeds gives [] [] none calls = refl
+no_deeds gives [] (d ∷ ds) none calls = absurd calls
+no_deeds gives (v ∷ vs) deeds none calls = absurd cc
+
+nothing_asked : {D : Type 0} (goes : D → List Deed → D → Type 0) (gives : ℕ → Type 0) (first now : D) (stream sent : List ℕ) (count : ℕ) (h : HasHeard goes gives first now stream count) → stream ≡ [] → sent ≡ [] → WritesAll h.deeds sent
+nothing_asked goes gives first now stream sent count h none unsent = unsent ∙ sym (ap answers (no_deeds gives h.values h.deeds (no_values 0 stream h.values h.from h.rest none h.leads) h.calls))
+
+-- a command is some bytes
+begins_some : (rest : List ℕ) → BeginsCommand rest → 0 < length rest
+begins_some [] (v, words, (front, more, e, s), is) = absurd (none_begun v front more e s)
+begins_some (x ∷ xs) next = omega arith
 
 pub asked_in : {D : Type 0} (goes : D → List Deed → D → Type 0) (gives : ℕ → Type 0) (fault : Option DeskFault) (first now : D) (old new : LinkView) (turns receives : ℕ) (stream sent : List ℕ) (count : ℕ) (why : Why) → old.faults ≡ 0 → old.ends ≡ 0
     → EndsSession goes gives false fault first now old new turns receives stream sent count why → AsksUntil goes gives first now new stream sent count why
 asked_in goes gives fault first now old new turns receives stream sent count Ended sound whole (h, w, none, rose, kept, few) = (h, (w, none))
 asked_in goes gives fault first now old new turns receives stream sent count Turns sound whole (h, w, front, over, calm) = (h, (w, front))
-asked_in goes gives fault first now old new turns receives stream sent count Link sound whole (h, w, inl (rose, same)) = (h, (w, inl (subst (λ (i : ℕ). Rose i new.faults) sound rose)))
-asked_in goes gives fault first now old new turns receives stream sent count Link sound whole (h, w, inr (rose, same, front, some, few)) = (h, (w, inr (subst (λ (i : ℕ). Rose i new.ends) whole rose, front, some)))
+asked_in goes gives fault first now old new turns receives stream sent count Link sound whole (h, inl (part, rose, same)) = (h, inl (part, subst (λ (i : ℕ). Rose i new.faults) sound rose))
+asked_in goes gives fault first now old new turns receives stream sent count Link sound whole (h, inr (w, front, few, inl (rose, same))) = (h, inr (w, front, inl (subst (λ (i : ℕ). Rose i new.faults) sound rose)))
+asked_in goes gives fault first now old new turns receives stream sent count Link sound whole (h, inr (w, front, few, inr (rose, same, some))) = (h, inr (w, front, inr (subst (λ (i : ℕ). Rose i new.ends) whole rose, some)))
 asked_in goes gives fault first now old new turns receives stream sent count (Wire kind place) sound whole ((h, w, wrong), calm) = (h, (w, wrong))
 asked_in goes gives fault first now old new turns receives stream sent count NotWords sound whole ((h, w, none), calm) = (h, (w, none))
 asked_in goes gives fault first now old new turns receives stream sent count (Full entries bytes) sound whole ((h, w, b, refused), calm) = absurd (unshared refused.0)
 asked_in goes gives fault first now old new turns receives stream sent count Closed sound whole ((h, w, b, refused), calm) = absurd (unshared refused.0)
-asked_in goes gives fault first now old new turns receives stream sent count Memory sound whole ((h, w, short), calm) = (h, w)
+asked_in goes gives fault first now old new turns receives stream sent count Memory sound whole (h, inl (never, none, unsent, still), calm) = (h, inl (nothing_asked goes gives first now stream sent count h none unsent, inl none))
+asked_in goes gives fault first now old new turns receives stream sent count Memory sound whole (h, inr (inl (w, inl (came, some, still))), calm) = (h, inl (w, inr some))
+asked_in goes gives fault first now old new turns receives stream sent count Memory sound whole (h, inr (inl (w, inr (next, still))), calm) = (h, inl (w, inr (begins_some h.rest next)))
+asked_in goes gives fault first now old new turns receives stream sent count Memory sound whole (h, inr (inr part), calm) = (h, inr part)
 
 -- what a link carried that carried nothing before
 carried_from : (was now : Option (List ℕ)) (bytes : List ℕ) → was ≡ Some [] → Appends was now bytes → now ≡ Some bytes

@@ -41,7 +41,7 @@ nothing_read : (p : ℕ) → read p [] ≡ Front
 nothing_read p = limited_front p [] (omega arith) refl
 
 -- nothing begins with no value
-none_begun : (v : Value) (front rest : List ℕ) → [] ≡ front ++ rest → Spells v front → ⊥
+pub none_begun : (v : Value) (front rest : List ℕ) → [] ≡ front ++ rest → Spells v front → ⊥
 none_begun v front rest e s = let f : Front ≡ Got v (0 + length front) rest = sym (nothing_read 0) ∙ ap (read 0) e ∙ read_spelled v front rest 0 s in absurd cc
 
 -- bytes begin with one value
@@ -84,10 +84,11 @@ no_other from rest more (w ∷ ws) until l a (v, (front, tail, e, s), none) =
     let some : None ≡ Some a.0.0 = sym none ∙ sym (ap command_in same.0) ∙ a.0.1 in
     absurd cc
 
-no_link : (old new : LinkView) (turns receives from : ℕ) (rest more : List ℕ) (left : List Value) (until : ℕ) → Leads from (rest ++ more) left until [] → (Rose old.ends new.ends → more ≡ []) → (Rose old.faults new.faults → ⊥)
-    → IsLinkCause old new turns receives rest → ⊥
-no_link old new turns receives from rest more left until l all sound (inl (rose, same)) = sound rose
-no_link old new turns receives from rest more left until l all sound (inr (rose, same, front, some, few)) = by left (subst (λ b. Leads from b left until []) (ap (λ m. rest ++ m) (all rose) ∙ append-nil rest) l) where
+no_link : (old new : LinkView) (turns receives : ℕ) (deeds : List Deed) (sent : List ℕ) (from : ℕ) (rest more : List ℕ) (left : List Value) (until : ℕ) → Leads from (rest ++ more) left until [] → (Rose old.ends new.ends → more ≡ []) → (Rose old.faults new.faults → ⊥)
+    → IsLinkCause old new turns receives deeds rest sent → ⊥
+no_link old new turns receives deeds sent from rest more left until l all sound (inl (part, rose, same)) = sound rose
+no_link old new turns receives deeds sent from rest more left until l all sound (inr (w, front, few, inl (rose, same))) = sound rose
+no_link old new turns receives deeds sent from rest more left until l all sound (inr (w, front, few, inr (rose, same, some))) = by left (subst (λ b. Leads from b left until []) (ap (λ m. rest ++ m) (all rose) ∙ append-nil rest) l) where
   by : (left : List Value) → Leads from rest left until [] → ⊥
   by [] l = omega (arith, ap length l.0, some)
   by (v ∷ vs) l = front.none v l.0 l.1 l.2 l.3
@@ -119,7 +120,7 @@ module _ {D : Type 0} (goes : D → List Deed → D → Type 0) (gives : ℕ →
   pub ends_so : (why : Why) → EndsSession goes gives shared fault first now old new turns receives stream sent count why → IsWholeEnd (length g.values) count why
   ends_so Ended (h, w, none, rose, kept, few) = all_heard h none (g.all rose)
   ends_so Turns (h, w, f, all, c) = omega (arith, all, g.few)
-  ends_so Link (h, w, cause) = let o = unheard h in no_link old new turns receives h.from h.rest g.more o.0 g.whole.until o.2 g.all g.sound cause
+  ends_so Link (h, cause) = let o = unheard h in no_link old new turns receives h.deeds sent h.from h.rest g.more o.0 g.whole.until o.2 g.all g.sound cause
   ends_so (Wire kind place) ((h, w, wrong), calm) = let o = unheard h in no_fault h.from h.rest g.more o.0 g.whole.until kind place o.2 wrong
   ends_so NotWords ((h, w, none), calm) = let o = unheard h in no_other h.from h.rest g.more o.0 g.whole.until o.2 (commands_left h.values o.0 (subst AreCommands o.1 g.whole.commands)) none
   ends_so (Full entries bytes) ends = tt

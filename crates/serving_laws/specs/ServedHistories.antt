@@ -16,7 +16,7 @@ use Rattle.place_model.specs.declared.history.Entry.TheVariants as entry
 use Rattle.desks.specs.Deeds.{Deed, DidStop, entries_by}
 use Rattle.net_links.specs.LinkViews.{LinkView}
 use Rattle.sessions.specs.Calls.{AreCalls}
-use Rattle.sessions.specs.Hearings.{BeginsNoCommand, WritesAll, WritesFront}
+use Rattle.sessions.specs.Hearings.{BeginsNoCommand, WritesAll, WritesPart}
 use Rattle.sessions.specs.declared.conversing.SessionEnd.{SessionEnd}
 use Rattle.sessions.specs.declared.ends.Why.{Why}
 use Rattle.sessions.specs.declared.ends.Why.TheVariants.{Closed, Ended, Full, Link, Memory, NotWords, Turns, Wire}
@@ -54,16 +54,16 @@ abbrev pub TellsBoth : Option (List LinkView) → LinkView → List ℕ → List
 TellsBoth None link received sent = ⊤
 TellsBoth (Some closed) link received sent = (link.received ≡ Some received) × (link.sent ≡ Some sent)
 
--- what stands where a session ended so, after the values that were asked: where the other side ended, all was asked and answered; after the last turn, at a fault and at a value that is no command, all before it was; where the link failed or ended within a value, and where memory was wanting, a front of the answers was sent; a store that nobody shares is never full nor closed
-abbrev pub IsLeftSo : LinkView → Why → List Deed → List ℕ → ℕ → List ℕ → Type 0
-IsLeftSo link Ended deeds sent from rest = WritesAll deeds sent × (rest ≡ [])
-IsLeftSo link Turns deeds sent from rest = WritesAll deeds sent × IsFront rest
-IsLeftSo link (Wire kind place) deeds sent from rest = WritesAll deeds sent × IsFault from rest kind place
-IsLeftSo link NotWords deeds sent from rest = WritesAll deeds sent × BeginsNoCommand rest
-IsLeftSo link Link deeds sent from rest = WritesFront deeds sent × (Rose 0 link.faults ⊎ (Rose 0 link.ends × IsFront rest × (0 < length rest)))
-IsLeftSo link Memory deeds sent from rest = WritesFront deeds sent
-IsLeftSo link (Full entries bytes) deeds sent from rest = ⊥
-IsLeftSo link Closed deeds sent from rest = ⊥
+-- what stands where a session ended so, after the values that were asked: where the other side ended, all was asked and answered; after the last turn, at a fault and at a value that is no command, all before it was; where the link failed to take them a front of the answers was sent, and where it gave no more all were, and all whole values were asked; where memory was wanting all were, and something is left to be read, or nothing came, or a front was; a store that nobody shares is never full nor closed
+abbrev pub IsLeftSo : LinkView → Why → List Deed → List ℕ → List ℕ → ℕ → List ℕ → Type 0
+IsLeftSo link Ended deeds received sent from rest = WritesAll deeds sent × (rest ≡ [])
+IsLeftSo link Turns deeds received sent from rest = WritesAll deeds sent × IsFront rest
+IsLeftSo link (Wire kind place) deeds received sent from rest = WritesAll deeds sent × IsFault from rest kind place
+IsLeftSo link NotWords deeds received sent from rest = WritesAll deeds sent × BeginsNoCommand rest
+IsLeftSo link Link deeds received sent from rest = (WritesPart deeds sent × Rose 0 link.faults) ⊎ (WritesAll deeds sent × IsFront rest × (Rose 0 link.faults ⊎ (Rose 0 link.ends × (0 < length rest))))
+IsLeftSo link Memory deeds received sent from rest = (WritesAll deeds sent × ((received ≡ []) ⊎ (0 < length rest))) ⊎ WritesPart deeds sent
+IsLeftSo link (Full entries bytes) deeds received sent from rest = ⊥
+IsLeftSo link Closed deeds received sent from rest = ⊥
 
 -- what was asked are the commands of whole values that came over the link, each once and in order, what went back are their answers, and what is left unasked and unanswered is as the session's end says
 pub record HasAttended (gives : ℕ → Type 0) (closed : Option (List LinkView)) (a : Attended) : Type 0 where
@@ -76,7 +76,7 @@ pub record HasAttended (gives : ℕ → Type 0) (closed : Option (List LinkView)
   pub leads : Leads 0 received values from rest
   pub calls : AreCalls gives values a.deeds
   pub counted : a.end.commands ≡ held_to (length a.deeds)
-  pub left : IsLeftSo a.link a.end.why a.deeds sent from rest
+  pub left : IsLeftSo a.link a.end.why a.deeds received sent from rest
 
 -- so of each
 abbrev pub HasAttendedAll : (ℕ → Type 0) → Option (List LinkView) → List Attended → Type 0

@@ -11,10 +11,14 @@ mod commands;
 #[cfg(test)]
 mod compared;
 #[cfg(test)]
+mod limits;
+#[cfg(test)]
 mod outside;
 #[cfg(test)]
 mod served;
 #[cfg(test)]
 mod shared_stores;
+#[cfg(test)]
+mod streams;
 #[cfg(test)]
 mod whole_sessions;

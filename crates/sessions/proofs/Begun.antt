@@ -15,7 +15,7 @@ use Rattle.sessions.specs.declared.ends.Why.TheVariants.{Memory, Turns}
 use Rattle.sessions.specs.declared.talking.Talking.{Talking}
 
 -- nothing is a front
-empty_front : IsFront []
+pub empty_front : IsFront []
 empty_front = front_says 0 [] (limited_front 0 [] (omega arith) refl)
 
 module _ {D : Type 0} (goes : D → List Deed → D → Type 0) (stays : (s : D) → goes s [] s) (gives : ℕ → Type 0) (first : D) where
@@ -57,7 +57,7 @@ module _ {D : Type 0} (goes : D → List Deed → D → Type 0) (stays : (s : D)
     few = omega arith;
     later_faults = omega arith;
     later_ends = omega arith;
-    ends = ((nothing_heard 0 refl, ([], refl), inl (inl calm)), record { no_fault = refl; no_end = refl });
+    ends = (nothing_heard 0 refl, inl (refl, refl, refl, calm), record { no_fault = refl; no_end = refl });
   }
 
 -- the turns are over

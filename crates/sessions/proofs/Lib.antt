@@ -4,4 +4,5 @@ pub mod CommandsFit
 pub mod Contents
 pub mod Mapped
 pub mod Refused
+pub mod SpelledSome
 pub mod Taken

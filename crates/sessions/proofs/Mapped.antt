@@ -26,12 +26,12 @@ module _ {D E : Type 0} (goes : D → List Deed → D → Type 0) (leads : E →
     ends_as : (receives : ℕ) (stream sent : List ℕ) (count : ℕ) (why : Why) → EndsSession goes gives shared fault first now old new turns receives stream sent count why → EndsSession leads gives shared fault from to old new turns receives stream sent count why
     ends_as receives stream sent count Ended (h, w, r, e, k, f) = (heard_as stream count h, w, r, e, k, f)
     ends_as receives stream sent count Turns (h, w, f, e, c) = (heard_as stream count h, w, f, e, c)
-    ends_as receives stream sent count Link (h, w, x) = (heard_as stream count h, w, x)
+    ends_as receives stream sent count Link (h, cause) = (heard_as stream count h, cause)
     ends_as receives stream sent count (Wire kind place) ((h, w, x), calm) = ((heard_as stream count h, w, x), calm)
     ends_as receives stream sent count NotWords ((h, w, x), calm) = ((heard_as stream count h, w, x), calm)
     ends_as receives stream sent count (Full entries bytes) ((h, w, b, i), calm) = ((heard_as stream count h, w, b, i), calm)
     ends_as receives stream sent count Closed ((h, w, b, i), calm) = ((heard_as stream count h, w, b, i), calm)
-    ends_as receives stream sent count Memory ((h, w, short), calm) = ((heard_as stream count h, w, short), calm)
+    ends_as receives stream sent count Memory (h, lacks, calm) = (heard_as stream count h, lacks, calm)
 
     pub session_as : (count : ℕ) (why : Why) → HasSession goes gives shared fault first now old new turns count why → HasSession leads gives shared fault from to old new turns count why
     session_as count why s = record {
@@ -52,9 +52,9 @@ pub heard_in : {D : Type 0} (goes : D → List Deed → D → Type 0) (gives : �
     → EndsSession goes gives shared fault first now old new turns receives stream sent count why → HasHeard goes gives first now stream count
 heard_in goes gives shared fault first now old new turns receives stream sent count Ended (h, w, r, e, k, f) = h
 heard_in goes gives shared fault first now old new turns receives stream sent count Turns (h, w, f, e, c) = h
-heard_in goes gives shared fault first now old new turns receives stream sent count Link (h, w, x) = h
+heard_in goes gives shared fault first now old new turns receives stream sent count Link (h, cause) = h
 heard_in goes gives shared fault first now old new turns receives stream sent count (Wire kind place) ((h, w, x), calm) = h
 heard_in goes gives shared fault first now old new turns receives stream sent count NotWords ((h, w, x), calm) = h
 heard_in goes gives shared fault first now old new turns receives stream sent count (Full entries bytes) ((h, w, b, i), calm) = h
 heard_in goes gives shared fault first now old new turns receives stream sent count Closed ((h, w, b, i), calm) = h
-heard_in goes gives shared fault first now old new turns receives stream sent count Memory ((h, w, short), calm) = h
+heard_in goes gives shared fault first now old new turns receives stream sent count Memory (h, lacks, calm) = h

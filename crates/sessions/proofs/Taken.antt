@@ -1,5 +1,5 @@
 -- A session goes on by one receive.
-use Rattle.std.proofs.Common.{List, [], append-nil, append_assoc, ap, arith, inl, inr, length-append, refl, subst, suc, sym, take, zero, ℕ, ◌++◌, ◌<◌, ◌∙◌, ◌≡◌, ◌≤◌}
+use Rattle.std.proofs.Common.{List, [], append-nil, append_assoc, ap, arith, inl, inr, length, length-append, refl, subst, suc, sym, take, zero, ℕ, ◌++◌, ◌<◌, ◌∙◌, ◌≡◌, ◌≤◌}
 use Rattle.std.specs.Prelude.{Bool, Err, None, Ok, Option, Result, Some, ⊤}
 use Rattle.std.specs.Io.KnownBytes.{Appends, Keeps}
 use Rattle.std.proofs.KnownBytes.{Appends-kept, Appends-nil, Appends-trans}
@@ -13,7 +13,7 @@ use Rattle.resp_wire.specs.declared.decoder.Decoder.{Decoder}
 use Rattle.desks.specs.Deeds.{Deed}
 use Rattle.desks.specs.declared.desk.DeskFault.{DeskFault}
 use Rattle.sessions.specs.Calls.{answers}
-use Rattle.sessions.specs.Hearings.{HasHeard, WritesAll, WritesFront}
+use Rattle.sessions.specs.Hearings.{HasHeard, LacksMemory, WritesAll, WritesFront, WritesPart}
 use Rattle.net_links.specs.LinkViews.{LinkView, raised_by}
 use Rattle.sessions.specs.Sendings.{SendsFront}
 use Rattle.sessions.specs.SessionEnds.{EndsSession, HasSession, IsCalmLink}
@@ -30,6 +30,17 @@ appends_none a b zero bytes none p = kept a b p where
   kept (Some x) None p = p
   kept (Some x) (Some y) p = p ∙ append-nil x
 appends_none a b (suc n) bytes none p = absurd (omega (arith, none))
+
+-- where memory was wanting a front of the answers is written
+pub lacks_front : (reading : Type 0) (fault : Option DeskFault) (deeds : List Deed) (rest written : List ℕ) → LacksMemory reading fault deeds rest written → WritesFront deeds written
+lacks_front reading fault deeds rest written (inl (all, why)) = ([], sym (append-nil written ∙ all))
+lacks_front reading fault deeds rest written (inr (more, e, some)) = (more, e)
+
+-- memory was wanting, to read only where more holds
+lacks_as : (a b : Type 0) (fault : Option DeskFault) (deeds : List Deed) (rest written : List ℕ) → (a → b) → LacksMemory a fault deeds rest written → LacksMemory b fault deeds rest written
+lacks_as a b fault deeds rest written f (inl (all, inl (cut, some, calm))) = inl (all, inl (f cut, some, calm))
+lacks_as a b fault deeds rest written f (inl (all, inr asks)) = inl (all, inr asks)
+lacks_as a b fault deeds rest written f (inr part) = inr part
 
 -- a receive that gave bytes is counted, and no other
 pub gained_some : (before now count : ℕ) → 0 < count → HasGained {E = Failed} before now (Ok count) → now ≡ raised before
@@ -58,10 +69,11 @@ module _ {D : Type 0} (goes : D → List Deed → D → Type 0) (gives : ℕ →
   pub fed : (d2 : Decoder) → ((before : ℕ) (rest : List ℕ) → Stands t.decoder before rest → Stands d2 before (rest ++ piece)) → Talks goes gives first now (stream ++ piece) sent (record t { decoder = d2 })
   fed d2 on = record { heard = heard_fed; stands = on s.heard.from s.heard.rest s.stands; answered = s.answered }
 
-  -- and there was no memory for them
-  pub unfed : (shared : Bool) (fault : Option DeskFault) → fault ≡ None → (was : Option (List ℕ)) (faults : ℕ)
-      → (more : List ℕ) × Appends was was more × EndsTaken goes gives shared fault first now (stream ++ piece) (sent ++ more) t.commands faults faults Memory
-  unfed shared fault calm was faults = ([], Appends-nil was, ((heard_fed, (t.out.items, sym s.answered ∙ ap (λ l. l ++ t.out.items) (sym (append-nil sent))), inl (inl calm)), refl))
+  -- and there was no memory to keep them
+  pub unfed : (reading : Type 0) → reading → 0 < length piece → t.out.items ≡ [] → (shared : Bool) (fault : Option DeskFault) → fault ≡ None → (was : Option (List ℕ)) (faults : ℕ)
+      → (more : List ℕ) × Appends was was more × EndsTaken reading goes gives shared fault first now (stream ++ piece) (sent ++ more) t.commands faults faults Memory
+  unfed reading cut some none shared fault calm was faults =
+      ([], Appends-nil was, ((heard_fed, inl (ap (λ l. sent ++ l) (sym none) ∙ s.answered, inl (cut, omega (arith, length-append s.heard.rest piece, some), calm))), refl))
 
 module _ {D : Type 0} (goes : D → List Deed → D → Type 0) (gives : ℕ → Type 0) (shared : Bool) (fault : Option DeskFault) (first now : D) (stream sent : List ℕ) (t : Talking) where
   -- what was asked, whatever the answer is
@@ -71,20 +83,27 @@ module _ {D : Type 0} (goes : D → List Deed → D → Type 0) (gives : ℕ →
   front_all (Err NotWords) (h, all, none) = (h, ([], sym (append-nil (sent ++ t.out.items) ∙ all)))
   front_all (Err (Full entries bytes)) (h, all, next, is) = (h, ([], sym (append-nil (sent ++ t.out.items) ∙ all)))
   front_all (Err Closed) (h, all, next, is) = (h, ([], sym (append-nil (sent ++ t.out.items) ∙ all)))
-  front_all (Err Memory) (h, front, short) = (h, front)
+  front_all (Err Memory) (h, lacks) = (h, lacks_front _ fault h.deeds h.rest (sent ++ t.out.items) lacks)
   front_all (Err Ended) never = absurd never
   front_all (Err Turns) never = absurd never
   front_all (Err Link) never = absurd never
 
   module _ (t2 : Talking) (was is : Option (List ℕ)) (faults faults2 : ℕ) where
+    -- a front of the answers is sent, and not all of them
+    cut_part : (deeds : List Deed) (more front rest : List ℕ) → answers deeds ≡ (sent ++ t.out.items) ++ more → t.out.items ≡ front ++ rest → 0 < length rest → WritesPart deeds (sent ++ front)
+    cut_part deeds more front rest e split some = (
+      rest ++ more,
+      e ∙ ap (λ l. (sent ++ l) ++ more) split ∙ ap (λ l. l ++ more) (sym (append_assoc sent front rest)) ∙ append_assoc (sent ++ front) rest more,
+      omega (arith, some, length-append rest more),
+    )
+
     -- a front was sent
     cut_at : (result : Result ⊤ Why) → (h : HasHeard goes gives first now stream t.commands) × WritesFront h.deeds (sent ++ t.out.items) → SendsFront was is t.out.items → IsCut faults faults2 result → HasTakenPiece goes gives shared fault first now stream sent was is faults faults2 (record t { out = t2.out }) result
     cut_at (Ok done) a b never = absurd never
     cut_at (Err Link) (h, (more, e)) (front, rest, split, some, sends) rose =
-        (front, sends, (h, (rest ++ more, e ∙ ap (λ l. (sent ++ l) ++ more) split ∙ ap (λ l. l ++ more) (sym (append_assoc sent front rest)) ∙ append_assoc (sent ++ front) rest more), rose))
+        (front, sends, (h, cut_part h.deeds more front rest e split some, rose))
     cut_at (Err Memory) (h, (more, e)) (front, rest, split, some, sends) same =
-        let cut : answers h.deeds ≡ (sent ++ front) ++ (rest ++ more) = e ∙ ap (λ l. (sent ++ l) ++ more) split ∙ ap (λ l. l ++ more) (sym (append_assoc sent front rest)) ∙ append_assoc (sent ++ front) rest more in
-        (front, sends, ((h, (rest ++ more, cut), inr (rest ++ more, cut, omega (arith, some, length-append rest more))), same))
+        (front, sends, ((h, inr (cut_part h.deeds more front rest e split some)), same))
     cut_at (Err Ended) a b never = absurd never
     cut_at (Err Turns) a b never = absurd never
     cut_at (Err (Wire kind place)) a b never = absurd never
@@ -134,7 +153,7 @@ module _ {D : Type 0} (goes : D → List Deed → D → Type 0) (gives : ℕ →
     few = omega (arith, few);
     later_faults = omega (arith, s.same_faults, later);
     later_ends = omega (arith, s.same_ends, ends);
-    ends = (s.talks.talks.heard, ([], sym (append-nil s.sent ∙ whole)), inl (subst (λ (i : ℕ). Rose i new.faults) s.same_faults rose, ends ∙ s.same_ends));
+    ends = (s.talks.talks.heard, inr (whole, s.talks.front, few, inl (subst (λ (i : ℕ). Rose i new.faults) s.same_faults rose, ends ∙ s.same_ends)));
   }
 
   -- the other side ended
@@ -158,7 +177,7 @@ module _ {D : Type 0} (goes : D → List Deed → D → Type 0) (gives : ℕ →
 
     pub none_received : (why : Why) → IsEndWhy s.talks.talks.heard.rest why → (turns : ℕ) → suc n ≤ turns → HasSession goes gives shared fault first now old new turns t.commands why
     none_received Ended none turns few = ended_so Ended turns few (s.talks.talks.heard, whole, none, risen, faults ∙ s.same_faults, few)
-    none_received Link some turns few = ended_so Link turns few (s.talks.talks.heard, ([], sym (append-nil s.sent ∙ whole)), inr (risen, faults ∙ s.same_faults, s.talks.front, some, few))
+    none_received Link some turns few = ended_so Link turns few (s.talks.talks.heard, inr (whole, s.talks.front, few, inr (risen, faults ∙ s.same_faults, some)))
     none_received Turns never turns few = absurd never
     none_received (Wire kind place) never turns few = absurd never
     none_received NotWords never turns few = absurd never
@@ -208,11 +227,11 @@ module _ {D : Type 0} (goes : D → List Deed → D → Type 0) (gives : ℕ →
     same_faults = same ∙ unfailed ∙ s.same_faults;
     same_ends = same_ends ∙ unended ∙ s.same_ends;
   }
-  taken (Err Link) (more, sends, (h, front, rose)) = λ turns few. ended_taken Link turns few more sends (h, front, inl (subst (λ (i : ℕ). Rose i new.faults) (unfailed ∙ s.same_faults) rose, same_ends ∙ unended ∙ s.same_ends))
+  taken (Err Link) (more, sends, (h, part, rose)) = λ turns few. ended_taken Link turns few more sends (h, inl (part, subst (λ (i : ℕ). Rose i new.faults) (unfailed ∙ s.same_faults) rose, same_ends ∙ unended ∙ s.same_ends))
   taken (Err (Wire kind place)) (more, sends, (ends, same)) = λ turns few. ended_taken (Wire kind place) turns few more sends (ends, calm same)
   taken (Err NotWords) (more, sends, (ends, same)) = λ turns few. ended_taken NotWords turns few more sends (ends, calm same)
   taken (Err (Full entries bytes)) (more, sends, (ends, same)) = λ turns few. ended_taken (Full entries bytes) turns few more sends (ends, calm same)
   taken (Err Closed) (more, sends, (ends, same)) = λ turns few. ended_taken Closed turns few more sends (ends, calm same)
-  taken (Err Memory) (more, sends, (ends, same)) = λ turns few. ended_taken Memory turns few more sends (ends, calm same)
+  taken (Err Memory) (more, sends, ((h, lacks), same)) = λ turns few. ended_taken Memory turns few more sends (h, inr (lacks_as _ (0 < suc n) fault h.deeds h.rest (s.sent ++ more) (λ cut. omega arith) lacks), calm same)
   taken (Err Ended) (more, sends, never) = absurd never
   taken (Err Turns) (more, sends, never) = absurd never

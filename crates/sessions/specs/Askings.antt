@@ -62,8 +62,8 @@ HasAskedWords goes gives shared fault old new words out out2 count count2 (Err (
 HasAskedWords goes gives shared fault old new words out out2 count count2 (Err NotWords) = ⊥
 HasAskedWords goes gives shared fault old new words out out2 count count2 (Err Link) = ⊥
 
--- a value's words were asked so; NotWords comes exactly where it spells none, and want of memory stands in for no other refusal of the desk
+-- a value's words were asked so; NotWords comes exactly where it spells none, and want of memory only where it spells some: there was none to take them, and the desk refused nothing; or as they were asked
 abbrev pub HasAnsweredValue : {D : Type 0} → (D → List Deed → D → Type 0) → (ℕ → Type 0) → Bool → Option DeskFault → D → D → Value → List ℕ → List ℕ → ℕ → ℕ → Result ⊤ Why → Type 0
 HasAnsweredValue goes gives shared fault old new v out out2 count count2 (Err NotWords) = (command_in v ≡ None) × IsSame goes old new out out2 count count2
-HasAnsweredValue goes gives shared fault old new v out out2 count count2 (Err Memory) = (IsSame goes old new out out2 count count2 × (fault ≡ None)) ⊎ ((words : Words) × (command_in v ≡ Some words) × HasAskedWords goes gives shared fault old new words out out2 count count2 (Err Memory))
+HasAnsweredValue goes gives shared fault old new v out out2 count count2 (Err Memory) = (words : Words) × (command_in v ≡ Some words) × ((IsSame goes old new out out2 count count2 × (fault ≡ None)) ⊎ HasAskedWords goes gives shared fault old new words out out2 count count2 (Err Memory))
 HasAnsweredValue goes gives shared fault old new v out out2 count count2 result = (words : Words) × (command_in v ≡ Some words) × HasAskedWords goes gives shared fault old new words out out2 count count2 result

@@ -48,13 +48,18 @@ BeginsNoCommand bytes = (v : Value) × BeginsWith v bytes × (command_in v ≡ N
 abbrev pub BeginsCommand : List ℕ → Type 0
 BeginsCommand bytes = (v : Value) × (words : Words) × BeginsWith v bytes × (command_in v ≡ Some words)
 
--- why no further value is asked: what follows those that were is a fault, or no command, or a command that the desk refused; or memory was wanting, where the desk refused nothing for another cause, or to send the answers
-abbrev pub EndsTalk : {D : Type 0} → (D → List Deed → D → Type 0) → (ℕ → Type 0) → Bool → Option DeskFault → D → D → List ℕ → List ℕ → ℕ → Why → Type 0
-EndsTalk goes gives shared fault first now stream written count (Wire kind place) = (h : HasHeard goes gives first now stream count) × WritesAll h.deeds written × IsFault h.from h.rest kind place
-EndsTalk goes gives shared fault first now stream written count NotWords = (h : HasHeard goes gives first now stream count) × WritesAll h.deeds written × BeginsNoCommand h.rest
-EndsTalk goes gives shared fault first now stream written count (Full entries bytes) = (h : HasHeard goes gives first now stream count) × WritesAll h.deeds written × BeginsCommand h.rest × IsDeskWhy shared fault (Full entries bytes)
-EndsTalk goes gives shared fault first now stream written count Closed = (h : HasHeard goes gives first now stream count) × WritesAll h.deeds written × BeginsCommand h.rest × IsDeskWhy shared fault Closed
-EndsTalk goes gives shared fault first now stream written count Memory = (h : HasHeard goes gives first now stream count) × WritesFront h.deeds written × (IsShortOfMemory fault ⊎ WritesPart h.deeds written)
-EndsTalk goes gives shared fault first now stream written count Ended = ⊥
-EndsTalk goes gives shared fault first now stream written count Turns = ⊥
-EndsTalk goes gives shared fault first now stream written count Link = ⊥
+-- memory was wanting: to read on, where something is left to be read; or to ask the command that follows; or to write an answer or send it
+abbrev pub LacksMemory : Type 0 → Option DeskFault → List Deed → List ℕ → List ℕ → Type 0
+LacksMemory reading fault deeds rest written =
+    (WritesAll deeds written × ((reading × (0 < length rest) × (fault ≡ None)) ⊎ (BeginsCommand rest × IsShortOfMemory fault))) ⊎ WritesPart deeds written
+
+-- why no further value is asked: what follows those that were is a fault, or no command, or a command that the desk refused; or memory was wanting, to read only where this holds
+abbrev pub EndsTalk : {D : Type 0} → Type 0 → (D → List Deed → D → Type 0) → (ℕ → Type 0) → Bool → Option DeskFault → D → D → List ℕ → List ℕ → ℕ → Why → Type 0
+EndsTalk reading goes gives shared fault first now stream written count (Wire kind place) = (h : HasHeard goes gives first now stream count) × WritesAll h.deeds written × IsFault h.from h.rest kind place
+EndsTalk reading goes gives shared fault first now stream written count NotWords = (h : HasHeard goes gives first now stream count) × WritesAll h.deeds written × BeginsNoCommand h.rest
+EndsTalk reading goes gives shared fault first now stream written count (Full entries bytes) = (h : HasHeard goes gives first now stream count) × WritesAll h.deeds written × BeginsCommand h.rest × IsDeskWhy shared fault (Full entries bytes)
+EndsTalk reading goes gives shared fault first now stream written count Closed = (h : HasHeard goes gives first now stream count) × WritesAll h.deeds written × BeginsCommand h.rest × IsDeskWhy shared fault Closed
+EndsTalk reading goes gives shared fault first now stream written count Memory = (h : HasHeard goes gives first now stream count) × LacksMemory reading fault h.deeds h.rest written
+EndsTalk reading goes gives shared fault first now stream written count Ended = ⊥
+EndsTalk reading goes gives shared fault first now stream written count Turns = ⊥
+EndsTalk reading goes gives shared fault first now stream written count Link = ⊥

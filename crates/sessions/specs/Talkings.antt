@@ -4,10 +4,10 @@ use Rattle.std.specs.Prelude.{Bool, Err, List, Ok, Option, Result, [], false, le
 use Rattle.links.specs.Causes.{Rose}
 use Rattle.wire_grammar.specs.Spells.{IsFront}
 use Rattle.resp_wire.specs.declared.decoder.Decoder.{Decoder}
-use Rattle.resp_wire.specs.Stands.{Stands}
+use Rattle.resp_wire.specs.Stands.{IsSpentDecoder, Stands}
 use Rattle.desks.specs.Deeds.{Deed}
 use Rattle.desks.specs.declared.desk.DeskFault.{DeskFault}
-use Rattle.sessions.specs.Hearings.{EndsTalk, HasHeard, WritesAll, WritesFront}
+use Rattle.sessions.specs.Hearings.{EndsTalk, HasHeard, WritesAll, WritesPart}
 use Rattle.net_links.specs.LinkViews.{LinkView, raised_by}
 use Rattle.sessions.specs.Sendings.{SendsFront}
 use Rattle.sessions.specs.SessionEnds.{HasSession}
@@ -34,12 +34,12 @@ pub record TalksAll {D : Type 0} (goes : D → List Deed → D → Type 0) (give
 abbrev pub AnswersNext : {D : Type 0} → (D → List Deed → D → Type 0) → (ℕ → Type 0) → Bool → Option DeskFault → D → D → List ℕ → List ℕ → Talking → Result Bool Why → Type 0
 AnswersNext goes gives shared fault first now stream sent t (Ok true) = Talks goes gives first now stream sent t
 AnswersNext goes gives shared fault first now stream sent t (Ok false) = TalksAll goes gives first now stream sent t
-AnswersNext goes gives shared fault first now stream sent t (Err why) = EndsTalk goes gives shared fault first now stream (sent ++ t.out.items) t.commands why
+AnswersNext goes gives shared fault first now stream sent t (Err why) = EndsTalk (IsSpentDecoder t.decoder) goes gives shared fault first now stream (sent ++ t.out.items) t.commands why
 
 -- all whole values were asked; or no more is asked
 abbrev pub AnswersAll : {D : Type 0} → (D → List Deed → D → Type 0) → (ℕ → Type 0) → Bool → Option DeskFault → D → D → List ℕ → List ℕ → Talking → Result ⊤ Why → Type 0
 AnswersAll goes gives shared fault first now stream sent t (Ok done) = TalksAll goes gives first now stream sent t
-AnswersAll goes gives shared fault first now stream sent t (Err why) = EndsTalk goes gives shared fault first now stream (sent ++ t.out.items) t.commands why
+AnswersAll goes gives shared fault first now stream sent t (Err why) = EndsTalk (IsSpentDecoder t.decoder) goes gives shared fault first now stream (sent ++ t.out.items) t.commands why
 
 -- the link failed, or there was no memory to send and it didn't fail
 abbrev pub IsCut : ℕ → ℕ → Result ⊤ Why → Type 0
@@ -58,23 +58,23 @@ abbrev pub HasFlushed : Option (List ℕ) → Option (List ℕ) → ℕ → ℕ 
 HasFlushed was is faults faults2 out out2 answered result =
     ((result ≡ answered) × Appends was is out × (out2 ≡ []) × (faults2 ≡ faults)) ⊎ (IsCut faults faults2 result × SendsFront was is out)
 
--- why no more is asked of a piece that came, or no more is sent
-abbrev pub EndsTaken : {D : Type 0} → (D → List Deed → D → Type 0) → (ℕ → Type 0) → Bool → Option DeskFault → D → D → List ℕ → List ℕ → ℕ → ℕ → ℕ → Why → Type 0
-EndsTaken goes gives shared fault first now stream written count faults faults2 Link = (h : HasHeard goes gives first now stream count) × WritesFront h.deeds written × Rose faults faults2
-EndsTaken goes gives shared fault first now stream written count faults faults2 Ended = ⊥
-EndsTaken goes gives shared fault first now stream written count faults faults2 Turns = ⊥
-EndsTaken goes gives shared fault first now stream written count faults faults2 (Wire kind place) = EndsTalk goes gives shared fault first now stream written count (Wire kind place) × (faults2 ≡ faults)
-EndsTaken goes gives shared fault first now stream written count faults faults2 NotWords = EndsTalk goes gives shared fault first now stream written count NotWords × (faults2 ≡ faults)
-EndsTaken goes gives shared fault first now stream written count faults faults2 (Full entries bytes) = EndsTalk goes gives shared fault first now stream written count (Full entries bytes) × (faults2 ≡ faults)
-EndsTaken goes gives shared fault first now stream written count faults faults2 Closed = EndsTalk goes gives shared fault first now stream written count Closed × (faults2 ≡ faults)
-EndsTaken goes gives shared fault first now stream written count faults faults2 Memory = EndsTalk goes gives shared fault first now stream written count Memory × (faults2 ≡ faults)
+-- why no more is asked of a piece that came, or no more is sent; memory was wanting to read only where this holds
+abbrev pub EndsTaken : {D : Type 0} → Type 0 → (D → List Deed → D → Type 0) → (ℕ → Type 0) → Bool → Option DeskFault → D → D → List ℕ → List ℕ → ℕ → ℕ → ℕ → Why → Type 0
+EndsTaken reading goes gives shared fault first now stream written count faults faults2 Link = (h : HasHeard goes gives first now stream count) × WritesPart h.deeds written × Rose faults faults2
+EndsTaken reading goes gives shared fault first now stream written count faults faults2 Ended = ⊥
+EndsTaken reading goes gives shared fault first now stream written count faults faults2 Turns = ⊥
+EndsTaken reading goes gives shared fault first now stream written count faults faults2 (Wire kind place) = EndsTalk reading goes gives shared fault first now stream written count (Wire kind place) × (faults2 ≡ faults)
+EndsTaken reading goes gives shared fault first now stream written count faults faults2 NotWords = EndsTalk reading goes gives shared fault first now stream written count NotWords × (faults2 ≡ faults)
+EndsTaken reading goes gives shared fault first now stream written count faults faults2 (Full entries bytes) = EndsTalk reading goes gives shared fault first now stream written count (Full entries bytes) × (faults2 ≡ faults)
+EndsTaken reading goes gives shared fault first now stream written count faults faults2 Closed = EndsTalk reading goes gives shared fault first now stream written count Closed × (faults2 ≡ faults)
+EndsTaken reading goes gives shared fault first now stream written count faults faults2 Memory = EndsTalk reading goes gives shared fault first now stream written count Memory × (faults2 ≡ faults)
 
 -- the values of a piece were asked and their answers sent; or no more is asked or sent
 abbrev pub HasTakenPiece : {D : Type 0} → (D → List Deed → D → Type 0) → (ℕ → Type 0) → Bool → Option DeskFault → D → D → List ℕ → List ℕ → Option (List ℕ) → Option (List ℕ) → ℕ → ℕ → Talking → Result ⊤ Why → Type 0
 HasTakenPiece goes gives shared fault first now stream sent was is faults faults2 t (Ok done) =
     (more : List ℕ) × Appends was is more × TalksAll goes gives first now stream (sent ++ more) t × (t.out.items ≡ []) × (faults2 ≡ faults)
 HasTakenPiece goes gives shared fault first now stream sent was is faults faults2 t (Err why) =
-    (more : List ℕ) × Appends was is more × EndsTaken goes gives shared fault first now stream (sent ++ more) t.commands faults faults2 why
+    (more : List ℕ) × Appends was is more × EndsTaken (IsSpentDecoder t.decoder) goes gives shared fault first now stream (sent ++ more) t.commands faults faults2 why
 
 -- amid a session all whole values that came were asked, their answers sent, and bytes came so often
 pub record InSession {D : Type 0} (goes : D → List Deed → D → Type 0) (gives : ℕ → Type 0) (first now : D) (old new : LinkView) (t : Talking) (n : ℕ) : Type 0 where

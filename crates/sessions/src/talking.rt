@@ -1,5 +1,5 @@
 //! What a session keeps between its receives, and the asking of all values that are whole.
-ghost use Rattle.std.specs.Prelude.{List, Ok, OnOk, [], false, true, ℕ, ◌<◌, ◌≡◌};
+ghost use Rattle.std.specs.Prelude.{List, Ok, OnOk, [], false, length, true, ℕ, ◌<◌, ◌≡◌};
 ghost use Rattle.desks.specs.Faults.{IsOpen};
 ghost use Rattle.resp_wire.specs.Moves.{unread_of};
 ghost use Rattle.resp_wire.specs.Stands.{Stands};
@@ -57,7 +57,7 @@ fn answer_value<D: Desk, C: Clock>(
     answer(alloc, desk, clock, &value, out, commands)
 }
 
-/// Asks the next value that is whole, and answers whether there was one.
+/// Asks the next value that is whole, and answers whether there was one; some bytes are left to be read.
 fn answer_next<D: Desk, C: Clock>(
     alloc: Global,
     desk: &mut D,
@@ -67,6 +67,7 @@ fn answer_next<D: Desk, C: Clock>(
     requires near { D.remote ≡ false }
     requires open { IsOpen (D.fault desk.old) (D.stopped desk.old) }
     requires placed { StandsSomewhere talking.old.decoder }
+    requires some { (before : ℕ) (rest : List ℕ) → Stands talking.old.decoder before rest → 0 < length rest }
     ensures less { result ≡ Ok true → unread_of talking.new.decoder < unread_of talking.old.decoder }
     ensures open { OnOk result (IsOpen (D.fault desk.new) (D.stopped desk.new)) }
     ensures placed { OnOk result (StandsSomewhere talking.new.decoder) }
@@ -103,11 +104,12 @@ pub(crate) fn answer_all<D: Desk, C: Clock>(
     ensures answers { (first : D) (stream sent : List ℕ) → Talks D.goes (C.gives clock.now) first desk.old stream sent talking.old
         → AnswersAll D.goes (C.gives clock.now) D.shared (D.fault desk.new) first desk.new stream sent talking.new result }
 {
-    'values: loop {
+    'values: while talking.decoder.pending() > 0 {
         match answer_next(alloc, desk, clock, talking) {
             Ok(true) => {}
             Ok(false) => return Ok(()),
             Err(why) => return Err(why),
         }
     }
+    Ok(())
 }

@@ -1,6 +1,6 @@
 //! One turn of a session: what one receive gives is asked, and the answers are sent.
 ghost use Rattle.std.specs.Io.KnownBytes.{Keeps};
-ghost use Rattle.std.specs.Prelude.{IsOk, List, OnOk, false, length, ℕ, ◌++◌, ◌≡◌, ◌≤◌};
+ghost use Rattle.std.specs.Prelude.{IsOk, List, OnOk, [], false, length, ℕ, ◌++◌, ◌<◌, ◌≡◌, ◌≤◌};
 ghost use Rattle.desks.specs.Faults.{IsOpen};
 ghost use Rattle.resp_wire.specs.Stands.{Stands};
 ghost use Rattle.net_links.specs.LinkViews.{LinkView, link_view};
@@ -54,7 +54,7 @@ fn ended(talking: &Talking) -> Why
     }
 }
 
-/// Asks all values that are whole with this piece, and sends the answers.
+/// Asks all values that are whole with this piece, which isn't empty, and sends the answers.
 fn take<D: Desk, L: Link, C: Clock>(
     alloc: Global,
     desk: &mut D,
@@ -66,13 +66,14 @@ fn take<D: Desk, L: Link, C: Clock>(
     requires near { D.remote ≡ false }
     requires open { IsOpen (D.fault desk.old) (D.stopped desk.old) }
     requires placed { StandsSomewhere talking.old.decoder }
+    requires piece { 0 < length piece.now }
     ensures open { OnOk result (IsOpen (D.fault desk.new) (D.stopped desk.new)) }
     ensures placed { OnOk result (StandsSomewhere talking.new.decoder) }
     ensures received { Keeps (L.received link.old) (L.received link.new) }
     ensures later { L.faults link.old ≤ L.faults link.new }
     ensures ends { L.ends link.new ≡ L.ends link.old }
     ensures gains { L.gains link.new ≡ L.gains link.old }
-    ensures taken { (first : D) (stream sent : List ℕ) → TalksAll D.goes (C.gives clock.now) first desk.old stream sent talking.old
+    ensures taken { (first : D) (stream sent : List ℕ) → TalksAll D.goes (C.gives clock.now) first desk.old stream sent talking.old → talking.old.out.items ≡ []
         → HasTakenPiece D.goes (C.gives clock.now) D.shared (D.fault desk.new) first desk.new (stream ++ piece.now) sent (L.sent link.old) (L.sent link.new) (L.faults link.old) (L.faults link.new) talking.new result }
 {
     match talking.decoder.feed(alloc, piece) {

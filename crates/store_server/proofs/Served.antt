@@ -1,5 +1,5 @@
 -- Serving goes on by one connection.
-use Rattle.std.proofs.Common.{List, [], append-nil, ap, arith, length, length-append, refl, subst, sym, ℕ, false, ◌+◌, ◌++◌, ◌<◌, ◌∙◌, ◌∷◌, ◌≡◌, ◌≤◌, ◌⊎◌}
+use Rattle.std.proofs.Common.{List, [], append-nil, ap, arith, inl, length, length-append, refl, subst, sym, ℕ, false, ◌+◌, ◌++◌, ◌<◌, ◌∙◌, ◌∷◌, ◌≡◌, ◌≤◌, ◌⊎◌}
 use Rattle.std.specs.Prelude.{Err, None, Option, Some}
 use Rattle.links.specs.Causes.{Rose}
 use Rattle.net_links.specs.NetCauses.{HasNetCause}
@@ -112,7 +112,7 @@ module _ (gives : ℕ → Type 0) (turns wanted : ℕ) (s m : StoreView) (a b : 
   -- the net gave no further link
   pub none_came : (t : StoreView) (d : Option (List LinkView)) (h : ℕ) (fault : NetFault) → (length ends < wanted) ⊎ (length ends ≡ 0) → t ≡ m → KeepsClosed b d → HasNetCause {T = SessionEnd} g h (Err fault) → HasServed gives turns wanted s t a d f h ends (why_at fault)
   none_came t d h Failed more e q cause = served_so t d h Net (serves_before gives turns 1 s m t a b d ends all e q) (omega (arith, same, cause.0)) (subst (λ (i : ℕ). Rose i h) same cause.1, more) refl
-  none_came t d h net.Memory more e q cause = served_so t d h Memory (serves_before gives turns 1 s m t a b d ends all e q) (omega (arith, same, cause)) (cause ∙ same) (omega arith)
+  none_came t d h net.Memory more e q cause = served_so t d h Memory (serves_before gives turns 1 s m t a b d ends all e q) (omega (arith, same, cause)) (cause ∙ same, more) (omega arith)
 
   -- the end of one more couldn't be kept
   pub one_unkept : (t : StoreView) (d : Option (List LinkView)) (h k : ℕ) (end : SessionEnd) → k ≡ 1 + length ends → k ≤ wanted → h ≡ g → HasServedOne gives turns k m t b d end → HasServed gives turns wanted s t a d f h ends Memory
@@ -121,7 +121,7 @@ module _ (gives : ℕ → Type 0) (turns wanted : ℕ) (s m : StoreView) (a b : 
     served = serves_one gives turns 1 k s m t a b d ends end is all o;
     few = omega (arith, length-append ends (end ∷ []), is, within);
     later = omega (arith, same, kept);
-    cause = kept ∙ same;
+    cause = (kept ∙ same, inl (omega (arith, is, within)));
     whole = omega arith;
   }
 

@@ -49,11 +49,11 @@ HasServedAll gives turns c store store2 closed closed2 [] = (store2 ≡ store) �
 HasServedAll gives turns c store store2 closed closed2 (end ∷ ends) =
     (mid : StoreView) × (between : Option (List LinkView)) × HasServedOne gives turns c store mid closed between end × HasServedAll gives turns (c + 1) mid store2 between closed2 ends
 
--- serving ends when as many sessions ended as were wanted and the net didn't fail; or when the net failed before that, or before any was wanted; or memory was wanting and the net didn't fail
+-- serving ends when as many sessions ended as were wanted and the net didn't fail; or when the net failed before that, or before any was wanted; or memory was wanting before that, and the net didn't fail
 abbrev pub IsServeWhy : ℕ → ℕ → ℕ → ℕ → ServeWhy → Type 0
 IsServeWhy wanted count faults faults2 Ended = (count ≡ wanted) × (faults2 ≡ faults)
 IsServeWhy wanted count faults faults2 Net = Rose faults faults2 × ((count < wanted) ⊎ (count ≡ 0))
-IsServeWhy wanted count faults faults2 Memory = faults2 ≡ faults
+IsServeWhy wanted count faults faults2 Memory = (faults2 ≡ faults) × ((count < wanted) ⊎ (count ≡ 0))
 
 -- why no more is served where the net answered this
 abbrev pub why_at : NetFault → ServeWhy

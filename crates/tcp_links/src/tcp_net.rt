@@ -21,8 +21,12 @@ const RECEIVE_SECONDS: u64 = 300;
 /// How long a peer may take nothing, in seconds.
 const SEND_SECONDS: u64 = 30;
 
+/// How many connections one `accept` passes over, before the net fails.
+const PASSED: u32 = 1_000_000;
+
 /// TCP connections. An address is an IP address and a port, as `127.0.0.1:6379` or `[::1]:6379`; anything else is a
 /// fault, and no name is looked up. A peer that sends nothing for 300 seconds, or takes nothing for 30, fails its link.
+/// A connection that is gone before it is accepted, or can't be tuned, is passed over.
 #[derive(Drop)]
 pub struct TcpNet<R: net::Net> {
     rt: R,
@@ -61,11 +65,33 @@ impl<R: net::Net> TcpNet<R> {
     }
 
     fn taken(&self) -> Option<R::Stream> {
-        match self.listener.as_ref()?.accept() {
-            Ok((stream, _)) => tuned(Ok(stream)),
-            Err(_) => None,
+        let listener = self.listener.as_ref()?;
+        for _ in 0..PASSED {
+            match listener.accept() {
+                Ok((stream, _)) => {
+                    if let Some(stream) = tuned(Ok(stream)) {
+                        return Some(stream);
+                    }
+                }
+                Err(fault) if is_of_connection(fault.kind()) => {}
+                Err(_) => return None,
+            }
         }
+        None
     }
+}
+
+/// Whether a failed `accept` speaks of the connection that it would have given: the system hands over what befell one
+/// while it waited.
+fn is_of_connection(kind: io::ErrorKind) -> bool {
+    [
+        io::ErrorKind::ConnectionAborted,
+        io::ErrorKind::ConnectionReset,
+        io::ErrorKind::HostUnreachable,
+        io::ErrorKind::NetworkUnreachable,
+        io::ErrorKind::NetworkDown,
+    ]
+    .contains(&kind)
 }
 
 /// A stream without Nagle's delay and with timeouts.

@@ -2,8 +2,8 @@
 use Rattle.std.proofs.Common.{List, Result, Err, ap, inl, inr, sym, true, ℕ, ◌≡◌, ◌∙◌}
 use Rattle.links.specs.Ends.{IsPast, IsWholeInput}
 use Rattle.links.specs.Views.{SourceView}
-use Rattle.message_schedules.proofs.Companions.{messages_have_one_tree, messages_have_origins, passes_account, returns_are_whole, stops_move_one}
-use Rattle.message_schedules.proofs.Program.{full_desk, whole_placed, whole_sound}
+use Rattle.message_schedules.proofs.Companions.{full_desk, messages_have_one_tree, messages_published_once, messages_were_published, passes_account, returns_are_whole, stops_move_one, whole_scheduled}
+use Rattle.message_schedules.proofs.Program.{whole_placed, whole_sound}
 use Rattle.place_model.specs.Histories.{History}
 use Rattle.place_model.specs.declared.heard.Heard.{Heard}
 use Rattle.schedule_model.specs.Desk.{ScheduleReader}
@@ -30,26 +30,28 @@ report_of schedule text h (d, run, same) written = record {
   written = written ∙ ap (report_text program_legend) (sym same);
   sound = whole_sound schedule d run;
   placed = whole_placed schedule d run;
-  stops = stops_move_one (reader_history d) (whole_sound schedule d run);
-  returns = returns_are_whole (reader_history d) (whole_sound schedule d run);
-  passes = passes_account (reader_history d) (whole_sound schedule d run);
-  trees = messages_have_one_tree (reader_history d) (whole_sound schedule d run);
-  origins = messages_have_origins (reader_history d) (whole_sound schedule d run);
+  stops = stops_move_one (reader_history d) (whole_scheduled schedule d run);
+  returns = returns_are_whole (reader_history d) (whole_scheduled schedule d run);
+  passes = passes_account (reader_history d) (whole_scheduled schedule d run);
+  published = messages_were_published (reader_history d) (whole_scheduled schedule d run);
+  once = messages_published_once (reader_history d) (whole_scheduled schedule d run);
+  trees = messages_have_one_tree (reader_history d) (whole_scheduled schedule d run);
 }
 
 -- the desk that a schedule filled
 pub full_of : (schedule : List ℕ) (entries cost : ℕ) → replay_run schedule ≡ schedules.Full entries cost → IsFull schedule entries cost
-full_of schedule entries cost run = let (filled, full, sound, placed) = full_desk schedule entries cost run in record {
+full_of schedule entries cost run = let (filled, full, scheduled, placed) = full_desk schedule entries cost run in record {
   determined = run;
   filled = filled;
   full = full;
-  sound = sound;
+  sound = scheduled.sound;
   placed = placed;
-  stops = stops_move_one (reader_history filled.desk) sound;
-  returns = returns_are_whole (reader_history filled.desk) sound;
-  passes = passes_account (reader_history filled.desk) sound;
-  trees = messages_have_one_tree (reader_history filled.desk) sound;
-  origins = messages_have_origins (reader_history filled.desk) sound;
+  stops = stops_move_one (reader_history filled.desk) scheduled;
+  returns = returns_are_whole (reader_history filled.desk) scheduled;
+  passes = passes_account (reader_history filled.desk) scheduled;
+  published = messages_were_published (reader_history filled.desk) scheduled;
+  once = messages_published_once (reader_history filled.desk) scheduled;
+  trees = messages_have_one_tree (reader_history filled.desk) scheduled;
 }
 
 -- what a schedule without a whole history leads to

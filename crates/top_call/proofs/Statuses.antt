@@ -173,8 +173,9 @@ report_of_input schedule bytes text same is = record {
   stops = is.stops;
   returns = is.returns;
   passes = is.passes;
+  published = is.published;
+  once = is.once;
   trees = is.trees;
-  origins = is.origins;
 }
 
 -- the statuses of a run by what its schedule determines

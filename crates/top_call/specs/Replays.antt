@@ -5,7 +5,7 @@ use Rattle.links.specs.Ends.{IsPast, IsWholeInput}
 use Rattle.links.specs.Views.{SourceView}
 use Rattle.command_blocks.specs.EnvelopeTexts.{plain_setting}
 use Rattle.place_model.specs.Starts.{IsSound}
-use Rattle.message_schedules.specs.Companions.{MessagesHaveOneTree, MessagesHaveOrigins, PassesAccount, ReturnsAreWhole, StopsMoveOne}
+use Rattle.message_schedules.specs.Companions.{MessagesHaveOneTree, MessagesPublishedOnce, MessagesWerePublished, PassesAccount, ReturnsAreWhole, StopsMoveOne}
 use Rattle.schedule_model.specs.Costs.{is_full}
 use Rattle.schedule_model.specs.Desk.{ScheduleReader, first_desk}
 use Rattle.schedule_model.specs.EachPlaced.{IsEachPlaced}
@@ -35,8 +35,9 @@ pub record IsReport (schedule text : List ℕ) : Type 0 where
   pub stops : StopsMoveOne (reader_history desk)
   pub returns : ReturnsAreWhole (reader_history desk)
   pub passes : PassesAccount (reader_history desk)
+  pub published : MessagesWerePublished (reader_history desk)
+  pub once : MessagesPublishedOnce (reader_history desk)
   pub trees : MessagesHaveOneTree (reader_history desk)
-  pub origins : MessagesHaveOrigins (reader_history desk)
 
 -- the first bad line of this schedule, and the first reason that holds of it
 abbrev pub IsFirstBad : List ℕ → BadLine → Type 0
@@ -53,8 +54,9 @@ pub record IsFull (schedule : List ℕ) (entries cost : ℕ) : Type 0 where
   pub stops : StopsMoveOne (reader_history filled.desk)
   pub returns : ReturnsAreWhole (reader_history filled.desk)
   pub passes : PassesAccount (reader_history filled.desk)
+  pub published : MessagesWerePublished (reader_history filled.desk)
+  pub once : MessagesPublishedOnce (reader_history filled.desk)
   pub trees : MessagesHaveOneTree (reader_history filled.desk)
-  pub origins : MessagesHaveOrigins (reader_history filled.desk)
 
 -- the statuses that a run over such a schedule may have, where neither its source nor its sink fails: its own, or want of memory
 abbrev pub calm_statuses : Determined → List ℕ

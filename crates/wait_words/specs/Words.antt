@@ -47,12 +47,12 @@ abbrev pub is_option : List ℕ → List ℕ → Bool
 is_option name word = if is_publish name then is_seed word else is_connections word || is_turns word
 
 -- the greatest value of an option
-abbrev pub value_limit : List ℕ → ℕ
-value_limit option = if is_connections option then connection_limit else if is_seed option then seed_limit else turn_limit
+abbrev pub option_limit : List ℕ → ℕ
+option_limit option = if is_connections option then connection_limit else if is_seed option then seed_limit else turn_limit
 
 -- whether a word can be the value of this option: a number from 1 on, within the option's limit
 abbrev pub is_value : List ℕ → List ℕ → Bool
-is_value option word = is_some (number_in 1 (value_limit option) word)
+is_value option word = is_some (number_in 1 (option_limit option) word)
 
 -- whether a word is the other option beside this one; there is none beside a seed
 abbrev pub is_other : List ℕ → List ℕ → Bool
@@ -104,24 +104,24 @@ second_value (other ∷ []) = []
 second_value (other ∷ value ∷ words) = value
 
 -- the value of the option of this name; no bytes where it isn't there
-abbrev pub value_of : List ℕ → List (List ℕ) → List ℕ
-value_of option [] = []
-value_of option (name ∷ []) = []
-value_of option (name ∷ address ∷ []) = []
-value_of option (name ∷ address ∷ first ∷ []) = []
-value_of option (name ∷ address ∷ first ∷ value ∷ others) = if bytes_eq first option then value else second_value others
+abbrev pub option_value : List ℕ → List (List ℕ) → List ℕ
+option_value option [] = []
+option_value option (name ∷ []) = []
+option_value option (name ∷ address ∷ []) = []
+option_value option (name ∷ address ∷ first ∷ []) = []
+option_value option (name ∷ address ∷ first ∷ value ∷ others) = if bytes_eq first option then value else second_value others
 
 -- how many connections lawful words ask for
 abbrev pub connections_in : List (List ℕ) → ℕ
-connections_in words = unwrap_or (number_in 1 connection_limit (value_of (codes "--connections") words)) 0
+connections_in words = unwrap_or (number_in 1 connection_limit (option_value (codes "--connections") words)) 0
 
 -- how many turns lawful words give each session
 abbrev pub turns_in : List (List ℕ) → ℕ
-turns_in words = unwrap_or (number_in 1 turn_limit (value_of (codes "--turns") words)) turn_limit
+turns_in words = unwrap_or (number_in 1 turn_limit (option_value (codes "--turns") words)) turn_limit
 
 -- the seed that lawful words give a publisher
 abbrev pub seed_in : List (List ℕ) → ℕ
-seed_in words = unwrap_or (number_in 1 seed_limit (value_of (codes "--seed") words)) 0
+seed_in words = unwrap_or (number_in 1 seed_limit (option_value (codes "--seed") words)) 0
 
 -- whether the first word names the program that publishes
 abbrev pub names_publish : List (List ℕ) → Bool

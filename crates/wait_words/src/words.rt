@@ -1,6 +1,6 @@
 //! The words of `serve` and of `publish`.
 ghost use Rattle.std.specs.Prelude.{map, ◌≡◌};
-ghost use Rattle.wait_words.specs.Words.{address_in, bad_wait_place, can_end, can_stand, connections_in, is_address, is_dashed, is_needed, is_option, is_other, is_program, is_value, names_publish, second_value, seed_in, turns_in, value_limit, value_of};
+ghost use Rattle.wait_words.specs.Words.{address_in, bad_wait_place, can_end, can_stand, connections_in, is_address, is_dashed, is_needed, is_option, is_other, is_program, is_value, names_publish, second_value, seed_in, turns_in, option_limit, option_value};
 
 use line_text::number_in;
 
@@ -109,8 +109,8 @@ fn is_option(name: &str, word: &str) -> bool
 }
 
 /// The greatest value of an option.
-fn value_limit(option: &str) -> u64
-    ensures { result ≡ value_limit option.now }
+fn option_limit(option: &str) -> u64
+    ensures { result ≡ option_limit option.now }
 {
     if option == "--connections" {
         CONNECTION_LIMIT
@@ -125,7 +125,7 @@ fn value_limit(option: &str) -> u64
 fn is_value(option: &str, word: &str) -> bool
     ensures { result ≡ is_value option.now word.now }
 {
-    number_in(1, value_limit(option), word).is_some()
+    number_in(1, option_limit(option), word).is_some()
 }
 
 /// Whether a word is the other option beside this one; there is none beside a seed.
@@ -151,8 +151,8 @@ pub fn address_in<'a>(words: &[&'a str]) -> &'a str
 }
 
 /// The value of the option of this name in lawful words; an empty text where it isn't there.
-fn value_of<'a>(option: &str, words: &[&'a str]) -> &'a str
-    ensures { result.now ≡ value_of option.now (map (λ w. w.now) words.now) }
+fn option_value<'a>(option: &str, words: &[&'a str]) -> &'a str
+    ensures { result.now ≡ option_value option.now (map (λ w. w.now) words.now) }
 {
     match words {
         [] => "",
@@ -184,21 +184,21 @@ fn second_value<'a>(words: &[&'a str]) -> &'a str
 pub fn connections_in(words: &[&str]) -> u32
     ensures { result ≡ connections_in (map (λ w. w.now) words.now) }
 {
-    number_in(1, CONNECTION_LIMIT, value_of("--connections", words)).unwrap_or(0) as u32
+    number_in(1, CONNECTION_LIMIT, option_value("--connections", words)).unwrap_or(0) as u32
 }
 
 /// How many turns lawful words give each session.
 pub fn turns_in(words: &[&str]) -> u64
     ensures { result ≡ turns_in (map (λ w. w.now) words.now) }
 {
-    number_in(1, TURN_LIMIT, value_of("--turns", words)).unwrap_or(TURN_LIMIT)
+    number_in(1, TURN_LIMIT, option_value("--turns", words)).unwrap_or(TURN_LIMIT)
 }
 
 /// The seed that lawful words give a publisher.
 pub fn seed_in(words: &[&str]) -> u64
     ensures { result ≡ seed_in (map (λ w. w.now) words.now) }
 {
-    number_in(1, SEED_LIMIT, value_of("--seed", words)).unwrap_or(0)
+    number_in(1, SEED_LIMIT, option_value("--seed", words)).unwrap_or(0)
 }
 
 /// Whether the first word names the program that publishes.

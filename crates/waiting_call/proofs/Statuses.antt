@@ -219,13 +219,13 @@ module _ (gives : ℕ → Type 0) (words : List (List ℕ)) (a b : NetView) (o x
           inr (
             run.ends,
             run.untold,
-            omega (arith, run.cause.0),
+            omega (arith, run.cause.0.0),
             asked lawful left m WriteFault run,
             (
               run.between.taken,
               session_lines (length run.ends + 1) run.untold,
               run.told,
-              inl (refl, run.cause.0, run.cause.1),
+              inl (refl, run.cause.0.0, run.cause.0.1),
               subst (λ (v : SinkView). AppendsFront run.between.taken v.taken (session_lines (length run.ends + 1) run.untold)) (sym same) front,
             ),
           ),
@@ -240,8 +240,8 @@ module _ (gives : ℕ → Type 0) (words : List (List ℕ)) (a b : NetView) (o x
     told_run Net run (told, inl which, w) = link_told run (subst (λ (t : WaitEnd). WritesEnd m x t r) which w)
     told_run Net run (told, inr (which, other), w) = absurd (other refl)
     told_run WriteFault run (is, same) = cut_in_line run is same
-    told_run serving.Memory run (told, inl which, w) = memory_so serving.Memory run run.cause.0 run.cause.1 run.cut (subst (λ (t : WaitEnd). WritesEnd m x t r) which w)
-    told_run serving.Memory run (told, inr (which, other), w) = memory_so serving.Memory run run.cause.0 run.cause.1 run.cut (subst (λ (t : WaitEnd). WritesEnd m x t r) which w)
+    told_run serving.Memory run (told, inl which, w) = memory_so serving.Memory run run.cause.0.0 run.cause.0.1 run.cut (subst (λ (t : WaitEnd). WritesEnd m x t r) which w)
+    told_run serving.Memory run (told, inr (which, other), w) = memory_so serving.Memory run run.cause.0.0 run.cause.0.1 run.cut (subst (λ (t : WaitEnd). WritesEnd m x t r) which w)
 
   -- what each status says of a run
   pub waiting_end : HasWaited gives words a b o x r → IsWaitingEnd gives words a b o x r

@@ -15,9 +15,10 @@ pub fn headers() -> &'static str {
 "#
 }
 
-/// The lines after the header: one for each reason, and for each way in which the reason comes.
-pub fn each_reason() -> &'static str {
+/// The lines after the header: one for each reason, for each way in which it comes, and for its limits.
+pub fn after_a_header() -> &'static str {
     r#"
+# The lines after the header: one for each reason, and for each way in which the reason comes.
 2 text | at 1\xff\n
 2 syntax | begin 1 pass\n
 2 syntax | begin 1 pass 4294967296\n
@@ -90,12 +91,7 @@ pub fn each_reason() -> &'static str {
 3 reserved | client 1 seed 7\nbegin 1 pop celery-task-meta- celery\n
 3 reserved | client 1 seed 7\nbegin 1 pop 5.reply.celery.pidbox\n
 2 syntax | at\n
-"#
-}
-
-/// Lines for which two reasons hold, or more: the one that is tested first is given.
-pub fn first_of_two() -> &'static str {
-    r#"
+# Lines for which two reasons hold, or more: the one that is tested first is given.
 # `text` and `syntax`, `syntax` and `unknown client`.
 2 text | stop 1 2\xff\n
 2 syntax | begin 1 pass 03600\n
@@ -133,12 +129,7 @@ pub fn first_of_two() -> &'static str {
 # So does a bad line at the end, with or without its line feed.
 6 idle | client 1 seed 7\nbegin 1 pop celery\nrun 1\nat 7\nrun 1\n
 6 idle | client 1 seed 7\nbegin 1 pop celery\nrun 1\nat 7\nrun 1
-"#
-}
-
-/// Long names. The front of an exchange's bindings has 15 bytes.
-pub fn long_names() -> &'static str {
-    r#"
+# Long names. The front of an exchange's bindings has 15 bytes.
 3 name | client 1 seed 7\nbegin 1 pop \(256:q)
 3 name | client 1 seed 7\nbegin 1 pop celery \(256:q) celery
 3 name | client 1 seed 7\nbegin 1 publish - \(256:q) 0 tasks.add []
@@ -156,12 +147,7 @@ pub fn long_names() -> &'static str {
 3 task | client 1 seed 7\nbegin 1 publish news \(256:k) 0 tasks.add []
 3 name | client 1 seed 7\nbegin 1 pop unacked \(256:q)
 3 name | client 1 seed 7\nbegin 1 pop \(256:q) unacked
-"#
-}
-
-/// Arguments that are none.
-pub fn no_arguments() -> &'static str {
-    r#"
+# Arguments that are none.
 3 json | client 1 seed 7\nbegin 1 publish - celery 0 tasks.add \n
 3 json | client 1 seed 7\nbegin 1 publish - celery 0 tasks.add  \n
 3 json | client 1 seed 7\nbegin 1 publish - celery 0 tasks.add [\n

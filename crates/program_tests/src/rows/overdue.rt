@@ -1,25 +1,12 @@
 //! Schedules of passes, with their whole reports; those of `examples/` have the texts that stand there.
-
-/// A schedule and its report.
-type Row = (&'static str, &'static str);
+//!
+//! A row is a remark after `#`, the schedule, and its report.
 
 /// Each schedule with its report.
-pub fn passes() -> [Row; 7] {
-    [
-        (stop_and_pass(), stop_and_pass_report()),
-        (expired_mutex(), expired_mutex_report()),
-        (pass_in_time(), pass_in_time_report()),
-        (pass_too_early(), pass_too_early_report()),
-        (eleven_due(), eleven_due_report()),
-        (delivered_twice(), delivered_twice_report()),
-        (pass_and_restore(), pass_and_restore_report()),
-    ]
-}
-
-/// `examples/stop_and_pass.schedule`: a worker stops inside its pop, another one with the next message in the table, and an
-/// hour later a pass is said.
-pub fn stop_and_pass() -> &'static str {
-    r#"celery-schedule 1
+pub fn passes() -> &'static str {
+    r#"
+# `examples/stop_and_pass.schedule`: a worker stops inside its pop, another one with the next message in the table, and an hour later a pass is said. What was in the hand of the one is lost; what stood in the table comes back, redelivered.
+celery-schedule 1
 client 1 seed 7
 client 2 seed 8
 client 3 seed 9
@@ -40,12 +27,7 @@ begin 4 pass 3600
 run 4
 begin 4 pop celery
 run 4
-"#
-}
-
-/// What was in the hand of the one is lost; what stood in the table comes back, redelivered.
-pub fn stop_and_pass_report() -> &'static str {
-    r#"celery-report 1
+celery-report 1
 1 100 1 LPUSH celery env(7:1) = :1
 2 100 1 LPUSH celery env(7:2) = :2
 3 100 2 BRPOP celery "celery\x06\x163" "celery\x06\x166" "celery\x06\x169" 1 = *[$celery, $env(7:1)]
@@ -78,12 +60,8 @@ pub fn stop_and_pass_report() -> &'static str {
 place 7:1 lost 2
 place 7:2 unacked
 total list 0 unacked 1 hand 0 ended 0 lost 1 copies 0
-"#
-}
-
-/// `examples/expired_mutex.schedule`: a pass that is held up for longer than its mutex lives, and another client's.
-pub fn expired_mutex() -> &'static str {
-    r#"celery-schedule 1
+# `examples/expired_mutex.schedule`: a pass that is held up for longer than its mutex lives, and another client's. The other's first pass finds the mutex held, its second one takes it; and the one held up leaves that alone.
+celery-schedule 1
 client 3 seed 9
 client 4 seed 10
 at 100
@@ -95,12 +73,7 @@ at 400
 begin 4 pass 3600
 step 4
 run 3
-"#
-}
-
-/// The other's first pass finds the mutex held, its second one takes it; and the one held up leaves that alone.
-pub fn expired_mutex_report() -> &'static str {
-    r#"celery-report 1
+celery-report 1
 1 100 3 SET unacked_mutex 9:1 NX EX 300 = +OK
 2 100 4 SET unacked_mutex 10:1 NX EX 300 = $-
 3 400 4 SET unacked_mutex 10:2 NX EX 300 = +OK
@@ -109,12 +82,8 @@ pub fn expired_mutex_report() -> &'static str {
 6 400 3 GET unacked_mutex = $10:2
 7 400 3 UNWATCH = +OK
 total list 0 unacked 0 hand 0 ended 0 lost 0 copies 0
-"#
-}
-
-/// The worker stops with a message in the table, and a pass comes in time.
-pub fn pass_in_time() -> &'static str {
-    r#"celery-schedule 1
+# The worker stops with a message in the table, and a pass comes in time. The pass returns the message in one transaction.
+celery-schedule 1
 client 1 seed 7
 client 2 seed 8
 client 3 seed 9
@@ -128,12 +97,7 @@ stop 2
 at 3700
 begin 3 pass 3600
 run 3
-"#
-}
-
-/// The pass returns the message in one transaction.
-pub fn pass_in_time_report() -> &'static str {
-    r#"celery-report 1
+celery-report 1
 1 100 1 LPUSH celery env(7:1) = :1
 2 100 2 BRPOP celery "celery\x06\x163" "celery\x06\x166" "celery\x06\x169" 1 = *[$celery, $env(7:1)]
 3 100 2 MULTI = +OK
@@ -157,12 +121,8 @@ pub fn pass_in_time_report() -> &'static str {
 21 3700 3 EXEC = *[:1]
 place 7:1 list celery 0
 total list 1 unacked 0 hand 0 ended 0 lost 0 copies 0
-"#
-}
-
-/// A pass a second too early, and another one in time.
-pub fn pass_too_early() -> &'static str {
-    r#"celery-schedule 1
+# A pass a second too early, and another one in time. The first one finds nothing that is due; the second one has a token of its own.
+celery-schedule 1
 client 1 seed 7
 client 2 seed 8
 client 3 seed 9
@@ -178,12 +138,7 @@ run 3
 at 3700
 begin 3 pass 3600
 run 3
-"#
-}
-
-/// The first one finds nothing that is due; the second one has a token of its own.
-pub fn pass_too_early_report() -> &'static str {
-    r#"celery-report 1
+celery-report 1
 1 100 1 LPUSH celery env(7:1) = :1
 2 100 2 BRPOP celery "celery\x06\x163" "celery\x06\x166" "celery\x06\x169" 1 = *[$celery, $env(7:1)]
 3 100 2 MULTI = +OK
@@ -213,12 +168,8 @@ pub fn pass_too_early_report() -> &'static str {
 27 3700 3 EXEC = *[:1]
 place 7:1 list celery 0
 total list 1 unacked 0 hand 0 ended 0 lost 0 copies 0
-"#
-}
-
-/// Eleven messages are due.
-pub fn eleven_due() -> &'static str {
-    r#"celery-schedule 1
+# Eleven messages are due. The ten youngest return, the younger one first, and of those the oldest is popped next.
+celery-schedule 1
 client 1 seed 7
 client 2 seed 8
 client 3 seed 9
@@ -283,12 +234,7 @@ begin 3 pass 3600
 run 3
 begin 4 pop celery
 run 4
-"#
-}
-
-/// The ten youngest return, the younger one first, and of those the oldest is popped next.
-pub fn eleven_due_report() -> &'static str {
-    r#"celery-report 1
+celery-report 1
 1 0 1 LPUSH celery env(7:1) = :1
 2 0 1 LPUSH celery env(7:2) = :2
 3 0 1 LPUSH celery env(7:3) = :3
@@ -449,12 +395,8 @@ place 7:9 list celery 0
 place 7:10 list celery 0
 place 7:11 list celery 0
 total list 9 unacked 2 hand 0 ended 0 lost 0 copies 0
-"#
-}
-
-/// A worker still has a message when a pass finds it overdue, and takes it again.
-pub fn delivered_twice() -> &'static str {
-    r#"celery-schedule 1
+# A worker still has a message when a pass finds it overdue, and takes it again. One message, delivered twice and in one place.
+celery-schedule 1
 client 1 seed 7
 client 2 seed 8
 client 3 seed 9
@@ -469,12 +411,7 @@ begin 3 pass 3600
 run 3
 begin 2 pop celery
 run 2
-"#
-}
-
-/// One message, delivered twice and in one place.
-pub fn delivered_twice_report() -> &'static str {
-    r#"celery-report 1
+celery-report 1
 1 100 1 LPUSH celery env(7:1) = :1
 2 100 2 BRPOP celery "celery\x06\x163" "celery\x06\x166" "celery\x06\x169" 1 = *[$celery, $env(7:1)]
 3 100 2 MULTI = +OK
@@ -502,12 +439,8 @@ pub fn delivered_twice_report() -> &'static str {
 25 3700 2 EXEC = *[:1, :1]
 place 7:1 unacked
 total list 0 unacked 1 hand 0 ended 0 lost 0 copies 0
-"#
-}
-
-/// A pass whose transaction finds the table altered by a return, and a second pass by the same client.
-pub fn pass_and_restore() -> &'static str {
-    r#"celery-schedule 1
+# A pass whose transaction finds the table altered by a return, and a second pass by the same client. The pass goes on with the tag that is gone; its second token is another one.
+celery-schedule 1
 client 1 seed 7
 client 2 seed 8
 client 3 seed 9
@@ -534,12 +467,7 @@ run 2
 at 8000
 begin 3 pass 0
 run 3
-"#
-}
-
-/// The pass goes on with the tag that is gone; its second token is another one.
-pub fn pass_and_restore_report() -> &'static str {
-    r#"celery-report 1
+celery-report 1
 1 100 1 LPUSH celery env(7:1) = :1
 2 100 2 BRPOP celery "celery\x06\x163" "celery\x06\x166" "celery\x06\x169" 1 = *[$celery, $env(7:1)]
 3 100 2 MULTI = +OK
@@ -590,6 +518,5 @@ pub fn pass_and_restore_report() -> &'static str {
 48 8000 3 DEL unacked_mutex = +QUEUED
 49 8000 3 EXEC = *[:1]
 place 7:1 list celery 0
-total list 1 unacked 0 hand 0 ended 0 lost 0 copies 0
-"#
+total list 1 unacked 0 hand 0 ended 0 lost 0 copies 0"#
 }

@@ -1,28 +1,13 @@
 //! Schedules of stops, returns and named exchanges, with their whole reports; those of `examples/` have the texts that
 //! stand there.
-
-/// A schedule and its report.
-type Row = (&'static str, &'static str);
+//!
+//! A row is a remark after `#`, the schedule, and its report.
 
 /// Each schedule with its report.
-pub fn returns() -> [Row; 10] {
-    [
-        (stop_in_pop(), stop_in_pop_report()),
-        (stop_before_exec(), stop_before_exec_report()),
-        (two_restores(), two_restores_report()),
-        (stale_ack(), stale_ack_report()),
-        (ack_of_another(), ack_of_another_report()),
-        (requeue(), requeue_report()),
-        (unbound(), unbound_report()),
-        (named_exchange(), named_exchange_report()),
-        (two_queues(), two_queues_report()),
-        (stopped_watcher(), stopped_watcher_report()),
-    ]
-}
-
-/// `examples/stop_in_pop.schedule`: a worker that stops after its pop's first command.
-pub fn stop_in_pop() -> &'static str {
-    r#"celery-schedule 1
+pub fn returns() -> &'static str {
+    r#"
+# `examples/stop_in_pop.schedule`: a worker that stops after its pop's first command. The message is lost with it, the other one still in the list.
+celery-schedule 1
 client 1 seed 7
 client 2 seed 8
 at 100
@@ -33,12 +18,7 @@ run 1
 begin 2 pop celery
 step 2
 stop 2
-"#
-}
-
-/// The message is lost with it, the other one still in the list.
-pub fn stop_in_pop_report() -> &'static str {
-    r#"celery-report 1
+celery-report 1
 1 100 1 LPUSH celery env(7:1) = :1
 2 100 1 LPUSH celery env(7:2) = :2
 3 100 2 BRPOP celery "celery\x06\x163" "celery\x06\x166" "celery\x06\x169" 1 = *[$celery, $env(7:1)]
@@ -46,12 +26,8 @@ pub fn stop_in_pop_report() -> &'static str {
 place 7:1 lost 2
 place 7:2 list celery 0
 total list 1 unacked 0 hand 0 ended 0 lost 1 copies 0
-"#
-}
-
-/// A worker that stops after its pop's fourth command, before EXEC.
-pub fn stop_before_exec() -> &'static str {
-    r#"celery-schedule 1
+# A worker that stops after its pop's fourth command, before EXEC. Nothing stands in the table, and the message is lost with it.
+celery-schedule 1
 client 1 seed 7
 client 2 seed 8
 at 100
@@ -63,12 +39,7 @@ step 2
 step 2
 step 2
 stop 2
-"#
-}
-
-/// Nothing stands in the table, and the message is lost with it.
-pub fn stop_before_exec_report() -> &'static str {
-    r#"celery-report 1
+celery-report 1
 1 100 1 LPUSH celery env(7:1) = :1
 2 100 2 BRPOP celery "celery\x06\x163" "celery\x06\x166" "celery\x06\x169" 1 = *[$celery, $env(7:1)]
 3 100 2 MULTI = +OK
@@ -77,12 +48,8 @@ pub fn stop_before_exec_report() -> &'static str {
 6 - 2 STOP
 place 7:1 lost 2
 total list 0 unacked 0 hand 0 ended 0 lost 1 copies 0
-"#
-}
-
-/// `examples/two_restores.schedule`: two clients return one message at the same time.
-pub fn two_restores() -> &'static str {
-    r#"celery-schedule 1
+# `examples/two_restores.schedule`: two clients return one message at the same time. The second EXEC finds the table altered, and the next try finds no entry.
+celery-schedule 1
 client 1 seed 7
 client 2 seed 8
 client 3 seed 9
@@ -102,12 +69,7 @@ step 3
 begin 4 restore 7:1
 run 4
 run 3
-"#
-}
-
-/// The second EXEC finds the table altered, and the next try finds no entry.
-pub fn two_restores_report() -> &'static str {
-    r#"celery-report 1
+celery-report 1
 1 100 1 LPUSH celery env(7:1) = :1
 2 100 2 BRPOP celery "celery\x06\x163" "celery\x06\x166" "celery\x06\x169" 1 = *[$celery, $env(7:1)]
 3 100 2 MULTI = +OK
@@ -133,12 +95,8 @@ pub fn two_restores_report() -> &'static str {
 23 100 3 UNWATCH = +OK
 place 7:1 list celery 0
 total list 1 unacked 0 hand 0 ended 0 lost 0 copies 0
-"#
-}
-
-/// A message that is acknowledged after it was returned.
-pub fn stale_ack() -> &'static str {
-    r#"celery-schedule 1
+# A message that is acknowledged after it was returned. The acknowledgement ends nothing.
+celery-schedule 1
 client 1 seed 7
 client 2 seed 8
 client 3 seed 9
@@ -152,12 +110,7 @@ begin 3 restore 7:1
 run 3
 begin 2 ack 7:1
 run 2
-"#
-}
-
-/// The acknowledgement ends nothing.
-pub fn stale_ack_report() -> &'static str {
-    r#"celery-report 1
+celery-report 1
 1 100 1 LPUSH celery env(7:1) = :1
 2 100 2 BRPOP celery "celery\x06\x163" "celery\x06\x166" "celery\x06\x169" 1 = *[$celery, $env(7:1)]
 3 100 2 MULTI = +OK
@@ -177,12 +130,8 @@ pub fn stale_ack_report() -> &'static str {
 17 100 2 EXEC = *[:0, :0]
 place 7:1 list celery 0
 total list 1 unacked 0 hand 0 ended 0 lost 0 copies 0
-"#
-}
-
-/// The same, where another worker has popped it by the time of a second acknowledgement.
-pub fn ack_of_another() -> &'static str {
-    r#"celery-schedule 1
+# The same, where another worker has popped it by the time of a second acknowledgement. That one ends it.
+celery-schedule 1
 client 1 seed 7
 client 2 seed 8
 client 3 seed 9
@@ -200,12 +149,7 @@ begin 3 pop celery
 run 3
 begin 2 ack 7:1
 run 2
-"#
-}
-
-/// That one ends it.
-pub fn ack_of_another_report() -> &'static str {
-    r#"celery-report 1
+celery-report 1
 1 100 1 LPUSH celery env(7:1) = :1
 2 100 2 BRPOP celery "celery\x06\x163" "celery\x06\x166" "celery\x06\x169" 1 = *[$celery, $env(7:1)]
 3 100 2 MULTI = +OK
@@ -234,12 +178,8 @@ pub fn ack_of_another_report() -> &'static str {
 26 100 2 EXEC = *[:1, :1]
 place 7:1 ended
 total list 0 unacked 0 hand 0 ended 1 lost 0 copies 0
-"#
-}
-
-/// `examples/requeue.schedule`: a worker gives its message back, at the head of the queue.
-pub fn requeue() -> &'static str {
-    r#"celery-schedule 1
+# `examples/requeue.schedule`: a worker gives its message back, at the head of the queue. It goes back in one transaction, redelivered, and is popped again.
+celery-schedule 1
 client 1 seed 7
 client 2 seed 8
 client 3 seed 9
@@ -253,12 +193,7 @@ begin 2 requeue 7:1
 run 2
 begin 3 pop celery
 run 3
-"#
-}
-
-/// It goes back in one transaction, redelivered, and is popped again.
-pub fn requeue_report() -> &'static str {
-    r#"celery-report 1
+celery-report 1
 1 100 1 LPUSH celery env(7:1) = :1
 2 100 2 BRPOP celery "celery\x06\x163" "celery\x06\x166" "celery\x06\x169" 1 = *[$celery, $env(7:1)]
 3 100 2 MULTI = +OK
@@ -279,30 +214,17 @@ pub fn requeue_report() -> &'static str {
 18 100 3 EXEC = *[:1, :1]
 place 7:1 unacked
 total list 0 unacked 1 hand 0 ended 0 lost 0 copies 0
-"#
-}
-
-/// A message of an exchange without bindings.
-pub fn unbound() -> &'static str {
-    r#"celery-schedule 1
+# A message of an exchange without bindings. It goes nowhere, and has no place.
+celery-schedule 1
 client 1 seed 7
 at 100
 begin 1 publish ex rk 0 t []
 run 1
-"#
-}
-
-/// It goes nowhere, and has no place.
-pub fn unbound_report() -> &'static str {
-    r#"celery-report 1
+celery-report 1
 1 100 1 SMEMBERS _kombu.binding.ex = *[]
 total list 0 unacked 0 hand 0 ended 0 lost 0 copies 0
-"#
-}
-
-/// `examples/named_exchange.schedule`: a message of an exchange whose binding is taken back before it is returned.
-pub fn named_exchange() -> &'static str {
-    r#"celery-schedule 1
+# `examples/named_exchange.schedule`: a message of an exchange whose binding is taken back before it is returned. It stays in the table.
+celery-schedule 1
 client 1 seed 7
 client 2 seed 8
 client 3 seed 9
@@ -317,12 +239,7 @@ begin 1 undeclare ex rk - celery
 run 1
 begin 3 restore 7:1
 run 3
-"#
-}
-
-/// It stays in the table.
-pub fn named_exchange_report() -> &'static str {
-    r#"celery-report 1
+celery-report 1
 1 100 1 SADD _kombu.binding.ex "rk\x06\x16\x06\x16celery" = :1
 2 100 1 SMEMBERS _kombu.binding.ex = *[$"rk\x06\x16\x06\x16celery"]
 3 100 1 LPUSH celery env(7:1) = :1
@@ -338,12 +255,8 @@ pub fn named_exchange_report() -> &'static str {
 13 100 3 UNWATCH = +OK
 place 7:1 unacked
 total list 0 unacked 1 hand 0 ended 0 lost 0 copies 0
-"#
-}
-
-/// Patterns that take a message to two queues, and another to one.
-pub fn two_queues() -> &'static str {
-    r#"celery-schedule 1
+# Patterns that take a message to two queues, and another to one. The first has copies.
+celery-schedule 1
 client 1 seed 7
 at 100
 begin 1 declare news - *.hot celery
@@ -356,12 +269,7 @@ begin 1 publish news a.hot 3 tasks.add [2,3]
 run 1
 begin 1 publish news a.cold 0 tasks.add [2,3]
 run 1
-"#
-}
-
-/// The first has copies.
-pub fn two_queues_report() -> &'static str {
-    r#"celery-report 1
+celery-report 1
 1 100 1 SADD _kombu.binding.news "\x06\x16*.hot\x06\x16celery" = :1
 2 100 1 SADD _kombu.binding.news "\x06\x16a.#\x06\x16papers" = :1
 3 100 1 SADD _kombu.binding.news "\x06\x16a.#\x06\x16papers" = :0
@@ -373,12 +281,8 @@ pub fn two_queues_report() -> &'static str {
 place 7:1 copies
 place 7:2 list papers 0
 total list 1 unacked 0 hand 0 ended 0 lost 0 copies 1
-"#
-}
-
-/// A client that stops amid its return, and one that returns the message after it.
-pub fn stopped_watcher() -> &'static str {
-    r#"celery-schedule 1
+# A client that stops amid its return, and one that returns the message after it. What the first one watched and queued is gone with it.
+celery-schedule 1
 client 1 seed 7
 client 2 seed 8
 client 3 seed 9
@@ -395,12 +299,7 @@ step 3
 stop 3
 begin 4 restore 7:1
 run 4
-"#
-}
-
-/// What the first one watched and queued is gone with it.
-pub fn stopped_watcher_report() -> &'static str {
-    r#"celery-report 1
+celery-report 1
 1 100 1 LPUSH celery env(7:1) = :1
 2 100 2 BRPOP celery "celery\x06\x163" "celery\x06\x166" "celery\x06\x169" 1 = *[$celery, $env(7:1)]
 3 100 2 MULTI = +OK
@@ -419,6 +318,5 @@ pub fn stopped_watcher_report() -> &'static str {
 16 100 4 RPUSH celery env(7:1)* = +QUEUED
 17 100 4 EXEC = *[:1, :1, :1]
 place 7:1 list celery 0
-total list 1 unacked 0 hand 0 ended 0 lost 0 copies 0
-"#
+total list 1 unacked 0 hand 0 ended 0 lost 0 copies 0"#
 }

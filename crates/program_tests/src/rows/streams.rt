@@ -1,11 +1,13 @@
 //! Streams for `show`.
 //!
 //! A row is the status, the place, the text that is written, and the stream, in both of which `\n` is a line feed, `\r` a
-//! carriage return, `\xff` a byte by its two digits, and `\(256:q)` so many letters.
+//! carriage return, `\xff` a byte by its two digits, and `\(256:q)` so many letters. A row with `#` at its
+//! front is a remark.
 
-/// Whole values, and where a stream ends.
-pub fn whole() -> &'static str {
+/// Streams that are shown alike in pieces of any size.
+pub fn in_any_pieces() -> &'static str {
     r#"
+# Whole values, and where a stream ends.
 0 0 |  | 
 0 0 | *[$"GET", $"k"]\n | *2\r\n$3\r\nGET\r\n$1\r\nk\r\n
 0 0 | +""\n-"ERR a\x5cx01b"\n:0\n:-1\n | +\r\n-ERR a\x01b\r\n:0\r\n:-1\r\n
@@ -21,19 +23,9 @@ pub fn whole() -> &'static str {
 0 0 | *[*[*[*[], *-, *[:1]]]]\n | *1\r\n*1\r\n*3\r\n*0\r\n*-1\r\n*1\r\n:1\r\n
 3 0 | unfinished at 0\n | $1048576\r\n
 3 0 | unfinished at 0\n | *4096\r\n
-"#
-}
-
-/// `examples/replies.resp`, with the text beside it.
-pub fn example() -> &'static str {
-    r#"
+# `examples/replies.resp`, with the text beside it.
 0 0 | *[$"GET", $"k"]\n+"OK"\n:-42\n$-\n*-\n-"ERR no \x5c"such\x5c" thing"\n*[*[], $"a\x5c\x5c\x5cx00\x5cxff"]\n | *2\r\n$3\r\nGET\r\n$1\r\nk\r\n+OK\r\n:-42\r\n$-1\r\n*-1\r\n-ERR no "such" thing\r\n*2\r\n*0\r\n$4\r\na\x5c\x00\xff\r\n
-"#
-}
-
-/// Where a value begins.
-pub fn beginnings() -> &'static str {
-    r#"
+# Where a value begins.
 3 0 | fault BadKind at 0\n | x
 3 0 | fault BadKind at 0\n | \r\n
 3 5 | +"OK"\nfault BadKind at 5\n | +OK\r\nx
@@ -55,12 +47,7 @@ pub fn beginnings() -> &'static str {
 3 12 | fault BadKind at 12\n | *3\r\n+a\r\n-b\r\nx
 3 32 | fault TooDeep at 32\n | *2\r\n*1\r\n*1\r\n*1\r\n:1\r\n*1\r\n*1\r\n*1\r\n*
 3 21 | +"OK"\nfault TooDeep at 21\n | +OK\r\n*1\r\n*1\r\n*1\r\n*1\r\n*
-"#
-}
-
-/// In an integer.
-pub fn integers() -> &'static str {
-    r#"
+# In an integer.
 3 2 | fault BadInteger at 2\n | :007\r\n
 3 1 | fault BadInteger at 1\n | :+5\r\n
 3 2 | fault BadInteger at 2\n | :-0\r\n
@@ -86,12 +73,7 @@ pub fn integers() -> &'static str {
 3 10 | fault BadInteger at 10\n | *2\r\n:1\r\n:-0
 3 27 | fault BadInteger at 27\n | *1\r\n*1\r\n:9223372036854775808
 3 18 | fault BadInteger at 18\n | *1\r\n*1\r\n*1\r\n*1\r\n:1x
-"#
-}
-
-/// In a length or a count.
-pub fn lengths() -> &'static str {
-    r#"
+# In a length or a count.
 3 7 | fault TooLong at 7\n | $1048577\r\n
 3 8 | fault TooLong at 8\n | $10485760\r\n
 3 4 | fault TooLong at 4\n | *4097\r\n
@@ -136,12 +118,7 @@ pub fn lengths() -> &'static str {
 3 13 | fault BadInteger at 13\n | *1\r\n*1\r\n*1\r\n*x
 3 23 | fault TooLong at 23\n | *1\r\n*1\r\n*1\r\n*1\r\n$1048577
 3 18 | fault BadInteger at 18\n | *1\r\n*1\r\n*1\r\n*1\r\n$-0
-"#
-}
-
-/// In a text, and where a line must end.
-pub fn line_ends() -> &'static str {
-    r#"
+# In a text, and where a line must end.
 3 2 | fault NoCrLf at 2\n | +a\n
 3 1 | fault NoCrLf at 1\n | -\n
 3 3 | fault NoCrLf at 3\n | +a\rb
@@ -204,9 +181,10 @@ pub fn long_texts() -> &'static str {
 "#
 }
 
-/// At the limit of a value's bytes, after values before it.
+/// Streams at the limit of a value's bytes.
 pub fn long_values() -> &'static str {
     r#"
+# At the limit of a value's bytes, after values before it.
 3 8388608 | fault TooLong at 8388608\n | *9\r\n$1048576\r\n\(1048576:q)\r\n$1048576\r\n\(1048576:q)\r\n$1048576\r\n\(1048576:q)\r\n$1048576\r\n\(1048576:q)\r\n$1048576\r\n\(1048576:q)\r\n$1048576\r\n\(1048576:q)\r\n$1048576\r\n\(1048576:q)\r\n$1048576\r\n\(1048576:q)\r\n
 3 8388613 | +"OK"\nfault TooLong at 8388613\n | +OK\r\n*9\r\n$1048576\r\n\(1048576:q)\r\n$1048576\r\n\(1048576:q)\r\n$1048576\r\n\(1048576:q)\r\n$1048576\r\n\(1048576:q)\r\n$1048576\r\n\(1048576:q)\r\n$1048576\r\n\(1048576:q)\r\n$1048576\r\n\(1048576:q)\r\n$1048576\r\n\(1048576:q)\r\n
 3 0 | unfinished at 0\n | *9\r\n$1048576\r\n\(1048576:q)\r\n$1048576\r\n\(1048576:q)\r\n$1048576\r\n\(1048576:q)\r\n$1048576\r\n\(1048576:q)\r\n$1048576\r\n\(1048576:q)\r\n$1048576\r\n\(1048576:q)\r\n$1048576\r\n\(1048576:q)\r\n$1048576\r\n\(1048477:q)
@@ -214,9 +192,10 @@ pub fn long_values() -> &'static str {
 "#
 }
 
-/// Past the limit of a value's bytes, in each state.
-pub fn past_values() -> &'static str {
+/// Streams past that limit, and at the last byte that a value may have.
+pub fn in_large_pieces() -> &'static str {
     r#"
+# Past the limit of a value's bytes, in each state.
 3 8388608 | fault TooLong at 8388608\n | *9\r\n$1048576\r\n\(1048576:q)\r\n$1048576\r\n\(1048576:q)\r\n$1048576\r\n\(1048576:q)\r\n$1048576\r\n\(1048576:q)\r\n$1048576\r\n\(1048576:q)\r\n$1048576\r\n\(1048576:q)\r\n$1048576\r\n\(1048576:q)\r\n$1048476\r\n\(1048476:q)\r\n
 3 8388608 | fault TooLong at 8388608\n | *9\r\n$1048576\r\n\(1048576:q)\r\n$1048576\r\n\(1048576:q)\r\n$1048576\r\n\(1048576:q)\r\n$1048576\r\n\(1048576:q)\r\n$1048576\r\n\(1048576:q)\r\n$1048576\r\n\(1048576:q)\r\n$1048576\r\n\(1048576:q)\r\n$1048473\r\n\(1048473:q)\r\n+ab
 3 8388608 | fault TooLong at 8388608\n | *9\r\n$1048576\r\n\(1048576:q)\r\n$1048576\r\n\(1048576:q)\r\n$1048576\r\n\(1048576:q)\r\n$1048576\r\n\(1048576:q)\r\n$1048576\r\n\(1048576:q)\r\n$1048576\r\n\(1048576:q)\r\n$1048576\r\n\(1048576:q)\r\n$1048473\r\n\(1048473:q)\r\n-a\r
@@ -231,12 +210,7 @@ pub fn past_values() -> &'static str {
 3 8388608 | fault TooLong at 8388608\n | *9\r\n$1048576\r\n\(1048576:q)\r\n$1048576\r\n\(1048576:q)\r\n$1048576\r\n\(1048576:q)\r\n$1048576\r\n\(1048576:q)\r\n$1048576\r\n\(1048576:q)\r\n$1048576\r\n\(1048576:q)\r\n$1048576\r\n\(1048576:q)\r\n$1048473\r\n\(1048473:q)\r\n*1\r
 3 8388608 | fault TooLong at 8388608\n | *9\r\n$1048576\r\n\(1048576:q)\r\n$1048576\r\n\(1048576:q)\r\n$1048576\r\n\(1048576:q)\r\n$1048576\r\n\(1048576:q)\r\n$1048576\r\n\(1048576:q)\r\n$1048576\r\n\(1048576:q)\r\n$1048576\r\n\(1048576:q)\r\n$1048464\r\n\(1048464:q)\r\n*1\r\n*1\r\n*1\r\n
 3 8388608 | fault TooLong at 8388608\n | *9\r\n$1048576\r\n\(1048576:q)\r\n$1048576\r\n\(1048576:q)\r\n$1048576\r\n\(1048576:q)\r\n$1048576\r\n\(1048576:q)\r\n$1048576\r\n\(1048576:q)\r\n$1048576\r\n\(1048576:q)\r\n$1048576\r\n\(1048576:q)\r\n$1048476\r\n\(1048476:q)\r\nx
-"#
-}
-
-/// At the last byte that a value may have.
-pub fn last_bytes() -> &'static str {
-    r#"
+# At the last byte that a value may have.
 3 8388607 | fault BadKind at 8388607\n | *9\r\n$1048576\r\n\(1048576:q)\r\n$1048576\r\n\(1048576:q)\r\n$1048576\r\n\(1048576:q)\r\n$1048576\r\n\(1048576:q)\r\n$1048576\r\n\(1048576:q)\r\n$1048576\r\n\(1048576:q)\r\n$1048576\r\n\(1048576:q)\r\n$1048475\r\n\(1048475:q)\r\nx
 3 8388607 | fault NoCrLf at 8388607\n | *9\r\n$1048576\r\n\(1048576:q)\r\n$1048576\r\n\(1048576:q)\r\n$1048576\r\n\(1048576:q)\r\n$1048576\r\n\(1048576:q)\r\n$1048576\r\n\(1048576:q)\r\n$1048576\r\n\(1048576:q)\r\n$1048576\r\n\(1048576:q)\r\n$1048473\r\n\(1048473:q)\r\n+a\n
 3 8388607 | fault BadInteger at 8388607\n | *9\r\n$1048576\r\n\(1048576:q)\r\n$1048576\r\n\(1048576:q)\r\n$1048576\r\n\(1048576:q)\r\n$1048576\r\n\(1048576:q)\r\n$1048576\r\n\(1048576:q)\r\n$1048576\r\n\(1048576:q)\r\n$1048576\r\n\(1048576:q)\r\n$1048473\r\n\(1048473:q)\r\n:0x

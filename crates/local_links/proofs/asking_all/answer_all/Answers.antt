@@ -1,3 +1,6 @@
+use Rattle.std.proofs.Common.{arith}
+use Rattle.sessions.proofs.Asked.{asked_all}
+use Rattle.local_links.specs.LocalTalks.{IsBeginning, desk_goes}
 use Rattle.local_links.proofs.asking_all.answer_all.Goals as goal
 
 pub values-preserved : goal.values-preserved
@@ -16,3 +19,7 @@ returns-in-Ok-false-clause-answers c =
 
 pub returns-in-Err-clause-answers : goal.returns-in-Err-clause-answers
 returns-in-Err-clause-answers c = λ first stream sent s. c.in-Err.ensures.answers first stream sent (c.values.invariant.talks first stream sent s)
+
+pub returns-clause-answers : goal.returns-clause-answers
+returns-clause-answers c = λ first stream sent s.
+    asked_all desk_goes IsBeginning first c.values.desk stream sent c.values.talking c.pending.result (c.values.invariant.talks first stream sent s) c.pending.ensures (omega (arith, c.values-test.false))

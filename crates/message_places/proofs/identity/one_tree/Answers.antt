@@ -4,4 +4,4 @@ use Rattle.message_places.proofs.Serving.{full}
 use Rattle.message_places.proofs.identity.one_tree.Goals as goal
 
 pub returns : goal.returns
-returns g c = λ κ lawful h p t b b' sound pre. general (full κ lawful) h p sound pre t b b'
+returns g c = λ κ lawful h p p' t b b' sound pre pre'. general (full κ lawful) h p p' sound pre pre' t b b'

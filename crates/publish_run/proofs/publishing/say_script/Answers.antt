@@ -28,7 +28,7 @@ returns g c =
       said = (
         good.0,
         good.1,
-        subst (λ ps. HasSaidScript g.D.Desk.goes g.D.Desk.remote g.D.Desk.shared c.args.seed 0 ps c.args.desk.now c.say_lines.new.desk (desk_shows g.D.Desk.fault g.D.Desk.stopped g.D.Desk.faults g.D.Desk.ends c.args.desk.now) (desk_shows g.D.Desk.fault g.D.Desk.stopped g.D.Desk.faults g.D.Desk.ends c.say_lines.new.desk) (sink_view g.K.Sink.taken g.K.Sink.write_faults c.args.out.now) (sink_view g.K.Sink.taken g.K.Sink.write_faults c.say_lines.new.out) c.say_lines.result)
+        subst (λ ps. HasSaidScript g.D.Desk.goes g.D.Desk.refuses g.D.Desk.remote g.D.Desk.shared c.args.seed 0 ps c.args.desk.now c.say_lines.new.desk (desk_shows g.D.Desk.fault g.D.Desk.stopped g.D.Desk.faults g.D.Desk.ends c.args.desk.now) (desk_shows g.D.Desk.fault g.D.Desk.stopped g.D.Desk.faults g.D.Desk.ends c.say_lines.new.desk) (sink_view g.K.Sink.taken g.K.Sink.write_faults c.args.out.now) (sink_view g.K.Sink.taken g.K.Sink.write_faults c.say_lines.new.out) c.say_lines.result)
             (sym (blocks_same good.0 said.0 (sym lines ∙ said.1))) said.2,
       );
     }

@@ -25,7 +25,7 @@ returns-in-Ok-Some-clause-said g c =
     let same : c.seed.result ≡ s = c.seed.ensures ∙ c.line.ensures.seed in
     let read = subst (λ o. IsLineRead s n (line_step s d c.args.line.now) (reader_of c.line.new.self) (Ok o)) c.in-Ok-Some.field-0-is c.in-Ok-Some.ensures.read in
     let draws : c.line.new.self.drawn ≡ drawn (counter_use (plan_said x)) n = subst (DrawsSo d) read.0 (draws_line s d c.args.line.now) in
-    line_said g.D.Desk.goes g.D.Desk.remote g.D.Desk.shared s n (line_step s d c.args.line.now) (reader_of c.line.new.self) c.args.desk.now c.say_step.new.desk (desk_shows g.D.Desk.fault g.D.Desk.stopped g.D.Desk.faults g.D.Desk.ends c.args.desk.now) (desk_shows g.D.Desk.fault g.D.Desk.stopped g.D.Desk.faults g.D.Desk.ends c.say_step.new.desk)
+    line_said g.D.Desk.goes g.D.Desk.refuses g.D.Desk.remote g.D.Desk.shared s n (line_step s d c.args.line.now) (reader_of c.line.new.self) c.args.desk.now c.say_step.new.desk (desk_shows g.D.Desk.fault g.D.Desk.stopped g.D.Desk.faults g.D.Desk.ends c.args.desk.now) (desk_shows g.D.Desk.fault g.D.Desk.stopped g.D.Desk.faults g.D.Desk.ends c.say_step.new.desk)
     (sink_view g.K.Sink.taken g.K.Sink.write_faults c.args.out.now) (sink_view g.K.Sink.taken g.K.Sink.write_faults c.say_step.new.out) (plan_said x) c.say_step.result read.0
-    (subst (λ (y : ℕ). HasSaidPlan g.D.Desk.goes g.D.Desk.remote g.D.Desk.shared y n (plan_said x) c.args.desk.now c.say_step.new.desk (desk_shows g.D.Desk.fault g.D.Desk.stopped g.D.Desk.faults g.D.Desk.ends c.args.desk.now) (desk_shows g.D.Desk.fault g.D.Desk.stopped g.D.Desk.faults g.D.Desk.ends c.say_step.new.desk) (sink_view g.K.Sink.taken g.K.Sink.write_faults c.args.out.now) (sink_view g.K.Sink.taken g.K.Sink.write_faults c.say_step.new.out) c.say_step.result) same
+    (subst (λ (y : ℕ). HasSaidPlan g.D.Desk.goes g.D.Desk.refuses g.D.Desk.remote g.D.Desk.shared y n (plan_said x) c.args.desk.now c.say_step.new.desk (desk_shows g.D.Desk.fault g.D.Desk.stopped g.D.Desk.faults g.D.Desk.ends c.args.desk.now) (desk_shows g.D.Desk.fault g.D.Desk.stopped g.D.Desk.faults g.D.Desk.ends c.say_step.new.desk) (sink_view g.K.Sink.taken g.K.Sink.write_faults c.args.out.now) (sink_view g.K.Sink.taken g.K.Sink.write_faults c.say_step.new.out) c.say_step.result) same
     (c.say_step.ensures.said n (subst (λ (y : ℕ). IsSayable y n x) (sym same) read.1) (counter_said n c.drawn.result x (c.drawn.ensures ∙ draws))))

@@ -30,4 +30,4 @@ returns-clause-turned g c = λ first start n s.
     let a = c.take.ensures in
     let some : 0 < c.in-Ok.count = omega (arith, c.if-count-eq0.false) in
     taken g.D.Desk.goes (g.C.Clock.gives c.args.clock.now) g.D.Desk.shared (g.D.Desk.fault c.take.new.desk) first c.args.desk.now c.take.new.desk start mid got new c.args.talking.now c.take.new.talking n s (take c.in-Ok.count c.receive.new.into)
-    e.received e.sent e.cause.kept (e.end.moved some) (gained_some _ _ c.in-Ok.count some e.gains) a.received a.later a.ends a.gains c.take.result (a.taken first s.stream s.sent s.talks)
+    e.received e.sent e.cause.kept (e.end.moved some) (gained_some _ _ c.in-Ok.count some e.gains) a.received a.later a.ends a.gains c.take.result (a.taken first s.stream s.sent s.talks s.empty)

@@ -1,0 +1,5 @@
+pub mod Rows
+pub mod Kept
+pub mod Texts
+pub mod Led
+pub mod Once

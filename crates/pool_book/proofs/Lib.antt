@@ -1,0 +1,3 @@
+pub mod Topped
+pub mod Answering
+pub mod Placing

@@ -1,0 +1,4 @@
+pub mod Deliveries
+pub mod Books
+pub mod Acts
+pub mod BookRuns
