@@ -1,6 +1,6 @@
 //! The other ends of the top call: bad words, reads and writes that fail, and where a message is after each step.
 use crate::played::{NEVER, end_of, expect, replayed, sink};
-use crate::rows::reports::{ended, one_message, published};
+use crate::rows::reports::{ended, one_message, published, recorded};
 use links::{MemorySource, Sink, Source};
 use std::alloc::{AllocError, Global};
 use std::process::Abort;
@@ -28,9 +28,44 @@ fn expect_bad_word<R: Abort>(
 fn a_bad_word_is_named_by_its_place(rt: HostRuntime) -> Result<(), Fail> {
     expect_bad_word(&rt, rt.alloc(), &[], 0, b"bad word 0\n")?;
     expect_bad_word(&rt, rt.alloc(), &["check"], 0, b"bad word 0\n")?;
-    expect_bad_word(&rt, rt.alloc(), &["replay", "--record"], 1, b"bad word 1\n")?;
-    expect_bad_word(&rt, rt.alloc(), &["show", "--record"], 1, b"bad word 1\n")?;
+    for (words, place) in bad_words() {
+        let want = format!(in rt.alloc(); "bad word {place}\n")?;
+        expect_bad_word(&rt, rt.alloc(), words, place, want.as_bytes())?;
+    }
     Ok(())
+}
+
+/// Words of which one is bad, with its place.
+fn bad_words() -> [(&'static [&'static str], u64); 11] {
+    [
+        (&["replay", ""], 1),
+        (&["replay", "--"], 1),
+        (&["replay", "--make"], 1),
+        (&["replay", "--Record"], 1),
+        (&["replay", "--records"], 1),
+        (&["replay", "--record="], 1),
+        (&["replay", "--record", "--record"], 2),
+        (&["replay", "--record", "replay"], 2),
+        (&["replay", "replay", "--record"], 1),
+        (&["--record", "replay"], 0),
+        (&["show", "--record"], 1),
+    ]
+}
+
+/// Asserts which text a run over the schedule of one message writes whose words ask for its record.
+fn expect_record<R: Abort>(rt: &R, alloc: Global, want: &str) -> Result<(), AllocError> {
+    let schedule = Bytes::from_slice(alloc, one_message().as_bytes())?;
+    let mut src = MemorySource::new(schedule, 7, vec![in alloc; NEVER]?);
+    let mut out = sink(alloc, NEVER)?;
+    let end = run(alloc, &["replay", "--record"], &mut src, &mut out);
+    assert!(rt; end == end_of(0, 0));
+    assert!(rt; out.taken() == want.as_bytes());
+    Ok(())
+}
+
+#[test]
+fn a_record_is_written_where_it_is_asked_for(rt: HostRuntime) -> Result<(), Fail> {
+    Ok(expect_record(&rt, rt.alloc(), recorded())?)
 }
 
 /// Asserts how a run ends of which the read of this number fails.

@@ -1,5 +1,5 @@
 -- Why a run ends as it does.
-use Rattle.std.proofs.Common.{List, Result, Err, ap, inl, inr, sym, true, ℕ, ◌≡◌, ◌∙◌}
+use Rattle.std.proofs.Common.{Bool, List, Err, ap, false, inl, inr, refl, sym, true, ℕ, ◌≡◌, ◌∙◌}
 use Rattle.links.specs.Ends.{IsPast, IsWholeInput}
 use Rattle.links.specs.Views.{SourceView}
 use Rattle.message_schedules.proofs.Companions.{full_desk, messages_have_one_tree, messages_published_once, messages_were_published, passes_account, returns_are_whole, stops_move_one, whole_scheduled}
@@ -16,18 +16,20 @@ use Rattle.schedule_world.specs.declared.run.RunFault.{RunFault}
 use Rattle.schedule_world.specs.declared.run.RunFault.TheVariants as run
 use Rattle.top_call.proofs.Fronts.{schedule_run-past}
 use Rattle.top_call.specs.Endings.{EndsAs, MayEnd}
-use Rattle.top_call.specs.Mappings.{end_given}
-use Rattle.top_call.specs.Replays.{IsFull, IsReport, replay_run}
-use Rattle.top_call.specs.Words.{is_replay}
-use Rattle.top_call.specs.declared.ending.End.TheVariants.{BadByte, BadLine, BadWord, Full, LongStream, Memory, ReadFault, Reported, Shown as ShownEnd, Unfinished}
+use Rattle.top_call.specs.Mappings.{asked_text, end_given, end_written}
+use Rattle.top_call.specs.Replays.{IsFull, IsHistoryText, replay_run}
+use Rattle.top_call.specs.Words.{is_recording, reads_schedule}
+use Rattle.top_call.proofs.Asked.{just_replay}
+use Rattle.history_records.specs.Records.{record_text}
+use Rattle.top_call.specs.declared.ending.End.TheVariants.{BadByte, BadLine, BadWord, Full, LongStream, Memory, ReadFault, Recorded, Reported, Shown as ShownEnd, Unfinished}
 use Rattle.top_call.specs.declared.ending.End.{End}
 
--- the report of the history that a schedule determines
-pub report_of : (schedule text : List ℕ) (h : History Heard) → ((d : ScheduleReader) × (replay_run schedule ≡ Whole d) × (reader_history d ≡ h)) → text ≡ report_text program_legend h → IsReport schedule text
-report_of schedule text h (d, run, same) written = record {
+-- a text of the history that a schedule determines
+pub text_of_run : (form : History Heard → List ℕ) (schedule text : List ℕ) (h : History Heard) → ((d : ScheduleReader) × (replay_run schedule ≡ Whole d) × (reader_history d ≡ h)) → text ≡ form h → IsHistoryText form schedule text
+text_of_run form schedule text h (d, run, same) written = record {
   desk = d;
   determined = run;
-  written = written ∙ ap (report_text program_legend) (sym same);
+  written = written ∙ ap form (sym same);
   sound = whole_sound schedule d run;
   placed = whole_placed schedule d run;
   stops = stops_move_one (reader_history d) (whole_scheduled schedule d run);
@@ -37,6 +39,11 @@ report_of schedule text h (d, run, same) written = record {
   once = messages_published_once (reader_history d) (whole_scheduled schedule d run);
   trees = messages_have_one_tree (reader_history d) (whole_scheduled schedule d run);
 }
+
+-- the report of it, or the record
+pub asked_of : (recording : Bool) (schedule text : List ℕ) (h : History Heard) → ((d : ScheduleReader) × (replay_run schedule ≡ Whole d) × (reader_history d ≡ h)) → text ≡ asked_text recording h → EndsAs recording schedule (end_written text recording)
+asked_of true schedule text h run written = (refl, text_of_run record_text schedule text h run written)
+asked_of false schedule text h run written = (refl, text_of_run (report_text program_legend) schedule text h run written)
 
 -- the desk that a schedule filled
 pub full_of : (schedule : List ℕ) (entries cost : ℕ) → replay_run schedule ≡ schedules.Full entries cost → IsFull schedule entries cost
@@ -55,14 +62,15 @@ full_of schedule entries cost run = let (filled, full, scheduled, placed) = full
 }
 
 -- what a schedule without a whole history leads to
-pub end_of_fault : (schedule : List ℕ) (fault : RunFault) → HasRun (replay_run schedule) (Err fault) → EndsAs schedule (end_given fault)
-end_of_fault schedule (run.Bad bad) is = is
-end_of_fault schedule (run.Full entries cost) is = full_of schedule entries cost is
-end_of_fault schedule run.Memory is = tt
+pub end_of_fault : (recording : Bool) (schedule : List ℕ) (fault : RunFault) → HasRun (replay_run schedule) (Err fault) → EndsAs recording schedule (end_given fault)
+end_of_fault recording schedule (run.Bad bad) is = is
+end_of_fault recording schedule (run.Full entries cost) is = full_of schedule entries cost is
+end_of_fault recording schedule run.Memory is = tt
 
 -- an input that was read to its end
-pub shown_whole : (words : List (List ℕ)) (before now : SourceView) (bytes : List ℕ) (end : End) → is_replay words ≡ true → IsWholeInput max_input before now bytes → EndsAs bytes end → MayEnd words before now end
-shown_whole words before now bytes (Reported report) lawful whole ends = (lawful, (bytes, whole, ends))
+pub shown_whole : (words : List (List ℕ)) (before now : SourceView) (bytes : List ℕ) (end : End) → reads_schedule words ≡ true → IsWholeInput max_input before now bytes → EndsAs (is_recording words) bytes end → MayEnd words before now end
+shown_whole words before now bytes (Reported report) lawful whole (plain, is) = (just_replay words lawful plain, (bytes, whole, is))
+shown_whole words before now bytes (Recorded text) lawful whole (asked, is) = (asked, (bytes, whole, is))
 shown_whole words before now bytes (BadWord place) lawful whole ends = absurd ends
 shown_whole words before now bytes ShownEnd lawful whole ends = absurd ends
 shown_whole words before now bytes (BadByte kind place) lawful whole ends = absurd ends
@@ -74,8 +82,9 @@ shown_whole words before now bytes (Full entries cost) lawful whole ends = (lawf
 shown_whole words before now bytes Memory lawful whole ends = whole.kept
 
 -- an input past the limit
-pub shown_past : (words : List (List ℕ)) (before now : SourceView) (bytes : List ℕ) (end : End) → is_replay words ≡ true → IsPast max_input before now bytes → EndsAs bytes end → MayEnd words before now end
-shown_past words before now bytes (Reported report) lawful past ends = absurd (schedule_run-past program_craft bytes ends.desk past.over ends.determined)
+pub shown_past : (words : List (List ℕ)) (before now : SourceView) (bytes : List ℕ) (end : End) → reads_schedule words ≡ true → IsPast max_input before now bytes → EndsAs (is_recording words) bytes end → MayEnd words before now end
+shown_past words before now bytes (Reported report) lawful past (plain, is) = absurd (schedule_run-past program_craft bytes is.desk past.over is.determined)
+shown_past words before now bytes (Recorded text) lawful past (asked, is) = absurd (schedule_run-past program_craft bytes is.desk past.over is.determined)
 shown_past words before now bytes (BadWord place) lawful past ends = absurd ends
 shown_past words before now bytes ShownEnd lawful past ends = absurd ends
 shown_past words before now bytes (BadByte kind place) lawful past ends = absurd ends

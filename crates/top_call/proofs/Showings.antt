@@ -1,12 +1,10 @@
 -- What each status of a run of `show` says.
-use Rattle.std.proofs.Common.{Contains, List, None, Option, Some, [], ap, append-nil, append_assoc, arith, inl, inr, length, length-append, lit<, refl, subst, suc, sym, zero, ℕ, ◌+◌, ◌++◌, ◌≡◌, ◌∙◌, ◌∷◌, ◌≤◌, ◌⊎◌}
-use Rattle.std.proofs.KnownBytes.{Appends-trans}
+use Rattle.std.proofs.Common.{Contains, List, None, Option, Some, [], ap, append-nil, arith, inl, inr, length, length-append, lit<, refl, subst, suc, sym, zero, ℕ, ◌++◌, ◌≡◌, ◌∙◌, ◌∷◌, ◌≤◌, ◌⊎◌}
 use Rattle.std.specs.Io.KnownBytes.{Appends, Consumes}
 use Rattle.links.specs.Causes.{AppendsFront, Rose}
-use Rattle.links.specs.Ends.{HasReadUpTo, IsWholeInput}
 use Rattle.links.specs.Views.{SinkView, SourceView}
 use Rattle.top_call.proofs.Statuses.{consumed_all, consumed_front}
-use Rattle.top_call.specs.Endings.{HasTold, IsTold, IsToldFor, TellsShown, Took, Written, ended_of, telling, text_of}
+use Rattle.top_call.specs.Endings.{HasTold, IsTold, IsToldFor, TellsShown, Took, ended_of, telling, text_of}
 use Rattle.top_call.specs.Showings.{IsAllShown, IsByteWrong, IsCutAfter, IsEndWithin, IsMemoryCut, IsPastShowing, IsReadCut, IsShowing, IsWriteCut}
 use Rattle.top_call.specs.declared.ending.End.TheVariants.{BadByte, LongStream, Memory, ReadFault, Shown as ShownEnd, Unfinished}
 use Rattle.top_call.specs.declared.ending.End.{End}
@@ -14,7 +12,7 @@ use Rattle.top_call.specs.declared.ending.Ended.{Ended}
 use Rattle.wire_show.proofs.Endings.{ends_begun}
 use Rattle.wire_show.proofs.Sources.{cut_more, written_more}
 use Rattle.wire_show.proofs.Streams.{whole_not_bad, whole_not_unfinished}
-use Rattle.wire_show.specs.Shows.{EndsShown, HasReadFor, HasShown, HasWrittenFor, IsShownEnd, IsWholeStream, IsWritten, input_limit, value_lines}
+use Rattle.wire_show.specs.Shows.{EndsShown, HasReadFor, IsWholeStream, IsWritten, value_lines}
 use Rattle.wire_show.specs.declared.ending.ShowEnd.{ShowEnd}
 use Rattle.wire_show.specs.declared.ending.ShowEnd.TheVariants.{Bad, Long, Whole, WriteFault}
 use Rattle.wire_show.specs.declared.ending.ShowEnd.TheVariants as show

@@ -1,26 +1,31 @@
 -- What each status of a run says.
-use Rattle.std.proofs.Common.{Contains, List, None, Option, Some, [], ap, append-nil, arith, inl, inr, lit<, refl, subst, sym, true, unwrap_or, ℕ, ◌++◌, ◌≡◌, ◌∙◌, ◌∷◌, ◌≤◌, ◌⊎◌}
+use Rattle.std.proofs.Common.{Contains, List, None, Option, Some, [], ap, append-nil, arith, inl, inr, lit<, refl, subst, sym, true, unwrap_or, ℕ, ◌++◌, ◌≡◌, ◌∙◌, ◌∷◌, ◌≤◌}
 use Rattle.std.proofs.lemmas.Option.{none-some}
 use Rattle.std.specs.Io.KnownBytes.{Appends, Consumes, IsAtEnd}
 use Rattle.links.specs.Causes.{Rose}
 use Rattle.links.specs.Views.{SinkView, SourceView}
-use Rattle.schedule_model.specs.Programs.{program_craft}
+use Rattle.schedule_model.specs.Programs.{program_craft, program_legend}
+use Rattle.schedule_model.specs.Reports.{report_text}
+use Rattle.history_records.specs.Records.{record_text}
+use Rattle.place_model.specs.Histories.{History}
+use Rattle.place_model.specs.declared.heard.Heard.{Heard}
 use Rattle.schedule_model.specs.Schedules.{Bad_line, Determined, Whole}
 use Rattle.schedule_model.specs.Schedules as schedules
 use Rattle.top_call.proofs.Fronts.{schedule_run-front}
 use Rattle.top_call.specs.Endings.{HasAnswered, IsToldFor, MayEnd, ended_of, text_of}
-use Rattle.top_call.specs.Replays.{HasInput, IsReport, calm_statuses, replay_run}
-use Rattle.top_call.specs.Statuses.{IsAnswerTo, IsBadLine, IsBadWord, IsHistoryFull, IsOutOfMemory, IsReadFault, IsReported, IsWriteFault, WritesBadLine, WritesFull, WritesReport}
-use Rattle.top_call.specs.Words.{bad_place, is_replay}
-use Rattle.top_call.proofs.Asked.{lawful_good}
+use Rattle.top_call.specs.Replays.{HasInput, IsHistoryText, calm_statuses, replay_run}
+use Rattle.top_call.specs.Statuses.{IsAnswerTo, IsBadLine, IsBadWord, IsHistoryFull, IsOutOfMemory, IsReadFault, IsReported, IsWriteFault, WritesAsked, WritesBadLine, WritesFull}
+use Rattle.top_call.specs.Words.{bad_place, reads_schedule}
+use Rattle.top_call.proofs.Asked.{lawful_good, recording_lawful, replay_lawful}
 use Rattle.top_call.proofs.Endings.{full_of}
-use Rattle.top_call.specs.declared.ending.End.TheVariants.{BadByte, BadLine, BadWord, Full, LongStream, Memory, ReadFault, Reported, Shown as ShownEnd, Unfinished}
+use Rattle.top_call.specs.declared.ending.End.TheVariants.{BadByte, BadLine, BadWord, Full, LongStream, Memory, ReadFault, Recorded, Reported, Shown as ShownEnd, Unfinished}
 use Rattle.top_call.specs.declared.ending.End.{End}
 use Rattle.top_call.specs.declared.ending.Ended.{Ended}
 
 -- a run that ends so for another cause has a source that didn't fail
 calm_source_of : (words : List (List ℕ)) (b n : SourceView) (end : End) → MayEnd words b n end → (end ≡ ReadFault → ⊥) → n.faults ≡ b.faults
 calm_source_of words b n (Reported report) (lawful, (bytes, whole, is)) other = whole.kept
+calm_source_of words b n (Recorded text) (lawful, (bytes, whole, is)) other = whole.kept
 calm_source_of words b n ShownEnd shown other = absurd shown
 calm_source_of words b n (BadByte kind place) shown other = absurd shown
 calm_source_of words b n (Unfinished place) shown other = absurd shown
@@ -44,7 +49,8 @@ module _ (words : List (List ℕ)) (b n : SourceView) (o x : SinkView) (r : Ende
     where
       by : (e : End) → MayEnd words b n e → Appends o.taken x.taken (text_of e) → (ended_of e).status ≡ 0 → IsReported words b n o x
       by ShownEnd shown text zero = absurd shown
-      by (Reported report) (lawful, (bytes, whole, is)) text zero = (lawful, (bytes, whole, (report, is, text)))
+      by (Reported report) (lawful, (bytes, whole, is)) text zero = (bytes, whole, inl (lawful, (report, is, text)))
+      by (Recorded whole_text) (lawful, (bytes, whole, is)) text zero = (bytes, whole, inr (lawful, (whole_text, is, text)))
       by _ shown text zero = absurd (omega (arith, zero))
   status_reported (e, shown, inr (is, front, later, rose)) zero = let five = sym (ap (λ v. v.status) is) ∙ zero in absurd (omega (arith, five))
 
@@ -80,6 +86,7 @@ module _ (words : List (List ℕ)) (b n : SourceView) (o x : SinkView) (r : Ende
     where
       by : (e : End) → (ended_of e).status ≡ 5 → IsWriteFault words b n o x
       by (Reported report) five = absurd (omega (arith, five))
+      by (Recorded text) five = absurd (omega (arith, five))
       by ShownEnd five = absurd (omega (arith, five))
       by (BadByte kind place) five = absurd (omega (arith, five))
       by (Unfinished place) five = absurd (omega (arith, five))
@@ -116,6 +123,7 @@ module _ (words : List (List ℕ)) (b n : SourceView) (o x : SinkView) (r : Ende
     where
       by : (e : End) → r.status ≡ (ended_of e).status → Contains (0 ∷ 2 ∷ 3 ∷ 4 ∷ 5 ∷ 9 ∷ 11 ∷ []) r.status
       by (Reported report) is = rw is (0, lit< tt, refl)
+      by (Recorded text) is = rw is (0, lit< tt, refl)
       by ShownEnd is = rw is (0, lit< tt, refl)
       by (BadByte kind place) is = rw is (2, lit< tt, refl)
       by (Unfinished place) is = rw is (2, lit< tt, refl)
@@ -131,7 +139,8 @@ module _ (words : List (List ℕ)) (b n : SourceView) (o x : SinkView) (r : Ende
   status_unlawful (e, shown, inl (is, text, kept)) place unlawful = by e shown (ap (λ v. v.status) is)
     where
       by : (e : End) → MayEnd words b n e → r.status ≡ (ended_of e).status → Contains (2 ∷ 5 ∷ 11 ∷ []) r.status
-      by (Reported report) shown is = absurd (lawful_good words place shown.0 unlawful)
+      by (Reported report) shown is = absurd (replay_lawful words place shown.0 unlawful)
+      by (Recorded text) shown is = absurd (recording_lawful words place shown.0 unlawful)
       by ShownEnd shown is = absurd shown
       by (BadByte kind at) shown is = absurd shown
       by (Unfinished at) shown is = absurd shown
@@ -162,9 +171,9 @@ run_of_input b n schedule bytes told (inr past) =
     let (more, split) = consumed_front b.left n.left schedule bytes told past.read.consumed in
     ap replay_run split ∙ schedule_run-front program_craft bytes more past.over
 
--- the report of what was read is that of the whole input
-report_of_input : (schedule bytes text : List ℕ) → replay_run schedule ≡ replay_run bytes → IsReport bytes text → IsReport schedule text
-report_of_input schedule bytes text same is = record {
+-- the text of what was read is that of the whole input
+text_of_input : (form : History Heard → List ℕ) (schedule bytes text : List ℕ) → replay_run schedule ≡ replay_run bytes → IsHistoryText form bytes text → IsHistoryText form schedule text
+text_of_input form schedule bytes text same is = record {
   desk = is.desk;
   determined = same ∙ is.determined;
   written = is.written;
@@ -189,15 +198,16 @@ calm_memory (schedules.Full entries cost) = (1, lit< tt, refl)
 calm_memory (Bad_line line reason) = (1, lit< tt, refl)
 
 module _ (words : List (List ℕ)) (b n : SourceView) (o x : SinkView) (r : Ended) (schedule : List ℕ) (told : b.left ≡ Some schedule) where
-  pub answer_of_input : HasAnswered words b n o x r → IsAnswerTo schedule o x r
+  pub answer_of_input : HasAnswered words b n o x r → IsAnswerTo words schedule o x r
   answer_of_input ended = record {
     reported = λ zero. first (status_reported words b n o x r ended zero);
     bad_line = λ three. second (status_bad_line words b n o x r ended three);
     history_full = λ nine. third (status_history_full words b n o x r ended nine);
   }
     where
-      first : IsReported words b n o x → WritesReport o x schedule
-      first (lawful, (bytes, whole, (report, is, text))) = (report, report_of_input schedule bytes report (run_of_input b n schedule bytes told (inl whole)) is, text)
+      first : IsReported words b n o x → WritesAsked words o x schedule
+      first (bytes, whole, inl (lawful, (report, is, text))) = inl (lawful, (report, text_of_input (report_text program_legend) schedule bytes report (run_of_input b n schedule bytes told (inl whole)) is, text))
+      first (bytes, whole, inr (lawful, (t, is, text))) = inr (lawful, (t, text_of_input record_text schedule bytes t (run_of_input b n schedule bytes told (inl whole)) is, text))
 
       second : IsBadLine words b n o x r.place → WritesBadLine o x schedule r.place
       second (lawful, (bytes, input, (why, run, text))) = (why, run_of_input b n schedule bytes told input ∙ run, text)
@@ -205,11 +215,12 @@ module _ (words : List (List ℕ)) (b n : SourceView) (o x : SinkView) (r : Ende
       third : IsHistoryFull words b n o x → WritesFull o x schedule
       third (lawful, (bytes, input, (entries, cost, run, text))) = (entries, cost, full_of schedule entries cost (run_of_input b n schedule bytes told input ∙ run.determined), text)
 
-  pub status_complete : HasAnswered words b n o x r → is_replay words ≡ true → ¬ (Rose b.faults n.faults) → ¬ (Rose o.faults x.faults) → Contains (calm_statuses (replay_run schedule)) r.status
+  pub status_complete : HasAnswered words b n o x r → reads_schedule words ≡ true → ¬ (Rose b.faults n.faults) → ¬ (Rose o.faults x.faults) → Contains (calm_statuses (replay_run schedule)) r.status
   status_complete (e, shown, inl (is, written, kept)) lawful calm_source calm_sink = by e shown (ap (λ v. v.status) is)
     where
       by : (e : End) → MayEnd words b n e → r.status ≡ (ended_of e).status → Contains (calm_statuses (replay_run schedule)) r.status
       by (Reported report) (good, (bytes, whole, is)) at = rw at (calm schedule _ 0 (run_of_input b n schedule bytes told (inl whole) ∙ is.determined) (0, lit< tt, refl))
+      by (Recorded text) (good, (bytes, whole, is)) at = rw at (calm schedule _ 0 (run_of_input b n schedule bytes told (inl whole) ∙ is.determined) (0, lit< tt, refl))
       by (BadWord place) shown at = absurd (lawful_good words place lawful shown.0)
       by ShownEnd shown at = absurd shown
       by (BadByte kind place) shown at = absurd shown

@@ -1,24 +1,25 @@
 -- How a run ends: its text, its status, and why it may end so. Serves the proofs of code.
 use Rattle.std.specs.Io.KnownBytes.{Appends, Consumes}
-use Rattle.std.specs.Prelude.{List, None, Option, Some, [], codes, false, true, decimal, length, ℕ, ◌++◌, ◌+◌, ◌≡◌, ◌≤◌, ◌⊎◌}
+use Rattle.std.specs.Prelude.{Bool, List, None, Option, Some, [], codes, false, true, decimal, length, ℕ, ◌++◌, ◌+◌, ◌≡◌, ◌≤◌, ◌⊎◌}
 use Rattle.line_text.specs.Reason.{reason_text}
 use Rattle.links.specs.Causes.{AppendsFront, Rose}
 use Rattle.links.specs.Ends.{IsWholeInput}
 use Rattle.links.specs.Views.{SinkView, SourceView}
-use Rattle.top_call.specs.Replays.{HasInput, IsFirstBad, IsFull, IsReport}
-use Rattle.top_call.specs.Words.{bad_place, is_replay, is_show}
+use Rattle.top_call.specs.Replays.{HasInput, IsFirstBad, IsFull, IsRecordText, IsReport}
+use Rattle.top_call.specs.Words.{bad_place, is_recording, is_replay, is_show, reads_schedule}
 use Rattle.schedule_model.specs.Schedules.{max_input}
 use Rattle.wire_show.specs.Shows.{HasShown, input_limit, kind_name}
 use Rattle.wire_show.specs.declared.ending.ShowEnd.{ShowEnd}
 use Rattle.wire_show.specs.declared.ending.ShowEnd.TheVariants.{Bad, Long, Whole, WriteFault}
 use Rattle.wire_show.specs.declared.ending.ShowEnd.TheVariants as show
-use Rattle.top_call.specs.declared.ending.End.TheVariants.{BadByte, BadLine, BadWord, Full, LongStream, Memory, ReadFault, Reported, Shown as ShownEnd, Unfinished}
+use Rattle.top_call.specs.declared.ending.End.TheVariants.{BadByte, BadLine, BadWord, Full, LongStream, Memory, ReadFault, Recorded, Reported, Shown as ShownEnd, Unfinished}
 use Rattle.top_call.specs.declared.ending.End.{End}
 use Rattle.top_call.specs.declared.ending.Ended.{Ended}
 
 -- the text of an ending
 abbrev pub text_of : End → List ℕ
 text_of (Reported report) = report
+text_of (Recorded text) = text
 text_of ShownEnd = []
 text_of (BadByte kind place) = codes "fault " ++ (kind_name kind ++ (codes " at " ++ (decimal place ++ codes "\n")))
 text_of (Unfinished place) = codes "unfinished at " ++ (decimal place ++ codes "\n")
@@ -32,6 +33,7 @@ text_of Memory = codes "out of memory\n"
 -- the status of an ending, and its place
 abbrev pub ended_of : End → Ended
 ended_of (Reported report) = record { status = 0; place = 0; left = 0 }
+ended_of (Recorded text) = record { status = 0; place = 0; left = 0 }
 ended_of ShownEnd = record { status = 0; place = 0; left = 0 }
 ended_of (BadByte kind place) = record { status = 3; place = place; left = 0 }
 ended_of (Unfinished place) = record { status = 3; place = place; left = 0 }
@@ -42,30 +44,32 @@ ended_of ReadFault = record { status = 4; place = 0; left = 0 }
 ended_of (Full entries bytes) = record { status = 9; place = 0; left = 0 }
 ended_of Memory = record { status = 11; place = 0; left = 0 }
 
--- how a run over this schedule may end
-abbrev pub EndsAs : List ℕ → End → Type 0
-EndsAs schedule (Reported report) = IsReport schedule report
-EndsAs schedule ShownEnd = ⊥
-EndsAs schedule (BadByte kind place) = ⊥
-EndsAs schedule (Unfinished place) = ⊥
-EndsAs schedule LongStream = ⊥
-EndsAs schedule (BadWord place) = ⊥
-EndsAs schedule (BadLine bad) = IsFirstBad schedule bad
-EndsAs schedule ReadFault = ⊥
-EndsAs schedule (Full entries cost) = IsFull schedule entries cost
-EndsAs schedule Memory = Unit {0}
+-- how a run over this schedule may end, by whether its record is asked for or its report
+abbrev pub EndsAs : Bool → List ℕ → End → Type 0
+EndsAs recording schedule (Reported report) = (recording ≡ false) × IsReport schedule report
+EndsAs recording schedule (Recorded text) = (recording ≡ true) × IsRecordText schedule text
+EndsAs recording schedule ShownEnd = ⊥
+EndsAs recording schedule (BadByte kind place) = ⊥
+EndsAs recording schedule (Unfinished place) = ⊥
+EndsAs recording schedule LongStream = ⊥
+EndsAs recording schedule (BadWord place) = ⊥
+EndsAs recording schedule (BadLine bad) = IsFirstBad schedule bad
+EndsAs recording schedule ReadFault = ⊥
+EndsAs recording schedule (Full entries cost) = IsFull schedule entries cost
+EndsAs recording schedule Memory = Unit {0}
 
 -- why a run that shows no stream may end so: its words, and what it read
 abbrev pub MayEnd : List (List ℕ) → SourceView → SourceView → End → Type 0
 MayEnd words before now (Reported report) = (is_replay words ≡ true) × ((bytes : List ℕ) × IsWholeInput max_input before now bytes × IsReport bytes report)
+MayEnd words before now (Recorded text) = (is_recording words ≡ true) × ((bytes : List ℕ) × IsWholeInput max_input before now bytes × IsRecordText bytes text)
 MayEnd words before now ShownEnd = ⊥
 MayEnd words before now (BadByte kind place) = ⊥
 MayEnd words before now (Unfinished place) = ⊥
 MayEnd words before now LongStream = ⊥
 MayEnd words before now (BadWord place) = (bad_place words ≡ Some place) × (now ≡ before)
-MayEnd words before now (BadLine bad) = (is_replay words ≡ true) × ((bytes : List ℕ) × HasInput before now bytes × IsFirstBad bytes bad)
-MayEnd words before now ReadFault = (is_replay words ≡ true) × (before.faults ≤ now.faults) × Rose before.faults now.faults
-MayEnd words before now (Full entries cost) = (is_replay words ≡ true) × ((bytes : List ℕ) × HasInput before now bytes × IsFull bytes entries cost)
+MayEnd words before now (BadLine bad) = (reads_schedule words ≡ true) × ((bytes : List ℕ) × HasInput before now bytes × IsFirstBad bytes bad)
+MayEnd words before now ReadFault = (reads_schedule words ≡ true) × (before.faults ≤ now.faults) × Rose before.faults now.faults
+MayEnd words before now (Full entries cost) = (reads_schedule words ≡ true) × ((bytes : List ℕ) × HasInput before now bytes × IsFull bytes entries cost)
 MayEnd words before now Memory = now.faults ≡ before.faults
 
 -- the whole text was written and this is answered, or the sink failed within it and the status is 5

@@ -4,7 +4,10 @@ use Rattle.line_text.specs.declared.reason.BadLine.{BadLine}
 use Rattle.links.specs.Ends.{IsPast, IsWholeInput}
 use Rattle.links.specs.Views.{SourceView}
 use Rattle.command_blocks.specs.EnvelopeTexts.{plain_setting}
+use Rattle.place_model.specs.Histories.{History}
 use Rattle.place_model.specs.Starts.{IsSound}
+use Rattle.place_model.specs.declared.heard.Heard.{Heard}
+use Rattle.history_records.specs.Records.{record_text}
 use Rattle.message_schedules.specs.Companions.{MessagesHaveOneTree, MessagesPublishedOnce, MessagesWerePublished, PassesAccount, ReturnsAreWhole, StopsMoveOne}
 use Rattle.schedule_model.specs.Costs.{is_full}
 use Rattle.schedule_model.specs.Desk.{ScheduleReader, first_desk}
@@ -23,13 +26,13 @@ HasInput before now bytes = IsWholeInput max_input before now bytes ⊎ IsPast m
 abbrev pub replay_run : List ℕ → Determined
 replay_run schedule = schedule_run program_craft schedule
 
--- the text is the report of the history that this schedule determines; that history is sound, after each of its prefixes
--- each message that is accepted and single is in exactly one place, and of its stops, returns, passes and envelopes holds
--- what follows
-pub record IsReport (schedule text : List ℕ) : Type 0 where
+-- the text is of this form, for the history that this schedule determines; that history is sound, after each of its
+-- prefixes each message that is accepted and single is in exactly one place, and of its stops, returns, passes and
+-- envelopes holds what follows
+pub record IsHistoryText (form : History Heard → List ℕ) (schedule text : List ℕ) : Type 0 where
   pub desk : ScheduleReader
   pub determined : replay_run schedule ≡ Whole desk
-  pub written : text ≡ report_text program_legend (reader_history desk)
+  pub written : text ≡ form (reader_history desk)
   pub sound : IsSound plain_setting (reader_history desk)
   pub placed : IsEachPlaced (reader_history desk)
   pub stops : StopsMoveOne (reader_history desk)
@@ -38,6 +41,14 @@ pub record IsReport (schedule text : List ℕ) : Type 0 where
   pub published : MessagesWerePublished (reader_history desk)
   pub once : MessagesPublishedOnce (reader_history desk)
   pub trees : MessagesHaveOneTree (reader_history desk)
+
+-- the text is the report of that history
+abbrev pub IsReport : List ℕ → List ℕ → Type 0
+IsReport schedule text = IsHistoryText (report_text program_legend) schedule text
+
+-- the text is the record of that history
+abbrev pub IsRecordText : List ℕ → List ℕ → Type 0
+IsRecordText schedule text = IsHistoryText record_text schedule text
 
 -- the first bad line of this schedule, and the first reason that holds of it
 abbrev pub IsFirstBad : List ℕ → BadLine → Type 0

@@ -1,14 +1,14 @@
 -- What each status of a run says by itself.
 use Rattle.std.specs.Io.KnownBytes.{Appends}
-use Rattle.std.specs.Prelude.{List, Some, true, ℕ, ◌≡◌, ◌≤◌}
+use Rattle.std.specs.Prelude.{List, Some, true, ℕ, ◌≡◌, ◌≤◌, ◌⊎◌}
 use Rattle.line_text.specs.declared.reason.Reason.{Reason}
 use Rattle.links.specs.Causes.{AppendsFront, Rose}
 use Rattle.links.specs.Ends.{IsWholeInput}
 use Rattle.links.specs.Views.{SinkView, SourceView}
 use Rattle.schedule_model.specs.Schedules.{max_input}
 use Rattle.top_call.specs.Endings.{MayEnd, text_of}
-use Rattle.top_call.specs.Replays.{HasInput, IsFirstBad, IsFull, IsReport}
-use Rattle.top_call.specs.Words.{bad_place, is_replay}
+use Rattle.top_call.specs.Replays.{HasInput, IsFirstBad, IsFull, IsRecordText, IsReport}
+use Rattle.top_call.specs.Words.{bad_place, is_recording, is_replay, reads_schedule}
 use Rattle.top_call.specs.declared.ending.End.TheVariants.{BadWord, BadLine, Full, Memory, ReadFault}
 use Rattle.top_call.specs.declared.ending.End.{End}
 use Rattle.top_call.specs.declared.ending.Ended.{Ended}
@@ -28,10 +28,18 @@ abbrev pub WritesFull : SinkView → SinkView → List ℕ → Type 0
 WritesFull old new schedule = (entries : ℕ) × (cost : ℕ) × IsFull schedule entries cost
     × Appends old.taken new.taken (text_of (Full entries cost))
 
--- status 0: the words are lawful, the input was read to its end, and its report was written
+-- the record of this schedule's history was written
+abbrev pub WritesRecord : SinkView → SinkView → List ℕ → Type 0
+WritesRecord old new schedule = (text : List ℕ) × IsRecordText schedule text × Appends old.taken new.taken text
+
+-- what the words ask for was written: the report of this schedule, or the record
+abbrev pub WritesAsked : List (List ℕ) → SinkView → SinkView → List ℕ → Type 0
+WritesAsked words old new schedule =
+    ((is_replay words ≡ true) × WritesReport old new schedule) ⊎ ((is_recording words ≡ true) × WritesRecord old new schedule)
+
+-- status 0: the words are lawful, the input was read to its end, and what they ask for was written
 abbrev pub IsReported : List (List ℕ) → SourceView → SourceView → SinkView → SinkView → Type 0
-IsReported words before now old new = (is_replay words ≡ true)
-    × ((bytes : List ℕ) × IsWholeInput max_input before now bytes × WritesReport old new bytes)
+IsReported words before now old new = (bytes : List ℕ) × IsWholeInput max_input before now bytes × WritesAsked words old new bytes
 
 -- status 2: the word at this place is the first bad one, nothing was read, and its text was written
 abbrev pub IsBadWord : List (List ℕ) → SourceView → SourceView → SinkView → SinkView → ℕ → Type 0
@@ -40,7 +48,7 @@ IsBadWord words before now old new place = (bad_place words ≡ Some place) × (
 
 -- status 3: the line of this number is the first bad one of the input, for the reason that was written
 abbrev pub IsBadLine : List (List ℕ) → SourceView → SourceView → SinkView → SinkView → ℕ → Type 0
-IsBadLine words before now old new line = (is_replay words ≡ true)
+IsBadLine words before now old new line = (reads_schedule words ≡ true)
     × ((bytes : List ℕ) × HasInput before now bytes × WritesBadLine old new bytes line)
 
 -- status 4: the source's count rose, and its text was written
@@ -54,7 +62,7 @@ IsWriteFault words before now old new = (old.faults ≤ new.faults) × Rose old.
 
 -- status 9: a line of the input was to add to a full history, whose numbers were written
 abbrev pub IsHistoryFull : List (List ℕ) → SourceView → SourceView → SinkView → SinkView → Type 0
-IsHistoryFull words before now old new = (is_replay words ≡ true)
+IsHistoryFull words before now old new = (reads_schedule words ≡ true)
     × ((bytes : List ℕ) × HasInput before now bytes × WritesFull old new bytes)
 
 -- status 11: the source didn't fail, and the text of want of memory was written
@@ -62,7 +70,7 @@ abbrev pub IsOutOfMemory : SourceView → SourceView → SinkView → SinkView �
 IsOutOfMemory before now old new = (now.faults ≡ before.faults) × Appends old.taken new.taken (text_of Memory)
 
 -- status and text are those of the whole input, where the source told it
-pub record IsAnswerTo (schedule : List ℕ) (old new : SinkView) (result : Ended) : Type 0 where
-  pub reported : result.status ≡ 0 → WritesReport old new schedule
+pub record IsAnswerTo (words : List (List ℕ)) (schedule : List ℕ) (old new : SinkView) (result : Ended) : Type 0 where
+  pub reported : result.status ≡ 0 → WritesAsked words old new schedule
   pub bad_line : result.status ≡ 3 → WritesBadLine old new schedule result.place
   pub history_full : result.status ≡ 9 → WritesFull old new schedule

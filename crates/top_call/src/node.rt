@@ -1,32 +1,37 @@
 //! The top call: words, a source and a sink to a status.
-ghost use Rattle.std.specs.Prelude.{Contains, List, [], false, map, true, ℕ, ◌∷◌, ◌≡◌, ◌≤◌, ◌⊎◌};
+ghost use Rattle.std.specs.Prelude.{Contains, IfOk, List, [], false, map, true, ℕ, ◌∷◌, ◌≡◌, ◌≤◌, ◌⊎◌};
 ghost use Rattle.top_call.specs.Endings.{EndsAs, HasEnded, HasTold, MayEnd, IsTold, Took, WritesText, Written, telling};
-ghost use Rattle.top_call.specs.Mappings.{end_given};
+ghost use Rattle.place_model.specs.Histories.{after};
+ghost use Rattle.place_model.specs.Shown.{history_of};
+ghost use Rattle.top_call.specs.Mappings.{asked_text, end_given, end_written};
 ghost use Rattle.top_call.specs.Replays.{calm_statuses, replay_run};
 ghost use Rattle.top_call.specs.Statuses.{IsAnswerTo, IsBadLine, IsBadWord, IsHistoryFull, IsOutOfMemory, IsReadFault, IsReported, IsWriteFault};
 ghost use Rattle.top_call.specs.Showings.{IsShowing};
-ghost use Rattle.top_call.specs.Words.{bad_place, is_replay, is_show};
+ghost use Rattle.top_call.specs.Words.{bad_place, is_recording, is_show, reads_schedule};
 ghost use Rattle.links.specs.Causes.{Rose};
 ghost use Rattle.links.specs.Views.{sink_view, source_view};
 
 use crate::ending::{End, Ended};
-use crate::words::{bad_word, is_show};
+use crate::words::{bad_word, is_recording, is_show};
+use history_records::write_history;
 use line_text::INPUT_LIMIT;
 use links::{ReadEnd, Sink, Source, read_to_end, write_all};
-use replay::{RunFault, report_ran, run_whole};
-use std::alloc::Global;
+use replay::{RunFault, ScheduleRun, report_ran, run_whole};
+use std::alloc::{AllocError, Global};
 use wire_show::{ShowEnd, show};
+use wire_values::Bytes;
 
 /// Runs the program that the words name, over a source and a sink.
 ///
-/// The words are exactly `replay` or `show`. `replay` reads a schedule of at most 64 MiB and writes the report of the
-/// history that the schedule determines. Nothing is written before the whole result is known, and then one text alone.
+/// The words are exactly `replay`, `replay --record` or `show`. `replay` reads a schedule of at most 64 MiB and writes the
+/// report of the history that the schedule determines, with `--record` its record. Nothing is written before the whole
+/// result is known, and then one text alone.
 /// `show` reads a stream of RESP2 values, of at most 64 MiB, and writes each on a line as soon as it is whole; the text of
 /// its status follows these lines.
 ///
 /// | Status | Comes where | Text |
 /// |---|---|---|
-/// | 0 | the input was read to its end, and each line is good; `show`: and is whole values | the report; `show`: no more than the lines |
+/// | 0 | the input was read to its end, and each line is good; `show`: and is whole values | the report, or the record; `show`: no more than the lines |
 /// | 2 | a word is bad; `place` is the first one, counted from 0 | `bad word <place>` |
 /// | 3 | a line is bad; `place` is the first one, counted from 1 | `bad line <place>: <reason>` |
 /// | 3 | `show`: the byte at `place` is wrong, or a value passes its limit there | `fault <kind> at <place>` |
@@ -68,10 +73,10 @@ pub fn run<S: Source, K: Sink>(alloc: Global, words: &[&str], src: &mut S, out: 
         (sink_view K.taken K.write_faults out.old) (sink_view K.taken K.write_faults out.new) result }
     ensures statuses { Contains (0 ∷ 2 ∷ 3 ∷ 4 ∷ 5 ∷ 9 ∷ 11 ∷ []) result.status }
     ensures unlawful { (place : ℕ) → bad_place (map (λ w. w.now) words.now) ≡ Some place → Contains (2 ∷ 5 ∷ 11 ∷ []) result.status }
-    ensures complete { (schedule : List ℕ) → is_replay (map (λ w. w.now) words.now) ≡ true → S.left src.old ≡ Some schedule
+    ensures complete { (schedule : List ℕ) → reads_schedule (map (λ w. w.now) words.now) ≡ true → S.left src.old ≡ Some schedule
         → ¬ (Rose (S.read_faults src.old) (S.read_faults src.new)) → ¬ (Rose (K.write_faults out.old) (K.write_faults out.new))
         → Contains (calm_statuses (replay_run schedule)) result.status }
-    ensures told { (schedule : List ℕ) → is_replay (map (λ w. w.now) words.now) ≡ true → S.left src.old ≡ Some schedule → IsAnswerTo schedule
+    ensures told { (schedule : List ℕ) → reads_schedule (map (λ w. w.now) words.now) ≡ true → S.left src.old ≡ Some schedule → IsAnswerTo (map (λ w. w.now) words.now) schedule
         (sink_view K.taken K.write_faults out.old) (sink_view K.taken K.write_faults out.new) result }
 {
     if is_show(words) {
@@ -145,24 +150,48 @@ fn judge<S: Source>(alloc: Global, words: &[&str], src: &mut S) -> End
     if let Some(place) = bad_word(words) {
         return End::BadWord(place);
     }
+    let recording = is_recording(words);
     match read_to_end(alloc, src, INPUT_LIMIT as u64) {
-        Ok(bytes) => replayed(alloc, bytes.as_slice()),
-        Err(ReadEnd::Long(bytes)) => replayed(alloc, bytes.as_slice()),
+        Ok(bytes) => replayed(alloc, bytes.as_slice(), recording),
+        Err(ReadEnd::Long(bytes)) => replayed(alloc, bytes.as_slice(), recording),
         Err(ReadEnd::Fault) => End::ReadFault,
         Err(ReadEnd::Memory) => End::Memory,
     }
 }
 
-/// What a schedule leads to: the report of its history, its first bad line, or the numbers of a full history.
-fn replayed(alloc: Global, schedule: &[u8]) -> End
-    ensures { EndsAs schedule.now result }
+/// What a schedule leads to: the report of its history, or its record, its first bad line, or the numbers of a full
+/// history.
+fn replayed(alloc: Global, schedule: &[u8], recording: bool) -> End
+    ensures { EndsAs recording schedule.now result }
 {
     match run_whole(alloc, schedule) {
-        Ok(ran) => match report_ran(alloc, ran) {
-            Ok(text) => End::Reported(text),
+        Ok(ran) => match asked_text(alloc, ran, recording) {
+            Ok(text) => text_end(text, recording),
             Err(_) => End::Memory,
         },
         Err(fault) => end_of(fault),
+    }
+}
+
+/// The record of a run's history, or its report.
+fn asked_text(alloc: Global, ran: ScheduleRun, recording: bool) -> Result<Bytes, AllocError>
+    requires { ran.store.state ≡ (after (history_of ran.history)).store }
+    ensures { IfOk result (λ text. text ≡ asked_text recording (history_of ran.history)) }
+{
+    if recording {
+        return write_history(alloc, &ran.history);
+    }
+    report_ran(alloc, ran)
+}
+
+/// The end of a run by the text of its history.
+fn text_end(text: Bytes, recording: bool) -> End
+    ensures { result ≡ end_written text recording }
+{
+    if recording {
+        End::Recorded(text)
+    } else {
+        End::Reported(text)
     }
 }
 

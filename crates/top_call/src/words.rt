@@ -1,6 +1,6 @@
 //! The words of the command line: which are lawful, and which is the first bad one.
-ghost use Rattle.std.specs.Prelude.{map, ◌≡◌, IfOk, string_bytes};
-ghost use Rattle.top_call.specs.Words.{bad_place, is_show};
+ghost use Rattle.std.specs.Prelude.{map, ◌≡◌, ◌∷◌, [], IfOk, string_bytes};
+ghost use Rattle.top_call.specs.Words.{bad_place, is_recording, is_show};
 
 use std::alloc::{AllocError, Global};
 use std::env::{Env, FillError};
@@ -8,15 +8,43 @@ use std::str;
 
 /// The place of the first bad word, counted from 0, or the count of words where one is missing.
 ///
-/// The words are exactly the name of one program, `replay` or `show`.
+/// The words are exactly the name of one program, `replay` or `show`; `replay` may have the flag `--record` after it.
 pub fn bad_word(words: &[&str]) -> Option<u64>
     ensures { result ≡ bad_place (map (λ w. w.now) words.now) }
 {
     match words {
         [] => Some(0),
-        [first, ..] if *first != "replay" && *first != "show" => Some(0),
-        [_] => None,
-        [_, _, ..] => Some(1),
+        [name] => {
+            if *name == "replay" || *name == "show" {
+                None
+            } else {
+                Some(0)
+            }
+        }
+        [name, flag] => bad_of_two(name, flag),
+        [name, flag, _, ..] => Some(bad_of_two(name, flag).unwrap_or(2)),
+    }
+}
+
+/// The place of the first bad word of two, the name of a program and what may be a flag of it.
+fn bad_of_two(name: &str, flag: &str) -> Option<u64>
+    ensures { result ≡ bad_place (name.now ∷ flag.now ∷ []) }
+{
+    if name == "replay" {
+        return if flag == "--record" { None } else { Some(1) };
+    }
+    if name == "show" { Some(1) } else { Some(0) }
+}
+
+/// Whether the words are exactly `replay --record`.
+pub fn is_recording(words: &[&str]) -> bool
+    ensures { result ≡ is_recording (map (λ w. w.now) words.now) }
+{
+    match words {
+        [] => false,
+        [_] => false,
+        [name, flag] => *name == "replay" && *flag == "--record",
+        [_, _, _, ..] => false,
     }
 }
 

@@ -144,6 +144,14 @@ total list 1 unacked 0 hand 0 ended 0 lost 0 copies 0
 "#
 }
 
+/// Its record.
+pub fn recorded() -> &'static str {
+    r#"celery-record 1
+client 1 seed 7
+call 100 1 "LPUSH" "celery" "{\"body\":\"W1syLDNdLHt9LHsiY2FsbGJhY2tzIjpudWxsLCJjaGFpbiI6bnVsbCwiY2hvcmQiOm51bGwsImVycmJhY2tzIjpudWxsfV0=\",\"content-encoding\":\"utf-8\",\"content-type\":\"application/json\",\"headers\":{\"argsrepr\":\"[2,3]\",\"eta\":null,\"expires\":null,\"group\":null,\"id\":\"00000000-0000-0007-0000-000000000001\",\"kwargsrepr\":\"{}\",\"lang\":\"py\",\"origin\":\"node\",\"parent_id\":null,\"retries\":0,\"root_id\":\"00000000-0000-0007-0000-000000000001\",\"task\":\"tasks.add\",\"timelimit\":[null,null]},\"properties\":{\"body_encoding\":\"base64\",\"correlation_id\":\"00000000-0000-0007-0000-000000000001\",\"delivery_info\":{\"exchange\":\"\",\"routing_key\":\"celery\"},\"delivery_mode\":2,\"delivery_tag\":\"00000000-0000-0007-0000-000000000001\",\"priority\":0,\"reply_to\":\"\"}}" = :1
+"#
+}
+
 /// `examples/one_worker.schedule`.
 pub fn one_worker() -> &'static str {
     r#"celery-schedule 1
