@@ -1,12 +1,15 @@
 -- What a sealed tree says of where it goes.
-use Rattle.std.proofs.Common.{◌≡◌, ℕ, ℤ, length, codes, Option, Some, Result, Ok, sym, ap, ◌∙◌}
-use Rattle.std.specs.Prelude.{nat_le, not}
+use Rattle.std.proofs.Common.{◌≡◌, ◌<◌, ◌^◌, ℕ, ℤ, length, codes, Option, None, Some, Result, Ok, Err, sym, ap, ◌∙◌}
+use Rattle.std.specs.Prelude.{IfSome, nat_le, not, option_map}
+use Rattle.std.specs.Result.{result_ok}
 use Rattle.std.specs.Str.{is_utf8}
 use Rattle.serde_json.specs.Data.{Data, depth}
 use Rattle.serde_json.specs.Find.{get}
 use Rattle.serde_json.specs.View.{view as data_of}
 use Rattle.serde_json.specs.Written.{compact_text, has_float}
-use Rattle.envelope.specs.Envelopes.{Parts, are_short, max_bytes, max_text, parts_in, said_by}
+use Rattle.envelope.specs.Envelopes.{Parts, are_short, max_bytes, max_text, parts_in, parts_or_none, said_by}
+use Rattle.envelope.specs.declared.envelope.Envelope.{Envelope}
+use Rattle.envelope_laws.proofs.SealsSay.{seals_say}
 use Rattle.envelope_trees.specs.Marks.{marked}
 use Rattle.envelope_trees.specs.Members.{if_object, is_nothing, object_at, text_at}
 use Rattle.envelope.specs.SealedTrees.{sealed_info, sealed_properties, sealed_tree}
@@ -63,3 +66,12 @@ names_sealed draft n d e said =
 -- under other names that are the same
 pub same_names : (x y k l : Bytes) (d : Data) → x ≡ y → k ≡ l → Names x k d → Names y l d
 same_names x y k l d e f n = record { exchange_is = n.exchange_is ∙ e; routing_key_is = n.routing_key_is ∙ f }
+
+ok_of : (r : Result Data EnvelopeFault) (d : Data) → ◌≡◌ {A = Option Data} (Some d) (result_ok r) → r ≡ Ok d
+ok_of (Ok e) d h = ap (λ x. Ok x) (sym (same_some d e h))
+ok_of (Err f) d h = absurd (cc h)
+
+-- an envelope that was sealed under a tag has it
+pub tag_sealed : (draft : Draft) (n : ℕ) (made : Option Envelope) → n < 2 ^ 128 → option_map data_of made ≡ result_ok (seal_of draft n) → IfSome made (λ e. (parts_in (data_of e)).tag ≡ n)
+tag_sealed draft n None small h = tt
+tag_sealed draft n (Some e) small h = ap (λ (p : Parts). p.tag) (ap parts_or_none (seals_say draft n (data_of e) small (ok_of (seal_of draft n) (data_of e) h)).1)

@@ -3,7 +3,8 @@ ghost use Rattle.std.specs.Prelude.{◌≡◌, ◌≤◌, IfOk, IfSome, IsUtf8, 
 ghost use Rattle.std.specs.Result.{result_ok};
 ghost use Rattle.std.specs.Str.{is_utf8};
 ghost use Rattle.serde_json.specs.View.{view as data_of};
-ghost use Rattle.delivery_tags.specs.Tags.{tag_text};
+ghost use Rattle.delivery_tags.specs.Tags.{tag_number, tag_text};
+ghost use Rattle.envelope.specs.Envelopes.{parts_in};
 ghost use Rattle.sealed_drafts.specs.Sealed.{seal_of};
 ghost use Rattle.queue_keys.specs.Names.{Bytes};
 ghost use Rattle.task_message.specs.Shown.{task_view};
@@ -47,6 +48,8 @@ pub(crate) fn sealed_task(
         asked.now.exchange.now asked.now.routing_key.now asked.now.priority asked.now.task.now j) }
     ensures names { IfOk result (λ made. IfSome made (λ e.
         Names asked.now.exchange.now asked.now.routing_key.now (data_of e))) }
+    ensures tag { IfOk result (λ made. IfSome made (λ e.
+        (parts_in (data_of e)).tag ≡ tag_number seed counter)) }
 {
     if !are_texts(asked) {
         return Ok(None);

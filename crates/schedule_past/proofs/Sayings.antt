@@ -1,5 +1,5 @@
 -- What a client says of its block, one command after the other.
-use Rattle.std.proofs.Common.{◌≡◌, ℕ, Bool, true, false, cond, refl, sym, ap, ◌∙◌, None, Some}
+use Rattle.std.proofs.Common.{◌≡◌, ℕ, Bool, true, false, cond, refl, sym, ap, subst, ◌∙◌, None, Some, IsSome}
 use Rattle.std.specs.Prelude.{unwrap_or}
 use Rattle.store_model.specs.Store.{apply_of}
 use Rattle.store_model.specs.Words.{Words}
@@ -7,7 +7,7 @@ use Rattle.command_blocks.specs.Scripts.{Script, Over, Off, Say, next_words}
 use Rattle.schedule_model.specs.Costs.{is_full}
 use Rattle.schedule_model.specs.Desk.{ScheduleReader, Said, said_all, said_one, with_call}
 use Rattle.schedule_model.specs.Faults.{has_more}
-use Rattle.client_blocks.specs.Lefts.{after_answer}
+use Rattle.steps.specs.Goings.{script_after}
 
 false_true : false ≡ true → ⊥
 false_true e = cc
@@ -34,7 +34,7 @@ said_full d c at (Say w go) ws e full = let r = apply_of d.store d.moment c (w d
 
 -- where it has
 pub said_next : (d : ScheduleReader) (c : ℕ) (s : Script) (ws : Words) → next_words s d.moment ≡ Some ws → is_full d.entries ≡ false
-    → said_one d c s ≡ record { desk = with_call d c ws (apply_of d.store d.moment c ws); left = after_answer s (apply_of d.store d.moment c ws).1.answer; room = true }
+    → said_one d c s ≡ record { desk = with_call d c ws (apply_of d.store d.moment c ws); left = script_after s (apply_of d.store d.moment c ws).1; room = true }
 said_next d c Over ws e room = absurd (none_some e)
 said_next d c Off ws e room = absurd (none_some e)
 said_next d c (Say w go) ws e room =
@@ -47,6 +47,9 @@ pub more_next : (s : Script) (at : ℕ) (ws : Words) → next_words s at ≡ Som
 more_next Over at ws e = absurd (none_some e)
 more_next Off at ws e = absurd (none_some e)
 more_next (Say w go) at ws e = refl
+
+pub some_words : (s : Script) (at : ℕ) (ws : Words) → next_words s at ≡ Some ws → IsSome (next_words s at)
+some_words s at ws e = subst IsSome (sym e) refl
 
 -- who has none hasn't
 pub more_none : (s : Script) (at : ℕ) → next_words s at ≡ None → has_more s ≡ false

@@ -15,12 +15,13 @@ use Rattle.schedule_model.specs.Schedules.{Bad, Went, led_unless}
 use Rattle.schedule_model.specs.declared.line.Line.TheVariants.{Client}
 use Rattle.schedule_world.proofs.Known.{still}
 use Rattle.schedule_world.proofs.Shelved.{books_of-insert}
-use Rattle.client_blocks.specs.Blocks.{script_left}
+use Rattle.client_core.specs.Works.{client_left, core_client}
+use Rattle.client_core.specs.declared.client.ClientCore.{ClientCore}
+use Rattle.steps.specs.Clients.{new_counts}
 use Rattle.schedule_world.specs.Books.{books_of}
 use Rattle.schedule_past.specs.Desks.{desk_with}
 use Rattle.schedule_world.specs.Shelves.{AreKnown, Shelf}
 use Rattle.schedule_world.specs.declared.book.ClientBook.{ClientBook}
-use Rattle.client_blocks.specs.declared.left.BlockLeft.{BlockLeft}
 use Rattle.schedule_past.specs.declared.past.Past.{Past}
 
 -- the reason why no client is added
@@ -37,13 +38,13 @@ pub client_led : (d : ScheduleReader) (c s : ℕ) (g b : Bool) → g ≡ false �
 client_led d c s g b e f = ap (λ t. led_unless program_craft d (Client c s) (client_reason t b)) e ∙ ap (λ t. led_unless program_craft d (Client c s) (client_reason false t)) f
 
 -- a client more at a desk
-pub added : (p p' : Past) (m t : Shelf) (c s : ℕ) (l : BlockLeft) → script_left l ≡ Over → t ≡ insert m c (record { counts = record { seed = s; drawn = 0; passes = 0 }; left = l; is_stopped = false })
+pub added : (p p' : Past) (m t : Shelf) (c s : ℕ) (core : ClientCore) → core_client core ≡ new_counts s → client_left core ≡ Over → t ≡ insert m c (record { core = core; is_stopped = false })
     → ((bs : FinMap nat_cmp desk.ClientBook) → desk_with p' bs ≡ record (desk_with p bs) { clients = (history_of p.history).clients ++ (c, s) ∷ [] })
     → reader_with_client (desk_with p (books_of m)) c s ≡ desk_with p' (books_of t)
-added p p' m t c s l over e grown =
-    let k : ClientBook = record { counts = record { seed = s; drawn = 0; passes = 0 }; left = l; is_stopped = false } in
+added p p' m t c s core counts over e grown =
+    let k : ClientBook = record { core = core; is_stopped = false } in
     let same : books_of t ≡ insert (books_of m) c (record { seed = s; drawn = 0; passes = 0; left = Over; stopped = false }) =
-    ap books_of e ∙ (books_of-insert m c k ∙ ap (λ x. insert (books_of m) c (record { seed = s; drawn = 0; passes = 0; left = x; stopped = false })) over) in
+    ap books_of e ∙ (books_of-insert m c k ∙ (λ i. insert (books_of m) c (record { seed = (counts i).seed; drawn = (counts i).drawn; passes = (counts i).passes; left = over i; stopped = false }))) in
     sym (grown (books_of t) ∙ ap (λ b. record (desk_with p b) { clients = (history_of p.history).clients ++ (c, s) ∷ [] }) same)
 
 -- who has a book is still in the table

@@ -11,7 +11,9 @@ use Rattle.place_model.specs.Shown.{has_stopped}
 use Rattle.place_model.specs.declared.heard.Heard.{Heard}
 use Rattle.place_model.specs.declared.history.Entry.{Entry}
 use Rattle.schedule_model.specs.Faults.{is_gone, is_script_off}
-use Rattle.client_blocks.specs.Blocks.{script_left}
+use Rattle.client_core.specs.Works.{client_left}
+use Rattle.command_blocks.specs.Scripts.{Plan}
+use Rattle.schedule_world.specs.Begins.{HasBegunPlan}
 use Rattle.schedule_world.specs.Books.{book_of}
 use Rattle.schedule_past.specs.Clients.{HasSameClients, HasSameGoneBut}
 use Rattle.schedule_past.specs.declared.past.Past.{Past}
@@ -67,6 +69,13 @@ stopped_here m t es c k (Ok u) here found on ok err =
     same_here (insert (remove m c) c (record k { is_stopped = true })) t es es (ok k found) (λ q i. has_stopped q es) (more_here (remove m c) es c (record k { is_stopped = true }) (less_here m es c here there) there)
 stopped_here m t es c k (Err e) here found on ok err = taken_here m t es c k here found on err
 
+-- a book whose client began a plan, if there was the memory for it
+pub begun_here : (m t : Shelf) (es : List (Entry Heard)) (c : ℕ) (k : ClientBook) (p : Plan) (r : Result (Unit {0}) AllocError) → AreHere m es → get m c ≡ Some k → k.is_stopped ≡ false → OnOk r (HasBegunPlan c k p m t) → OnErr r (t ≡ remove m c) → AreHere t es
+begun_here m t es c k p (Ok u) here found on ok err =
+    let there = book_here m es c k here found on in
+    same_here (insert (remove m c) c ok.0) t es es ok.1 (λ q i. has_stopped q es) (more_here (remove m c) es c ok.0 (less_here m es c here there) there)
+begun_here m t es c k p (Err e) here found on ok err = taken_here m t es c k here found on err
+
 unlike : (c d : ℕ) → d ≢ c → (c == d) ≡ false
 unlike c d n = grind (arith, common_steps, n)
 
@@ -81,7 +90,7 @@ gone_here n t p q c k says e others here d h =
 -- who isn't gone by its book isn't stopped
 pub unstopped : (o : Option ClientBook) → is_gone (option_map book_of o) ≡ false → says_stopped o ≡ false
 unstopped None e = refl
-unstopped (Some b) e = by b.is_stopped (is_script_off (script_left b.left)) e
+unstopped (Some b) e = by b.is_stopped (is_script_off (client_left b.core)) e
   where
     by : (x y : Bool) → (x || y) ≡ false → x ≡ false
     by true y f = f

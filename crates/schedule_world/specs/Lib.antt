@@ -1,4 +1,5 @@
 pub mod AskableLines
+pub mod Begins
 pub mod Books
 pub mod Desks
 pub mod Rests

@@ -1,21 +1,21 @@
 //! What is kept of each client.
 ghost use Rattle.std.specs.FinMap as map;
 ghost use Rattle.std.specs.Option.{option_copied};
-ghost use Rattle.std.specs.Prelude.{◌≡◌, OnErr, OnOk, Some, true};
+ghost use Rattle.std.specs.Prelude.{◌≡◌, OnErr, OnOk, Some, alloc_error, true};
+ghost use Rattle.steps.specs.declared.begun.BeginFault.TheVariants.{Memory};
 ghost use Rattle.schedule_world.specs.Rests.{IsBusy, IsPresent, IsResting, is_book_gone};
 
-use client_blocks::BlockLeft;
-use client_plans::ClientCounts;
+use client_core::ClientCore;
 use line_text::Reason;
 use std::alloc::{AllocError, Global};
 use std::collections::BTreeMap;
 use std::marker::Model;
+use steps::{BeginFault, Block, ClientCounts, Steps};
 
-/// What is kept of a client: its counts, what is left of its block, and whether it is stopped.
+/// What is kept of a client: the client whole, and whether it is stopped.
 #[derive(Drop)]
 pub(crate) struct ClientBook {
-    pub(crate) counts: ClientCounts,
-    pub(crate) left: BlockLeft,
+    pub(crate) core: ClientCore,
     pub(crate) is_stopped: bool,
 }
 
@@ -24,7 +24,7 @@ impl ClientBook {
     pub(crate) fn is_gone(&self) -> bool
         ensures { result ≡ is_book_gone self.now }
     {
-        self.is_stopped || self.left.is_off()
+        self.is_stopped || self.core.is_off()
     }
 }
 
@@ -46,6 +46,10 @@ impl Model for Books {
 }
 
 impl Books {
+    ghost use Rattle.command_blocks.specs.Scripts.{Plan};
+    ghost use Rattle.client_core.specs.Works.{core_client};
+    ghost use Rattle.client_plans.specs.Plans.{Begins};
+    ghost use Rattle.schedule_world.specs.Begins.{HasBegunPlan, MayBegin};
     ghost use Rattle.schedule_world.specs.declared.book.ClientBook.{ClientBook as Kept};
 
     /// No books; takes no memory.
@@ -75,10 +79,10 @@ impl Books {
         if book.is_gone() {
             return Err(Reason::Stopped);
         }
-        if book.left.has_more() {
+        if book.core.has_more() {
             return Err(Reason::Busy);
         }
-        Ok(book.counts)
+        Ok(book.core.counts())
     }
 
     /// Takes the book of a client out that has a block to go on with.
@@ -94,10 +98,31 @@ impl Books {
         if book.is_gone() {
             return Err(Reason::Stopped);
         }
-        if !book.left.has_more() {
+        if !book.core.has_more() {
             return Err(Reason::Idle);
         }
         self.take(client).ok_or(Reason::UnknownClient)
+    }
+
+    /// A client begins a block; without memory its book is gone.
+    pub(crate) fn begin(
+        &mut self,
+        alloc: Global,
+        client: u32,
+        block: Block,
+    ) -> Result<(), AllocError>
+        requires { (k : Kept) → map.get self.old client ≡ Some k → MayBegin k block }
+        ensures ok { OnOk result ((k : Kept) (p : Plan) → map.get self.old client ≡ Some k → Begins (core_client k.core) p block
+            → HasBegunPlan client k p self.old self.new) }
+        ensures err { OnErr result (self.new ≡ map.remove self.old client) }
+    {
+        let Some(mut book) = self.take(client) else {
+            return Ok(());
+        };
+        match book.core.begin(alloc, block) {
+            Ok(()) => self.set(client, book),
+            Err(fault) => Err(lacked(fault)),
+        }
     }
 
     /// Whether a client is there.
@@ -142,5 +167,18 @@ impl Books {
     {
         self.kept.insert(client, book)?;
         Ok(())
+    }
+}
+
+/// The want of memory that a client told who began the block of a plan.
+fn lacked(fault: BeginFault) -> AllocError
+    requires { fault ≡ Memory }
+    ensures { result ≡ alloc_error }
+{
+    match fault {
+        BeginFault::Memory => AllocError,
+        BeginFault::NoTag | BeginFault::Name(_) | BeginFault::Draft(_) | BeginFault::BadNeutral => {
+            unreachable!()
+        }
     }
 }

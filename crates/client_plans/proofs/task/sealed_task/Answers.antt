@@ -1,11 +1,12 @@
-use Rattle.std.proofs.Common.{sym, subst}
+use Rattle.std.proofs.Common.{◌<◌, ◌^◌, ◌∙◌, sym, subst, arith}
+use Rattle.delivery_tags.specs.Tags.{tag_number}
 use Rattle.std.specs.Prelude.{IsUtf8}
 use Rattle.serde_json.specs.View.{view as data_of}
 use Rattle.delivery_tags.proofs.TagTexts.{tag_ascii}
 use Rattle.std.proofs.lemmas.Option.{IfSome_then}
 use Rattle.std.proofs.lemmas.Result.{IfOk-weaker}
 use Rattle.client_plans.proofs.Drafted.{sealed_is, texts_are, unsealed}
-use Rattle.client_plans.proofs.Named.{same_names}
+use Rattle.client_plans.proofs.Named.{same_names, tag_sealed}
 use Rattle.client_plans.proofs.task.sealed_task.Goals as goal
 
 pub returns-then-not-are_texts-clause-text : goal.returns-then-not-are_texts-clause-text
@@ -41,3 +42,11 @@ returns-clause-names c =
     IfOk-weaker c.sealed_draft.result _ _
     (λ made h. IfSome_then made h (λ e n. same_names c.in_ok-draft.draft.exchange a.exchange.now c.in_ok-draft.draft.routing_key a.routing_key.now (data_of e) c.in_ok-draft.ensures.drafted.exchange_is c.in_ok-draft.ensures.drafted.routing_key_is n))
     c.sealed_draft.ensures.names
+
+pub returns-clause-tag : goal.returns-clause-tag
+returns-clause-tag c =
+    let low : tag_number c.args.seed c.args.counter < 2 ^ 128 = omega (arith, c.ranges.seed.fits, c.ranges.counter.fits) in
+    let small = subst (λ n. n < 2 ^ 128) (sym c.of-tag.ensures) low in
+    IfOk-weaker c.sealed_draft.result _ _
+    (λ made h. IfSome_then made (tag_sealed c.in_ok-draft.draft c.of-tag.result.0 made small h) (λ e n. n ∙ c.of-tag.ensures))
+    c.sealed_draft.ensures.tree
