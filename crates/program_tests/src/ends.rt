@@ -36,11 +36,22 @@ fn a_bad_word_is_named_by_its_place(rt: HostRuntime) -> Result<(), Fail> {
 }
 
 /// Words of which one is bad, with its place.
-fn bad_words() -> [(&'static [&'static str], u64); 11] {
+fn bad_words() -> [(&'static [&'static str], u64); 22] {
     [
         (&["replay", ""], 1),
         (&["replay", "--"], 1),
-        (&["replay", "--make"], 1),
+        (&["replay", "--make"], 2),
+        (&["replay", "--make", ""], 2),
+        (&["replay", "--make", "0"], 2),
+        (&["replay", "--make", "03"], 2),
+        (&["replay", "--make", "+3"], 2),
+        (&["replay", "--make", "50001"], 2),
+        (&["replay", "--make", "18446744073709551617"], 2),
+        (&["replay", "--make", "3", "3"], 3),
+        (&["replay", "--make", "x", "3"], 2),
+        (&["replay", "--make", "3", "--record"], 3),
+        (&["replay", "--record", "--make", "3"], 2),
+        (&["replay", "--make=3"], 1),
         (&["replay", "--Record"], 1),
         (&["replay", "--records"], 1),
         (&["replay", "--record="], 1),
@@ -61,6 +72,51 @@ fn expect_record<R: Abort>(rt: &R, alloc: Global, want: &str) -> Result<(), Allo
     assert!(rt; end == end_of(0, 0));
     assert!(rt; out.taken() == want.as_bytes());
     Ok(())
+}
+
+/// Asserts which text a run with these words writes that reads nothing.
+fn expect_made<R: Abort>(
+    rt: &R,
+    alloc: Global,
+    words: &[&str],
+    want: &str,
+) -> Result<(), AllocError> {
+    let mut src = MemorySource::new(Bytes::new(), 1, vec![in alloc; 0]?);
+    let mut out = sink(alloc, NEVER)?;
+    let end = run(alloc, words, &mut src, &mut out);
+    assert!(rt; end == end_of(0, 0), "{want}");
+    assert!(rt; out.taken() == want.as_bytes(), "{want}");
+    Ok(())
+}
+
+#[test]
+fn a_made_schedule_is_run(rt: HostRuntime) -> Result<(), Fail> {
+    for (count, want) in made_runs() {
+        expect_made(&rt, rt.alloc(), &["replay", "--make", count], want)?;
+    }
+    Ok(())
+}
+
+/// How many messages are made, and what is written of their schedule.
+fn made_runs() -> [(&'static str, &'static str); 4] {
+    [
+        (
+            "1",
+            "made 1 entries 17\ntotal list 0 unacked 0 hand 0 ended 1 lost 0 copies 0\n",
+        ),
+        (
+            "3",
+            "made 3 entries 37\ntotal list 0 unacked 0 hand 0 ended 3 lost 0 copies 0\n",
+        ),
+        (
+            "10",
+            "made 10 entries 110\ntotal list 1 unacked 0 hand 0 ended 9 lost 0 copies 0\n",
+        ),
+        (
+            "120",
+            "made 120 entries 1229\ntotal list 10 unacked 2 hand 0 ended 108 lost 0 copies 0\n",
+        ),
+    ]
 }
 
 #[test]

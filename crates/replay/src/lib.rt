@@ -8,7 +8,7 @@ mod note_text;
 mod place_text;
 mod report_lines;
 
-pub use history_report::{report, report_ran};
+pub use history_report::{report, report_ran, totals_ran};
 pub use legend::{Celery, Lettered};
 pub use report_lines::report_of;
 pub use schedule_world::{LineFault, RunFault, ScheduleRun, World, run_schedule, run_whole};

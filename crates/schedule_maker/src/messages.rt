@@ -9,7 +9,7 @@ use wire_values::Bytes;
 ///
 /// Client 1 publishes message i at second i with the priority i mod 10; clients 2 and 3 pop them in turn, and acknowledge
 /// each but every tenth. At second 100,000 client 3 passes over what is older than an hour.
-pub fn make(alloc: Global, messages: u32) -> Result<Bytes, AllocError>
+pub fn make(alloc: Global, messages: u64) -> Result<Bytes, AllocError>
     ensures { IfOk result (λ text. text ≡ made_text messages) }
 {
     let mut out = Vec::from_slice(
@@ -24,7 +24,7 @@ pub fn make(alloc: Global, messages: u32) -> Result<Bytes, AllocError>
 }
 
 /// Appends the lines of the message of this number.
-fn message(alloc: Global, out: &mut Vec<u8>, number: u32) -> Result<(), AllocError>
+fn message(alloc: Global, out: &mut Vec<u8>, number: u64) -> Result<(), AllocError>
     ensures { OnOk result (out.new.items ≡ out.old.items ++ made_message number) }
 {
     let popper = 2 + number % 2;
@@ -37,7 +37,7 @@ fn message(alloc: Global, out: &mut Vec<u8>, number: u32) -> Result<(), AllocErr
 }
 
 /// Appends the lines by which client 1 publishes a message.
-fn publish(alloc: Global, out: &mut Vec<u8>, number: u32) -> Result<(), AllocError>
+fn publish(alloc: Global, out: &mut Vec<u8>, number: u64) -> Result<(), AllocError>
     ensures { OnOk result (out.new.items ≡ out.old.items ++ made_publish number) }
 {
     let priority = number % 10;
@@ -49,7 +49,7 @@ fn publish(alloc: Global, out: &mut Vec<u8>, number: u32) -> Result<(), AllocErr
 }
 
 /// Appends the lines by which a client pops a message.
-fn pop(alloc: Global, out: &mut Vec<u8>, popper: u32) -> Result<(), AllocError>
+fn pop(alloc: Global, out: &mut Vec<u8>, popper: u64) -> Result<(), AllocError>
     ensures { OnOk result (out.new.items ≡ out.old.items ++ made_pop popper) }
 {
     let text = format!(in alloc; "begin {popper} pop celery\nrun {popper}\n")?;
@@ -58,7 +58,7 @@ fn pop(alloc: Global, out: &mut Vec<u8>, popper: u32) -> Result<(), AllocError>
 }
 
 /// Appends the lines by which a client acknowledges a message.
-fn ack(alloc: Global, out: &mut Vec<u8>, popper: u32, number: u32) -> Result<(), AllocError>
+fn ack(alloc: Global, out: &mut Vec<u8>, popper: u64, number: u64) -> Result<(), AllocError>
     ensures { OnOk result (out.new.items ≡ out.old.items ++ made_ack popper number) }
 {
     let text = format!(in alloc; "begin {popper} ack 1:{number}\nrun {popper}\n")?;

@@ -21,7 +21,7 @@ use Rattle.top_call.specs.Replays.{IsFull, IsHistoryText, replay_run}
 use Rattle.top_call.specs.Words.{is_recording, reads_schedule}
 use Rattle.top_call.proofs.Asked.{just_replay}
 use Rattle.history_records.specs.Records.{record_text}
-use Rattle.top_call.specs.declared.ending.End.TheVariants.{BadByte, BadLine, BadWord, Full, LongStream, Memory, ReadFault, Recorded, Reported, Shown as ShownEnd, Unfinished}
+use Rattle.top_call.specs.declared.ending.End.TheVariants.{BadByte, BadLine, BadWord, Full, LongStream, Made, Memory, ReadFault, Recorded, Reported, Shown as ShownEnd, Unfinished}
 use Rattle.top_call.specs.declared.ending.End.{End}
 
 -- a text of the history that a schedule determines
@@ -72,6 +72,7 @@ pub shown_whole : (words : List (List ℕ)) (before now : SourceView) (bytes : L
 shown_whole words before now bytes (Reported report) lawful whole (plain, is) = (just_replay words lawful plain, (bytes, whole, is))
 shown_whole words before now bytes (Recorded text) lawful whole (asked, is) = (asked, (bytes, whole, is))
 shown_whole words before now bytes (BadWord place) lawful whole ends = absurd ends
+shown_whole words before now bytes (Made text) lawful whole ends = absurd ends
 shown_whole words before now bytes ShownEnd lawful whole ends = absurd ends
 shown_whole words before now bytes (BadByte kind place) lawful whole ends = absurd ends
 shown_whole words before now bytes (Unfinished place) lawful whole ends = absurd ends
@@ -86,6 +87,7 @@ pub shown_past : (words : List (List ℕ)) (before now : SourceView) (bytes : Li
 shown_past words before now bytes (Reported report) lawful past (plain, is) = absurd (schedule_run-past program_craft bytes is.desk past.over is.determined)
 shown_past words before now bytes (Recorded text) lawful past (asked, is) = absurd (schedule_run-past program_craft bytes is.desk past.over is.determined)
 shown_past words before now bytes (BadWord place) lawful past ends = absurd ends
+shown_past words before now bytes (Made text) lawful past ends = absurd ends
 shown_past words before now bytes ShownEnd lawful past ends = absurd ends
 shown_past words before now bytes (BadByte kind place) lawful past ends = absurd ends
 shown_past words before now bytes (Unfinished place) lawful past ends = absurd ends

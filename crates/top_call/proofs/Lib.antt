@@ -1,5 +1,6 @@
 pub mod Asked
 pub mod Endings
 pub mod Fronts
+pub mod Makings
 pub mod Showings
 pub mod Statuses

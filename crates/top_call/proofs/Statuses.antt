@@ -18,7 +18,7 @@ use Rattle.top_call.specs.Statuses.{IsAnswerTo, IsBadLine, IsBadWord, IsHistoryF
 use Rattle.top_call.specs.Words.{bad_place, reads_schedule}
 use Rattle.top_call.proofs.Asked.{lawful_good, recording_lawful, replay_lawful}
 use Rattle.top_call.proofs.Endings.{full_of}
-use Rattle.top_call.specs.declared.ending.End.TheVariants.{BadByte, BadLine, BadWord, Full, LongStream, Memory, ReadFault, Recorded, Reported, Shown as ShownEnd, Unfinished}
+use Rattle.top_call.specs.declared.ending.End.TheVariants.{BadByte, BadLine, BadWord, Full, LongStream, Made, Memory, ReadFault, Recorded, Reported, Shown as ShownEnd, Unfinished}
 use Rattle.top_call.specs.declared.ending.End.{End}
 use Rattle.top_call.specs.declared.ending.Ended.{Ended}
 
@@ -26,6 +26,7 @@ use Rattle.top_call.specs.declared.ending.Ended.{Ended}
 calm_source_of : (words : List (List ℕ)) (b n : SourceView) (end : End) → MayEnd words b n end → (end ≡ ReadFault → ⊥) → n.faults ≡ b.faults
 calm_source_of words b n (Reported report) (lawful, (bytes, whole, is)) other = whole.kept
 calm_source_of words b n (Recorded text) (lawful, (bytes, whole, is)) other = whole.kept
+calm_source_of words b n (Made text) shown other = absurd shown
 calm_source_of words b n ShownEnd shown other = absurd shown
 calm_source_of words b n (BadByte kind place) shown other = absurd shown
 calm_source_of words b n (Unfinished place) shown other = absurd shown
@@ -49,6 +50,7 @@ module _ (words : List (List ℕ)) (b n : SourceView) (o x : SinkView) (r : Ende
     where
       by : (e : End) → MayEnd words b n e → Appends o.taken x.taken (text_of e) → (ended_of e).status ≡ 0 → IsReported words b n o x
       by ShownEnd shown text zero = absurd shown
+      by (Made lines) shown text zero = absurd shown
       by (Reported report) (lawful, (bytes, whole, is)) text zero = (bytes, whole, inl (lawful, (report, is, text)))
       by (Recorded whole_text) (lawful, (bytes, whole, is)) text zero = (bytes, whole, inr (lawful, (whole_text, is, text)))
       by _ shown text zero = absurd (omega (arith, zero))
@@ -87,6 +89,7 @@ module _ (words : List (List ℕ)) (b n : SourceView) (o x : SinkView) (r : Ende
       by : (e : End) → (ended_of e).status ≡ 5 → IsWriteFault words b n o x
       by (Reported report) five = absurd (omega (arith, five))
       by (Recorded text) five = absurd (omega (arith, five))
+      by (Made text) five = absurd (omega (arith, five))
       by ShownEnd five = absurd (omega (arith, five))
       by (BadByte kind place) five = absurd (omega (arith, five))
       by (Unfinished place) five = absurd (omega (arith, five))
@@ -124,6 +127,7 @@ module _ (words : List (List ℕ)) (b n : SourceView) (o x : SinkView) (r : Ende
       by : (e : End) → r.status ≡ (ended_of e).status → Contains (0 ∷ 2 ∷ 3 ∷ 4 ∷ 5 ∷ 9 ∷ 11 ∷ []) r.status
       by (Reported report) is = rw is (0, lit< tt, refl)
       by (Recorded text) is = rw is (0, lit< tt, refl)
+      by (Made text) is = rw is (0, lit< tt, refl)
       by ShownEnd is = rw is (0, lit< tt, refl)
       by (BadByte kind place) is = rw is (2, lit< tt, refl)
       by (Unfinished place) is = rw is (2, lit< tt, refl)
@@ -141,6 +145,7 @@ module _ (words : List (List ℕ)) (b n : SourceView) (o x : SinkView) (r : Ende
       by : (e : End) → MayEnd words b n e → r.status ≡ (ended_of e).status → Contains (2 ∷ 5 ∷ 11 ∷ []) r.status
       by (Reported report) shown is = absurd (replay_lawful words place shown.0 unlawful)
       by (Recorded text) shown is = absurd (recording_lawful words place shown.0 unlawful)
+      by (Made text) shown is = absurd shown
       by ShownEnd shown is = absurd shown
       by (BadByte kind at) shown is = absurd shown
       by (Unfinished at) shown is = absurd shown
@@ -188,11 +193,11 @@ text_of_input form schedule bytes text same is = record {
 }
 
 -- the statuses of a run by what its schedule determines
-calm : (schedule : List ℕ) (d : Determined) (status : ℕ) → replay_run schedule ≡ d → Contains (calm_statuses d) status → Contains (calm_statuses (replay_run schedule)) status
+pub calm : (schedule : List ℕ) (d : Determined) (status : ℕ) → replay_run schedule ≡ d → Contains (calm_statuses d) status → Contains (calm_statuses (replay_run schedule)) status
 calm schedule d status is among = subst (λ v. Contains (calm_statuses v) status) (sym is) among
 
 -- want of memory is among them
-calm_memory : (d : Determined) → Contains (calm_statuses d) 11
+pub calm_memory : (d : Determined) → Contains (calm_statuses d) 11
 calm_memory (Whole desk) = (1, lit< tt, refl)
 calm_memory (schedules.Full entries cost) = (1, lit< tt, refl)
 calm_memory (Bad_line line reason) = (1, lit< tt, refl)
@@ -222,6 +227,7 @@ module _ (words : List (List ℕ)) (b n : SourceView) (o x : SinkView) (r : Ende
       by (Reported report) (good, (bytes, whole, is)) at = rw at (calm schedule _ 0 (run_of_input b n schedule bytes told (inl whole) ∙ is.determined) (0, lit< tt, refl))
       by (Recorded text) (good, (bytes, whole, is)) at = rw at (calm schedule _ 0 (run_of_input b n schedule bytes told (inl whole) ∙ is.determined) (0, lit< tt, refl))
       by (BadWord place) shown at = absurd (lawful_good words place lawful shown.0)
+      by (Made text) shown at = absurd shown
       by ShownEnd shown at = absurd shown
       by (BadByte kind place) shown at = absurd shown
       by (Unfinished place) shown at = absurd shown

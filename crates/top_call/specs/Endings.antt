@@ -5,14 +5,15 @@ use Rattle.line_text.specs.Reason.{reason_text}
 use Rattle.links.specs.Causes.{AppendsFront, Rose}
 use Rattle.links.specs.Ends.{IsWholeInput}
 use Rattle.links.specs.Views.{SinkView, SourceView}
-use Rattle.top_call.specs.Replays.{HasInput, IsFirstBad, IsFull, IsRecordText, IsReport}
-use Rattle.top_call.specs.Words.{bad_place, is_recording, is_replay, is_show, reads_schedule}
+use Rattle.schedule_maker.specs.Made.{made_text}
+use Rattle.top_call.specs.Replays.{HasInput, IsFirstBad, IsFull, IsMadeText, IsRecordText, IsReport}
+use Rattle.top_call.specs.Words.{bad_place, is_apart, is_recording, is_replay, is_show, made_count, reads_schedule}
 use Rattle.schedule_model.specs.Schedules.{max_input}
 use Rattle.wire_show.specs.Shows.{HasShown, input_limit, kind_name}
 use Rattle.wire_show.specs.declared.ending.ShowEnd.{ShowEnd}
 use Rattle.wire_show.specs.declared.ending.ShowEnd.TheVariants.{Bad, Long, Whole, WriteFault}
 use Rattle.wire_show.specs.declared.ending.ShowEnd.TheVariants as show
-use Rattle.top_call.specs.declared.ending.End.TheVariants.{BadByte, BadLine, BadWord, Full, LongStream, Memory, ReadFault, Recorded, Reported, Shown as ShownEnd, Unfinished}
+use Rattle.top_call.specs.declared.ending.End.TheVariants.{BadByte, BadLine, BadWord, Full, LongStream, Made, Memory, ReadFault, Recorded, Reported, Shown as ShownEnd, Unfinished}
 use Rattle.top_call.specs.declared.ending.End.{End}
 use Rattle.top_call.specs.declared.ending.Ended.{Ended}
 
@@ -20,6 +21,7 @@ use Rattle.top_call.specs.declared.ending.Ended.{Ended}
 abbrev pub text_of : End → List ℕ
 text_of (Reported report) = report
 text_of (Recorded text) = text
+text_of (Made text) = text
 text_of ShownEnd = []
 text_of (BadByte kind place) = codes "fault " ++ (kind_name kind ++ (codes " at " ++ (decimal place ++ codes "\n")))
 text_of (Unfinished place) = codes "unfinished at " ++ (decimal place ++ codes "\n")
@@ -34,6 +36,7 @@ text_of Memory = codes "out of memory\n"
 abbrev pub ended_of : End → Ended
 ended_of (Reported report) = record { status = 0; place = 0; left = 0 }
 ended_of (Recorded text) = record { status = 0; place = 0; left = 0 }
+ended_of (Made text) = record { status = 0; place = 0; left = 0 }
 ended_of ShownEnd = record { status = 0; place = 0; left = 0 }
 ended_of (BadByte kind place) = record { status = 3; place = place; left = 0 }
 ended_of (Unfinished place) = record { status = 3; place = place; left = 0 }
@@ -48,6 +51,7 @@ ended_of Memory = record { status = 11; place = 0; left = 0 }
 abbrev pub EndsAs : Bool → List ℕ → End → Type 0
 EndsAs recording schedule (Reported report) = (recording ≡ false) × IsReport schedule report
 EndsAs recording schedule (Recorded text) = (recording ≡ true) × IsRecordText schedule text
+EndsAs recording schedule (Made text) = ⊥
 EndsAs recording schedule ShownEnd = ⊥
 EndsAs recording schedule (BadByte kind place) = ⊥
 EndsAs recording schedule (Unfinished place) = ⊥
@@ -58,10 +62,26 @@ EndsAs recording schedule ReadFault = ⊥
 EndsAs recording schedule (Full entries cost) = IsFull schedule entries cost
 EndsAs recording schedule Memory = Unit {0}
 
--- why a run that shows no stream may end so: its words, and what it read
+-- how a run over the made schedule of so many messages may end
+abbrev pub MadeEnds : ℕ → End → Type 0
+MadeEnds n (Made text) = IsMadeText n text
+MadeEnds n (BadLine bad) = IsFirstBad (made_text n) bad
+MadeEnds n (Full entries cost) = IsFull (made_text n) entries cost
+MadeEnds n Memory = Unit {0}
+MadeEnds n (Reported report) = ⊥
+MadeEnds n (Recorded text) = ⊥
+MadeEnds n ShownEnd = ⊥
+MadeEnds n (BadByte kind place) = ⊥
+MadeEnds n (Unfinished place) = ⊥
+MadeEnds n LongStream = ⊥
+MadeEnds n (BadWord place) = ⊥
+MadeEnds n ReadFault = ⊥
+
+-- why a run that reads a schedule may end so: its words, and what it read
 abbrev pub MayEnd : List (List ℕ) → SourceView → SourceView → End → Type 0
 MayEnd words before now (Reported report) = (is_replay words ≡ true) × ((bytes : List ℕ) × IsWholeInput max_input before now bytes × IsReport bytes report)
 MayEnd words before now (Recorded text) = (is_recording words ≡ true) × ((bytes : List ℕ) × IsWholeInput max_input before now bytes × IsRecordText bytes text)
+MayEnd words before now (Made text) = ⊥
 MayEnd words before now ShownEnd = ⊥
 MayEnd words before now (BadByte kind place) = ⊥
 MayEnd words before now (Unfinished place) = ⊥
@@ -88,7 +108,7 @@ pub record Took (before now : SourceView) : Type 0 where
   pub faults : before.faults ≤ now.faults
   pub ends : before.ends ≤ now.ends
 
--- how a run ends that shows no stream: it may end so, and its text was written
+-- how a run ends that reads a schedule, or whose words are bad: it may end so, and its text was written
 abbrev pub HasAnswered : List (List ℕ) → SourceView → SourceView → SinkView → SinkView → Ended → Type 0
 HasAnswered words before now old new result = (end : End) × MayEnd words before now end × Written old new end result
 
@@ -123,7 +143,16 @@ TellsShown end old new result = IsToldIf (telling end) old new result
 abbrev pub HasTold : SourceView → SourceView → SinkView → SinkView → Ended → Type 0
 HasTold before now old new result = (end : ShowEnd) × (shown : SinkView) × HasShown before now old shown end × TellsShown end shown new result
 
+-- how a run over a made schedule of so many messages was told
+abbrev pub IsMadeTold : ℕ → SinkView → SinkView → Ended → Type 0
+IsMadeTold n old new result = (end : End) × MadeEnds n end × IsTold end old new result
+
+-- how a run of `replay --make` ends: nothing was read, and the end of the made schedule's run was told
+abbrev pub HasMade : List (List ℕ) → SourceView → SourceView → SinkView → SinkView → Ended → Type 0
+HasMade words before now old new result = (n : ℕ) × (made_count words ≡ Some n) × (now ≡ before) × IsMadeTold n old new result
+
 -- how a run ends
 abbrev pub HasEnded : List (List ℕ) → SourceView → SourceView → SinkView → SinkView → Ended → Type 0
 HasEnded words before now old new result =
-    ((is_show words ≡ false) × HasAnswered words before now old new result) ⊎ ((is_show words ≡ true) × HasTold before now old new result)
+    ((is_apart words ≡ false) × HasAnswered words before now old new result)
+    ⊎ (((is_show words ≡ true) × HasTold before now old new result) ⊎ HasMade words before now old new result)

@@ -1,4 +1,5 @@
 pub mod Endings
+pub mod Makings
 pub mod Mappings
 pub mod Replays
 pub mod Showings

@@ -1,9 +1,10 @@
--- What `replay` makes of an input.
-use Rattle.std.specs.Prelude.{List, [], true, ℕ, ◌∷◌, ◌≡◌, ◌⊎◌}
+-- What `replay` makes of an input, or of a schedule that it makes itself.
+use Rattle.std.specs.Prelude.{List, [], codes, decimal, length, true, ℕ, ◌++◌, ◌∷◌, ◌≡◌, ◌⊎◌}
 use Rattle.line_text.specs.declared.reason.BadLine.{BadLine}
 use Rattle.links.specs.Ends.{IsPast, IsWholeInput}
 use Rattle.links.specs.Views.{SourceView}
 use Rattle.command_blocks.specs.EnvelopeTexts.{plain_setting}
+use Rattle.place_model.specs.Accepted.{places}
 use Rattle.place_model.specs.Histories.{History}
 use Rattle.place_model.specs.Starts.{IsSound}
 use Rattle.place_model.specs.declared.heard.Heard.{Heard}
@@ -14,7 +15,8 @@ use Rattle.schedule_model.specs.Desk.{ScheduleReader, first_desk}
 use Rattle.schedule_model.specs.EachPlaced.{IsEachPlaced}
 use Rattle.schedule_model.specs.Filled.{FilledDesk, lines_read}
 use Rattle.schedule_model.specs.Programs.{program_craft, program_legend}
-use Rattle.schedule_model.specs.Reports.{report_text}
+use Rattle.schedule_maker.specs.Made.{made_text}
+use Rattle.schedule_model.specs.Reports.{report_text, total_line}
 use Rattle.schedule_model.specs.Schedules.{Bad_line, Determined, Whole, max_input, reader_history, schedule_run}
 use Rattle.schedule_model.specs.Schedules as schedules
 
@@ -49,6 +51,14 @@ IsReport schedule text = IsHistoryText (report_text program_legend) schedule tex
 -- the text is the record of that history
 abbrev pub IsRecordText : List ℕ → List ℕ → Type 0
 IsRecordText schedule text = IsHistoryText record_text schedule text
+
+-- the two lines of a history of so many messages: how many entries it has, and how many messages are in each place
+abbrev pub made_lines : ℕ → History Heard → List ℕ
+made_lines n h = (codes "made " ++ (decimal n ++ (codes " entries " ++ (decimal (length h.entries) ++ codes "\n")))) ++ total_line (places plain_setting h)
+
+-- the text is these lines of the history that the made schedule of so many messages determines
+abbrev pub IsMadeText : ℕ → List ℕ → Type 0
+IsMadeText n text = IsHistoryText (made_lines n) (made_text n) text
 
 -- the first bad line of this schedule, and the first reason that holds of it
 abbrev pub IsFirstBad : List ℕ → BadLine → Type 0

@@ -38,6 +38,8 @@ pub enum End {
     Reported(Bytes),
     /// Status 0: the input was read to its end, and determines a history, whose record this is.
     Recorded(Bytes),
+    /// Status 0: these are the two lines of a made schedule's history.
+    Made(Bytes),
     /// Status 0: the input was read to its end, and is whole values, which were shown.
     Shown,
     /// Status 2: the word at this place is the first bad one.
@@ -64,7 +66,7 @@ impl End {
         ensures { result ≡ ended_of self.now }
     {
         let (status, place) = match self {
-            End::Reported(_) | End::Recorded(_) | End::Shown => (0, 0),
+            End::Reported(_) | End::Recorded(_) | End::Made(_) | End::Shown => (0, 0),
             End::BadWord(place) => (2, *place),
             End::BadLine(bad) => (3, bad.line),
             End::BadByte { place, .. } => (3, *place),
@@ -81,24 +83,26 @@ impl End {
         }
     }
 
-    /// The text that is written; a report or a record isn't copied.
+    /// The text that is written; that of a history isn't copied.
     pub fn into_text(self, alloc: Global) -> Result<Bytes, AllocError>
         ensures { IfOk result (λ text. text ≡ text_of self) }
     {
         match self {
             End::Reported(report) => Ok(report),
             End::Recorded(record) => Ok(record),
+            End::Made(lines) => Ok(lines),
             other => other.text(alloc),
         }
     }
 
-    /// The text that is written; a report or a record is copied.
+    /// The text that is written; that of a history is copied.
     fn text(&self, alloc: Global) -> Result<Bytes, AllocError>
         ensures { IfOk result (λ text. text ≡ text_of self.now) }
     {
         let text = match self {
             End::Reported(report) => return Bytes::from_slice(alloc, report.as_slice()),
             End::Recorded(record) => return Bytes::from_slice(alloc, record.as_slice()),
+            End::Made(lines) => return Bytes::from_slice(alloc, lines.as_slice()),
             End::Shown => String::new(alloc),
             End::BadWord(place) => format!(in alloc; "bad word {place}\n")?,
             End::BadLine(BadLine { line, reason }) => {

@@ -2,6 +2,7 @@
 #![tactic(auto)]
 
 mod ending;
+mod making;
 mod node;
 mod process;
 mod words;

@@ -1,18 +1,20 @@
 //! The top call: words, a source and a sink to a status.
 ghost use Rattle.std.specs.Prelude.{Contains, IfOk, List, [], false, map, true, ℕ, ◌∷◌, ◌≡◌, ◌≤◌, ◌⊎◌};
-ghost use Rattle.top_call.specs.Endings.{EndsAs, HasEnded, HasTold, MayEnd, IsTold, Took, WritesText, Written, telling};
+ghost use Rattle.top_call.specs.Endings.{EndsAs, HasEnded, HasTold, IsMadeTold, MayEnd, IsTold, Took, WritesText, Written, telling};
+ghost use Rattle.top_call.specs.Makings.{IsMaking};
 ghost use Rattle.place_model.specs.Histories.{after};
 ghost use Rattle.place_model.specs.Shown.{history_of};
 ghost use Rattle.top_call.specs.Mappings.{asked_text, end_given, end_written};
 ghost use Rattle.top_call.specs.Replays.{calm_statuses, replay_run};
 ghost use Rattle.top_call.specs.Statuses.{IsAnswerTo, IsBadLine, IsBadWord, IsHistoryFull, IsOutOfMemory, IsReadFault, IsReported, IsWriteFault};
 ghost use Rattle.top_call.specs.Showings.{IsShowing};
-ghost use Rattle.top_call.specs.Words.{bad_place, is_recording, is_show, reads_schedule};
+ghost use Rattle.top_call.specs.Words.{bad_place, is_apart, is_recording, is_show, made_count, reads_schedule};
 ghost use Rattle.links.specs.Causes.{Rose};
 ghost use Rattle.links.specs.Views.{sink_view, source_view};
 
 use crate::ending::{End, Ended};
-use crate::words::{bad_word, is_recording, is_show};
+use crate::making::made_end;
+use crate::words::{bad_word, is_recording, is_show, made_count};
 use history_records::write_history;
 use line_text::INPUT_LIMIT;
 use links::{ReadEnd, Sink, Source, read_to_end, write_all};
@@ -23,15 +25,17 @@ use wire_values::Bytes;
 
 /// Runs the program that the words name, over a source and a sink.
 ///
-/// The words are exactly `replay`, `replay --record` or `show`. `replay` reads a schedule of at most 64 MiB and writes the
-/// report of the history that the schedule determines, with `--record` its record. Nothing is written before the whole
-/// result is known, and then one text alone.
+/// The words are exactly `replay`, `replay --record`, `replay --make` with a number from 1 to 50,000, or `show`. `replay`
+/// reads a schedule of at most 64 MiB and writes the report of the history that the schedule determines, with `--record`
+/// its record; with `--make` it reads nothing, makes a schedule of so many messages, runs its text, and writes how many
+/// entries its history has and how many messages are in each place. Nothing is written before the whole result is known,
+/// and then one text alone.
 /// `show` reads a stream of RESP2 values, of at most 64 MiB, and writes each on a line as soon as it is whole; the text of
 /// its status follows these lines.
 ///
 /// | Status | Comes where | Text |
 /// |---|---|---|
-/// | 0 | the input was read to its end, and each line is good; `show`: and is whole values | the report, or the record; `show`: no more than the lines |
+/// | 0 | the input was read to its end, and each line is good; `show`: and is whole values | the report, the record, or the two lines of `--make`; `show`: no more than the lines |
 /// | 2 | a word is bad; `place` is the first one, counted from 0 | `bad word <place>` |
 /// | 3 | a line is bad; `place` is the first one, counted from 1 | `bad line <place>: <reason>` |
 /// | 3 | `show`: the byte at `place` is wrong, or a value passes its limit there | `fault <kind> at <place>` |
@@ -47,28 +51,31 @@ pub fn run<S: Source, K: Sink>(alloc: Global, words: &[&str], src: &mut S, out: 
         (sink_view K.taken K.write_faults out.old) (sink_view K.taken K.write_faults out.new) result }
     ensures took { Took (source_view S.left S.read_faults S.ends src.old) (source_view S.left S.read_faults S.ends src.new) }
     ensures sink_later { K.write_faults out.old ≤ K.write_faults out.new }
-    ensures reported { is_show (map (λ w. w.now) words.now) ≡ false → result.status ≡ 0 → IsReported (map (λ w. w.now) words.now)
+    ensures reported { is_apart (map (λ w. w.now) words.now) ≡ false → result.status ≡ 0 → IsReported (map (λ w. w.now) words.now)
         (source_view S.left S.read_faults S.ends src.old) (source_view S.left S.read_faults S.ends src.new)
         (sink_view K.taken K.write_faults out.old) (sink_view K.taken K.write_faults out.new) }
     ensures bad_word { result.status ≡ 2 → IsBadWord (map (λ w. w.now) words.now)
         (source_view S.left S.read_faults S.ends src.old) (source_view S.left S.read_faults S.ends src.new)
         (sink_view K.taken K.write_faults out.old) (sink_view K.taken K.write_faults out.new) result.place }
-    ensures bad_line { is_show (map (λ w. w.now) words.now) ≡ false → result.status ≡ 3 → IsBadLine (map (λ w. w.now) words.now)
+    ensures bad_line { is_apart (map (λ w. w.now) words.now) ≡ false → result.status ≡ 3 → IsBadLine (map (λ w. w.now) words.now)
         (source_view S.left S.read_faults S.ends src.old) (source_view S.left S.read_faults S.ends src.new)
         (sink_view K.taken K.write_faults out.old) (sink_view K.taken K.write_faults out.new) result.place }
-    ensures read_fault { is_show (map (λ w. w.now) words.now) ≡ false → result.status ≡ 4 → IsReadFault
+    ensures read_fault { is_apart (map (λ w. w.now) words.now) ≡ false → result.status ≡ 4 → IsReadFault
         (source_view S.left S.read_faults S.ends src.old) (source_view S.left S.read_faults S.ends src.new)
         (sink_view K.taken K.write_faults out.old) (sink_view K.taken K.write_faults out.new) }
-    ensures write_fault { is_show (map (λ w. w.now) words.now) ≡ false → result.status ≡ 5 → IsWriteFault (map (λ w. w.now) words.now)
+    ensures write_fault { is_apart (map (λ w. w.now) words.now) ≡ false → result.status ≡ 5 → IsWriteFault (map (λ w. w.now) words.now)
         (source_view S.left S.read_faults S.ends src.old) (source_view S.left S.read_faults S.ends src.new)
         (sink_view K.taken K.write_faults out.old) (sink_view K.taken K.write_faults out.new) }
-    ensures history_full { result.status ≡ 9 → IsHistoryFull (map (λ w. w.now) words.now)
+    ensures history_full { is_apart (map (λ w. w.now) words.now) ≡ false → result.status ≡ 9 → IsHistoryFull (map (λ w. w.now) words.now)
         (source_view S.left S.read_faults S.ends src.old) (source_view S.left S.read_faults S.ends src.new)
         (sink_view K.taken K.write_faults out.old) (sink_view K.taken K.write_faults out.new) }
-    ensures out_of_memory { is_show (map (λ w. w.now) words.now) ≡ false → result.status ≡ 11 → IsOutOfMemory
+    ensures out_of_memory { is_apart (map (λ w. w.now) words.now) ≡ false → result.status ≡ 11 → IsOutOfMemory
         (source_view S.left S.read_faults S.ends src.old) (source_view S.left S.read_faults S.ends src.new)
         (sink_view K.taken K.write_faults out.old) (sink_view K.taken K.write_faults out.new) }
     ensures show { is_show (map (λ w. w.now) words.now) ≡ true → IsShowing
+        (source_view S.left S.read_faults S.ends src.old) (source_view S.left S.read_faults S.ends src.new)
+        (sink_view K.taken K.write_faults out.old) (sink_view K.taken K.write_faults out.new) result }
+    ensures making { (messages : ℕ) → made_count (map (λ w. w.now) words.now) ≡ Some messages → IsMaking messages
         (source_view S.left S.read_faults S.ends src.old) (source_view S.left S.read_faults S.ends src.new)
         (sink_view K.taken K.write_faults out.old) (sink_view K.taken K.write_faults out.new) result }
     ensures statuses { Contains (0 ∷ 2 ∷ 3 ∷ 4 ∷ 5 ∷ 9 ∷ 11 ∷ []) result.status }
@@ -82,7 +89,18 @@ pub fn run<S: Source, K: Sink>(alloc: Global, words: &[&str], src: &mut S, out: 
     if is_show(words) {
         return show_stream(alloc, src, out);
     }
+    if let Some(messages) = made_count(words) {
+        return tell_made(alloc, messages, out);
+    }
     let end = judge(alloc, words, src);
+    finish(alloc, out, end)
+}
+
+/// Runs the made schedule of so many messages, and tells its end.
+fn tell_made<K: Sink>(alloc: Global, messages: u64, out: &mut K) -> Ended
+    ensures { IsMadeTold messages (sink_view K.taken K.write_faults out.old) (sink_view K.taken K.write_faults out.new) result }
+{
+    let end = made_end(alloc, messages);
     finish(alloc, out, end)
 }
 
@@ -140,9 +158,9 @@ pub fn out_of_memory<K: Sink>(out: &mut K) -> Ended
     write_text(out, End::Memory.ended(), b"out of memory\n")
 }
 
-/// What the words, which don't name `show`, and the input lead to.
+/// What the words, which ask for no program that reads no schedule, and the input lead to.
 fn judge<S: Source>(alloc: Global, words: &[&str], src: &mut S) -> End
-    requires { is_show (map (λ w. w.now) words.now) ≡ false }
+    requires { is_apart (map (λ w. w.now) words.now) ≡ false }
     ensures shown { MayEnd (map (λ w. w.now) words.now)
         (source_view S.left S.read_faults S.ends src.old) (source_view S.left S.read_faults S.ends src.new) result }
     ensures took { Took (source_view S.left S.read_faults S.ends src.old) (source_view S.left S.read_faults S.ends src.new) }
@@ -196,7 +214,7 @@ fn text_end(text: Bytes, recording: bool) -> End
 }
 
 /// The end of a run whose schedule gave no history.
-fn end_of(fault: RunFault) -> End
+pub(crate) fn end_of(fault: RunFault) -> End
     ensures { result ≡ end_given fault }
 {
     match fault {

@@ -1,39 +1,121 @@
 //! The words of the command line: which are lawful, and which is the first bad one.
-ghost use Rattle.std.specs.Prelude.{map, ◌≡◌, ◌∷◌, [], IfOk, string_bytes};
-ghost use Rattle.top_call.specs.Words.{bad_place, is_recording, is_show};
+ghost use Rattle.std.specs.Prelude.{map, ◌≡◌, IfOk, string_bytes};
+ghost use Rattle.top_call.specs.Words.{bad_place, count_in, is_recording, is_show, made_count, place_after, place_after_make, place_after_record, place_after_replay};
 
+use line_text::number_in;
 use std::alloc::{AllocError, Global};
 use std::env::{Env, FillError};
 use std::str;
 
 /// The place of the first bad word, counted from 0, or the count of words where one is missing.
 ///
-/// The words are exactly the name of one program, `replay` or `show`; `replay` may have the flag `--record` after it.
+/// The words are exactly the name of one program, `replay` or `show`; `replay` may have the flag `--record` after it, or
+/// `--make` and a number from 1 to 50,000.
 pub fn bad_word(words: &[&str]) -> Option<u64>
     ensures { result ≡ bad_place (map (λ w. w.now) words.now) }
 {
     match words {
         [] => Some(0),
-        [name] => {
-            if *name == "replay" || *name == "show" {
-                None
+        [name, rest @ ..] => {
+            if *name == "replay" {
+                bad_after_replay(rest)
+            } else if *name == "show" {
+                bad_after(rest)
             } else {
                 Some(0)
             }
         }
-        [name, flag] => bad_of_two(name, flag),
-        [name, flag, _, ..] => Some(bad_of_two(name, flag).unwrap_or(2)),
     }
 }
 
-/// The place of the first bad word of two, the name of a program and what may be a flag of it.
-fn bad_of_two(name: &str, flag: &str) -> Option<u64>
-    ensures { result ≡ bad_place (name.now ∷ flag.now ∷ []) }
+/// The first of words after the name of a program that takes none.
+fn bad_after(words: &[&str]) -> Option<u64>
+    ensures { result ≡ place_after (map (λ w. w.now) words.now) }
 {
-    if name == "replay" {
-        return if flag == "--record" { None } else { Some(1) };
+    match words {
+        [] => None,
+        [_, ..] => Some(1),
     }
-    if name == "show" { Some(1) } else { Some(0) }
+}
+
+/// The place of the first bad word after the name of `replay`.
+fn bad_after_replay(words: &[&str]) -> Option<u64>
+    ensures { result ≡ place_after_replay (map (λ w. w.now) words.now) }
+{
+    match words {
+        [] => None,
+        [option, rest @ ..] => {
+            if *option == "--record" {
+                bad_after_record(rest)
+            } else if *option == "--make" {
+                bad_after_make(rest)
+            } else {
+                Some(1)
+            }
+        }
+    }
+}
+
+/// The place of the first word after `replay --record`.
+fn bad_after_record(words: &[&str]) -> Option<u64>
+    ensures { result ≡ place_after_record (map (λ w. w.now) words.now) }
+{
+    match words {
+        [] => None,
+        [_, ..] => Some(2),
+    }
+}
+
+/// The place of the first bad word after `replay --make`.
+fn bad_after_make(words: &[&str]) -> Option<u64>
+    ensures { result ≡ place_after_make (map (λ w. w.now) words.now) }
+{
+    match words {
+        [] => Some(2),
+        [word] => {
+            if count_in(word).is_some() {
+                None
+            } else {
+                Some(2)
+            }
+        }
+        [word, _, ..] => {
+            if count_in(word).is_some() {
+                Some(3)
+            } else {
+                Some(2)
+            }
+        }
+    }
+}
+
+/// The most messages of a made schedule.
+const COUNT_LIMIT: u64 = 50_000;
+
+/// The number of messages that a word spells.
+fn count_in(word: &str) -> Option<u64>
+    ensures { result ≡ count_in word.now }
+{
+    number_in(1, COUNT_LIMIT, word)
+}
+
+/// Of how many messages a schedule is to be made, where the words are exactly `replay --make` and that number.
+pub fn made_count(words: &[&str]) -> Option<u64>
+    ensures { result ≡ made_count (map (λ w. w.now) words.now) }
+{
+    match words {
+        [] => None,
+        [_] => None,
+        [_, _] => None,
+        [name, option, word] => {
+            if *name == "replay" && *option == "--make" {
+                count_in(word)
+            } else {
+                None
+            }
+        }
+        [_, _, _, _, ..] => None,
+    }
 }
 
 /// Whether the words are exactly `replay --record`.
