@@ -1,10 +1,10 @@
 //! The desk.
 ghost use Rattle.std.specs.Io.KnownBytes.{Appends, Keeps};
-ghost use Rattle.std.specs.Prelude.{IfErr, IfOk, List, OnErr, OnOk, [], ℕ, ◌<◌, ◌^◌, ◌∷◌, ◌≡◌};
+ghost use Rattle.std.specs.Prelude.{IfErr, IfOk, List, OnErr, OnOk, [], false, true, ℕ, ◌<◌, ◌^◌, ◌∷◌, ◌≡◌};
 ghost use Rattle.wire_grammar.specs.Fits.{IsWithinLimits};
 ghost use Rattle.resp_wire.specs.Stands.{Stands};
-ghost use Rattle.desks.specs.Deeds.{DidAsk};
-ghost use Rattle.desks.specs.Faults.{HasCounts, HasShown, IsFaultOf, IsOpen};
+ghost use Rattle.desks.specs.Deeds.{DidAsk, DidNote, DidStop};
+ghost use Rattle.desks.specs.Faults.{HasCounts, HasShown, HasStopped, IsFaultOf, IsOpen};
 ghost use Rattle.link_desk.specs.Exchanges.{HasExchanged, RefusesWords};
 ghost use Rattle.link_desk.specs.Hearings.{HasLinkCause};
 ghost use Rattle.link_desk.specs.LinkDeeds.{CarriesDeeds, link_desk_view, standing_of};
@@ -138,7 +138,21 @@ impl<L: Link> Desk for LinkDesk<L> {
         }
     }
 
-    fn tell(&mut self, alloc: Global, heard: Heard) -> Result<(), DeskFault> {
+    fn tell(&mut self, alloc: Global, heard: Heard) -> Result<(), DeskFault>
+        ensures ok { OnOk result (CarriesDeeds
+            (link_desk_view (standing_of self.old.standing.fault self.old.standing.stopped) (L.sent self.old.link) (L.received self.old.link) self.old.hearing.decoder self.old.notes)
+            (DidNote heard ∷ [])
+            (link_desk_view (standing_of self.new.standing.fault self.new.standing.stopped) (L.sent self.new.link) (L.received self.new.link) self.new.hearing.decoder self.new.notes)) }
+        ensures err { OnErr result (CarriesDeeds
+            (link_desk_view (standing_of self.old.standing.fault self.old.standing.stopped) (L.sent self.old.link) (L.received self.old.link) self.old.hearing.decoder self.old.notes)
+            []
+            (link_desk_view (standing_of self.new.standing.fault self.new.standing.stopped) (L.sent self.new.link) (L.received self.new.link) self.new.hearing.decoder self.new.notes)) }
+        ensures shown { HasShown self.old.standing.fault self.old.standing.stopped self.new.standing.fault self.new.standing.stopped result }
+        ensures kinds { IfErr result (IsFaultOf true false (L.faults self.old.link) (L.faults self.new.link) (L.ends self.old.link) (L.ends self.new.link)) }
+        ensures counts { HasCounts (L.faults self.old.link) (L.faults self.new.link) (L.ends self.old.link) (L.ends self.new.link) }
+        ensures link { self.new.link ≡ self.old.link }
+        ensures hearing { self.new.hearing ≡ self.old.hearing }
+    {
         match self.standing.enter() {
             Ok(()) => {}
             Err(fault) => return Err(fault),
@@ -149,7 +163,21 @@ impl<L: Link> Desk for LinkDesk<L> {
         }
     }
 
-    fn stop(&mut self, _alloc: Global) -> Result<(), DeskFault> {
+    fn stop(&mut self, _alloc: Global) -> Result<(), DeskFault>
+        ensures ok { OnOk result (CarriesDeeds
+            (link_desk_view (standing_of self.old.standing.fault self.old.standing.stopped) (L.sent self.old.link) (L.received self.old.link) self.old.hearing.decoder self.old.notes)
+            (DidStop ∷ [])
+            (link_desk_view (standing_of self.new.standing.fault self.new.standing.stopped) (L.sent self.new.link) (L.received self.new.link) self.new.hearing.decoder self.new.notes)) }
+        ensures err { OnErr result (CarriesDeeds
+            (link_desk_view (standing_of self.old.standing.fault self.old.standing.stopped) (L.sent self.old.link) (L.received self.old.link) self.old.hearing.decoder self.old.notes)
+            []
+            (link_desk_view (standing_of self.new.standing.fault self.new.standing.stopped) (L.sent self.new.link) (L.received self.new.link) self.new.hearing.decoder self.new.notes)) }
+        ensures shown { HasStopped self.old.standing.fault self.old.standing.stopped self.new.standing.fault self.new.standing.stopped result }
+        ensures kinds { IfErr result (IsFaultOf true false (L.faults self.old.link) (L.faults self.new.link) (L.ends self.old.link) (L.ends self.new.link)) }
+        ensures counts { HasCounts (L.faults self.old.link) (L.faults self.new.link) (L.ends self.old.link) (L.ends self.new.link) }
+        ensures link { self.new.link ≡ self.old.link }
+        ensures hearing { self.new.hearing ≡ self.old.hearing }
+    {
         match self.standing.enter() {
             Ok(()) => {}
             Err(fault) => return Err(fault),
