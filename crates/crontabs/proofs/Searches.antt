@@ -6,7 +6,7 @@ use Rattle.std.specs.Ordering.{nat_cmp, ord_min}
 use Rattle.crontabs.specs.Crontabs.{IsCronDue}
 use Rattle.crontabs.specs.Fields.{field_has}
 use Rattle.crontabs.specs.Found.{HasDay, HasMinuteIn, HasMinuteOn, HasTimeIn, SomeBetween, SomeDay, SomeMinute, SomeTime}
-use Rattle.crontabs.specs.Minutes.{Minute, day_of, number_of}
+use Rattle.crontabs.specs.Minutes.{Minute, day_of, minute_number}
 use Rattle.crontabs.specs.Months.{month_length, month_start}
 use Rattle.crontabs.specs.declared.crontab.Crontab.{Crontab}
 use Rattle.crontabs.specs.declared.times.Times.{Times}
@@ -236,14 +236,14 @@ pub due_found : (c : Crontab) (last now : ℕ) (r : Bool) → (IsTrue r ↔ Some
 due_found c last now r is = (
   λ e.
       let w = is.0 e in
-      let from : last / 60 + 1 ≤ number_of w.0 = w.1.from in
-      let to : number_of w.0 ≤ min (now / 60) 4223371679 = w.1.to in
-      (w.0, record { real = w.1.real; matches = w.1.matches; after = after_of last (number_of w.0) from; by_now = by_now_of now (number_of w.0) to }),
+      let from : last / 60 + 1 ≤ minute_number w.0 = w.1.from in
+      let to : minute_number w.0 ≤ min (now / 60) 4223371679 = w.1.to in
+      (w.0, record { real = w.1.real; matches = w.1.matches; after = after_of last (minute_number w.0) from; by_now = by_now_of now (minute_number w.0) to }),
   λ w.
       let real = real_is w.0 w.1.real in
-      let after : last < number_of w.0 * 60 = w.1.after in
-      let by_now : number_of w.0 * 60 ≤ now = w.1.by_now in
-      is.1 (w.0, record { real = w.1.real; matches = w.1.matches; from = from_of last (number_of w.0) after; to = to_of now (number_of w.0) by_now (omega (arith, day_bound w.0 real, real.hour_in, real.minute_in)) }),
+      let after : last < minute_number w.0 * 60 = w.1.after in
+      let by_now : minute_number w.0 * 60 ≤ now = w.1.by_now in
+      is.1 (w.0, record { real = w.1.real; matches = w.1.matches; from = from_of last (minute_number w.0) after; to = to_of now (minute_number w.0) by_now (omega (arith, day_bound w.0 real, real.hour_in, real.minute_in)) }),
 ) where
   after_of : (a n : ℕ) → a / 60 + 1 ≤ n → a < n * 60
   after_of a n h = omega arith
@@ -258,6 +258,6 @@ due_found c last now r is = (
   to_of a n h k = omega arith
 
 pub not_due : (c : Crontab) (last now : ℕ) → min (now / 60) 4223371679 < last / 60 + 1 → IsTrue false ↔ IsCronDue c last now
-not_due c last now none = due_found c last now false (missed (λ w. absurd (out (last / 60 + 1) (min (now / 60) 4223371679) (number_of w.0) none w.1.from w.1.to))) where
+not_due c last now none = due_found c last now false (missed (λ w. absurd (out (last / 60 + 1) (min (now / 60) 4223371679) (minute_number w.0) none w.1.from w.1.to))) where
   out : (a b n : ℕ) → b < a → a ≤ n → n ≤ b → ⊥
   out a b n h k l = omega arith

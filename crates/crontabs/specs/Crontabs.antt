@@ -1,7 +1,7 @@
 -- The minutes that a crontab matches, and when it is due.
 use Rattle.std.specs.Prelude.{◌≡◌, ℕ, ◌<◌, ◌≤◌, IsTrue, true}
 use Rattle.crontabs.specs.Fields.{field_has}
-use Rattle.crontabs.specs.Minutes.{Minute, is_minute, second_of, weekday_of}
+use Rattle.crontabs.specs.Minutes.{Minute, is_minute, minute_start, weekday_of}
 use Rattle.crontabs.specs.declared.crontab.Crontab.{Crontab}
 
 -- all five fields have the minute
@@ -16,8 +16,8 @@ pub record Matches (c : Crontab) (m : Minute) : Type 0 where
 pub record IsDueBy (c : Crontab) (last now : ℕ) (m : Minute) : Type 0 where
   pub real : is_minute m ≡ true
   pub matches : Matches c m
-  pub after : last < second_of m
-  pub by_now : second_of m ≤ now
+  pub after : last < minute_start m
+  pub by_now : minute_start m ≤ now
 
 -- a crontab is due at a moment if there was such a minute since the last moment
 abbrev pub IsCronDue : Crontab → ℕ → ℕ → Type 0

@@ -2,7 +2,7 @@
 use Rattle.std.specs.Prelude.{◌≡◌, ℕ, ◌+◌, ◌-◌, ◌*◌, ◌%◌, ◌<◌, ◌≤◌, Bool, IsTrue, true}
 use Rattle.crontabs.specs.Crontabs.{Matches}
 use Rattle.crontabs.specs.Fields.{field_has}
-use Rattle.crontabs.specs.Minutes.{Minute, is_minute, number_of}
+use Rattle.crontabs.specs.Minutes.{Minute, is_minute, minute_number}
 use Rattle.crontabs.specs.declared.crontab.Crontab.{Crontab}
 use Rattle.crontabs.specs.declared.dates.Dates.{Dates}
 use Rattle.crontabs.specs.declared.times.Times.{Times}
@@ -49,8 +49,8 @@ SomeDay c base length first last = (place : ℕ) × (place < length) × HasMinut
 pub record IsMinuteWithin (c : Crontab) (first last : ℕ) (m : Minute) : Type 0 where
   pub real : is_minute m ≡ true
   pub matches : Matches c m
-  pub from : first ≤ number_of m
-  pub to : number_of m ≤ last
+  pub from : first ≤ minute_number m
+  pub to : minute_number m ≤ last
 
 -- some minute of a month, counted from January of year 0; and of any month
 abbrev pub HasMinuteIn : Crontab → ℕ → ℕ → ℕ → Type 0

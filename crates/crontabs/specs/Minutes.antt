@@ -19,12 +19,12 @@ abbrev pub day_of : Minute → ℕ
 day_of m = unsigned_abs (day_number m.year m.month m.day)
 
 -- the minutes from the first of 1970 to it
-abbrev pub number_of : Minute → ℕ
-number_of m = day_of m * 1440 + (m.hour * 60 + m.minute)
+abbrev pub minute_number : Minute → ℕ
+minute_number m = day_of m * 1440 + (m.hour * 60 + m.minute)
 
 -- its first second, counted from 1970
-abbrev pub second_of : Minute → ℕ
-second_of m = number_of m * 60
+abbrev pub minute_start : Minute → ℕ
+minute_start m = minute_number m * 60
 
 -- its weekday: Sunday is 0, and 1 January 1970 was a Thursday
 abbrev pub weekday_of : Minute → ℕ

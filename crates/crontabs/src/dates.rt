@@ -2,18 +2,18 @@
 ghost use Rattle.std.specs.Prelude.{◌≡◌, ◌<◌, ◌^◌, ◌↔◌, IsTrue};
 
 use crate::numbers::has;
-use crate::steps::Steps;
+use crate::stepped_range::SteppedRange;
 use wire_values::List;
 
 /// The fields of a crontab that tell a date.
 #[derive(Drop)]
 pub struct Dates {
     /// The days of a month, from 1 to 31.
-    pub days: List<Steps>,
+    pub days: List<SteppedRange>,
     /// The months of a year, from 1 to 12.
-    pub months: List<Steps>,
+    pub months: List<SteppedRange>,
     /// The days of a week, from 0 to 6; 0 is Sunday.
-    pub weekdays: List<Steps>,
+    pub weekdays: List<SteppedRange>,
 }
 
 impl Dates {

@@ -1,12 +1,12 @@
 //! The fields of a crontab, as they are spelled.
 ghost use Rattle.std.specs.Prelude.{◌≡◌, ◌==◌, IfOk, map};
 ghost use Rattle.std.specs.List.{slice_split};
-ghost use Rattle.crontabs.specs.FieldTexts.{crontab_in, dates_in, field_in, parts_in, times_in};
+ghost use Rattle.crontabs.specs.FieldTexts.{crontab_in, dates_in, field_in, field_parts, times_in};
 
 use crate::crontab::Crontab;
 use crate::dates::Dates;
-use crate::parts::part_in;
-use crate::steps::Steps;
+use crate::parts::field_part;
+use crate::stepped_range::SteppedRange;
 use crate::times::Times;
 use std::alloc::{AllocError, Global};
 use wire_values::List;
@@ -76,11 +76,11 @@ fn field_in(
     low: u64,
     high: u64,
     word: &str,
-) -> Result<Option<List<Steps>>, AllocError>
+) -> Result<Option<List<SteppedRange>>, AllocError>
     ensures { IfOk result (λ found. found ≡ field_in low high word.now) }
 {
     let parts = parts(alloc, word)?;
-    parts_in(alloc, low, high, parts.as_slice())
+    field_parts(alloc, low, high, parts.as_slice())
 }
 
 /// The parts of a field.
@@ -91,17 +91,17 @@ fn parts<'a>(alloc: Global, word: &'a str) -> Result<Vec<&'a str>, AllocError>
 }
 
 /// What parts spell.
-fn parts_in(
+fn field_parts(
     alloc: Global,
     low: u64,
     high: u64,
     parts: &[&str],
-) -> Result<Option<List<Steps>>, AllocError>
-    ensures { IfOk result (λ found. found ≡ parts_in low high (map (λ part. part.now) parts.now)) }
+) -> Result<Option<List<SteppedRange>>, AllocError>
+    ensures { IfOk result (λ found. found ≡ field_parts low high (map (λ part. part.now) parts.now)) }
 {
     let mut found = List::new();
     for part in parts {
-        match part_in(low, high, part) {
+        match field_part(low, high, part) {
             Some(steps) => found.push(alloc, steps)?,
             None => return Ok(None),
         }

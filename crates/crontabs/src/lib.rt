@@ -9,10 +9,10 @@ mod dates;
 mod fields;
 mod numbers;
 mod parts;
-mod steps;
+mod stepped_range;
 mod times;
 
 pub use crontab::Crontab;
 pub use dates::Dates;
-pub use steps::Steps;
+pub use stepped_range::SteppedRange;
 pub use times::Times;

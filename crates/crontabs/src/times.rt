@@ -2,16 +2,16 @@
 ghost use Rattle.std.specs.Prelude.{◌*◌, ◌<◌, ◌≤◌, ◌↔◌, IsTrue};
 
 use crate::numbers::{has, has_between};
-use crate::steps::Steps;
+use crate::stepped_range::SteppedRange;
 use wire_values::List;
 
 /// The fields of a crontab that tell a time of day.
 #[derive(Drop)]
 pub struct Times {
     /// The minutes of an hour, from 0 to 59.
-    pub minutes: List<Steps>,
+    pub minutes: List<SteppedRange>,
     /// The hours of a day, from 0 to 23.
-    pub hours: List<Steps>,
+    pub hours: List<SteppedRange>,
 }
 
 impl Times {

@@ -7,4 +7,4 @@ use Rattle.crontabs.proofs.parts.plain_in.Goals as goal
 pub returns-in-None : goal.returns-in-None
 returns-in-None c =
     let none : list_any (λ b. b == 45) c.args.part.now ≡ false = no_byte 45 c.args.part.now (split_once_first 45 c.args.part.now None c.in-None.ensures.cases (lit< tt)) in
-    rw (sym c.eq.ensures ∙ c.if-eq.false, none) c.single_in.ensures
+    rw (sym c.eq.ensures ∙ c.if-eq.false, none) c.single_number.ensures

@@ -2,7 +2,7 @@ use Rattle.std.proofs.Common.{◌≡◌, lit<, None, false, ◌==◌}
 use Rattle.std.specs.List.{list_any}
 use Rattle.std.proofs.lemmas.Str.Pattern.{split_once_first}
 use Rattle.crontabs.proofs.Words.{no_byte}
-use Rattle.crontabs.proofs.parts.part_in.Goals as goal
+use Rattle.crontabs.proofs.parts.field_part.Goals as goal
 
 pub returns-in-None : goal.returns-in-None
 returns-in-None c =

@@ -3,7 +3,7 @@ ghost use Rattle.std.specs.Prelude.{◌≡◌};
 
 /// The numbers from a first to a last, in steps from the first on.
 #[derive(Clone, Copy, Debug, PartialEq, Eq)]
-pub struct Steps {
+pub struct SteppedRange {
     /// The first number.
     pub first: u64,
     /// No number is above this one.
@@ -12,7 +12,7 @@ pub struct Steps {
     pub step: u64,
 }
 
-impl Steps {
+impl SteppedRange {
     ghost use Rattle.crontabs.specs.Fields.{steps_have};
 
     /// Whether a number is among them.

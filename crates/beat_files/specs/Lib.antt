@@ -1,0 +1,2 @@
+pub mod BeatFiles
+pub mod Readings

@@ -1,8 +1,0 @@
-use Rattle.std.proofs.Common.{◌≡◌, ◌++◌, drop, map}
-use Rattle.std.specs.Prelude.{option_map}
-use Rattle.crontabs.specs.FieldTexts.{parts_in}
-use Rattle.crontabs.proofs.fields.parts_in.Given as goal
-
--- what was found and what the rest spells are what all parts spell
-abbrev pub invariant-loop-part : goal.invariant-loop-part
-invariant-loop-part l = option_map (λ rest. l.found ++ rest) (parts_in l.low l.high (map (λ part. part.now) (drop l.part-index l.parts))) ≡ parts_in l.low l.high (map (λ part. part.now) l.parts)
