@@ -3,3 +3,4 @@ mod Checked
 pub mod Numbered
 mod Sealing
 mod Tagged
+mod Ways

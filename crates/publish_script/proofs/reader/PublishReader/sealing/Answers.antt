@@ -5,7 +5,7 @@ use Rattle.serde_json.specs.Written.{compact_text}
 use Rattle.command_blocks.specs.EnvelopeTexts.{plain_setting}
 use Rattle.command_blocks.specs.Scripts.{Publish}
 use Rattle.client_plans.specs.Tasks.{Names, envelope_text}
-use Rattle.client_plans.proofs.Preparing.{publishable}
+use Rattle.publish_script.proofs.Ways.{publishable}
 use Rattle.publish_script.specs.Drafts.{timed_task}
 use Rattle.publish_script.specs.Readings.{reader_of, times_of}
 use Rattle.publish_script.specs.Scripts.{Says, no_times}
