@@ -1,12 +1,12 @@
 //! Entries of the table of messages that aren't acknowledged.
-ghost use Rattle.std.specs.Prelude.{◌≡◌, bytes_eq, IfOk, Ok};
+ghost use Rattle.std.specs.Prelude.{◌≡◌, bytes_eq, IfOk, Ok, option_map};
 ghost use Rattle.serde_json.specs.View.{view as data_of};
 ghost use Rattle.delivery_tags.specs.Tags.{tag_text};
 ghost use Rattle.envelope.specs.Entries.{entry_at};
 ghost use Rattle.envelope.specs.Envelopes.{parts_in};
 ghost use Rattle.envelope.specs.ShownEntry.{entry_view};
 ghost use Rattle.envelope_trees.specs.Marks.{marked};
-ghost use Rattle.command_blocks.specs.EnvelopeTexts.{way_kept};
+ghost use Rattle.command_blocks.specs.EnvelopeTexts.{way_in, way_kept};
 ghost use Rattle.manner_texts.specs.Ways.{TellsKept, way_told};
 
 use crate::way::MessageWay;
@@ -72,6 +72,20 @@ fn kept_as(
         text: Bytes::from_slice(alloc, text)?,
         way: way_of(alloc, read)?,
     }))
+}
+
+/// Where an entry's message returns. None where the bytes are no entry.
+///
+/// # Errors
+/// Want of memory.
+pub fn read_way(alloc: Global, entry: &[u8]) -> Result<Option<MessageWay>, AllocError>
+    ensures { IfOk result (λ way. way_in entry.now ≡ option_map way_told way) }
+{
+    match read_entry(alloc, entry) {
+        Ok(read) => Ok(Some(way_of(alloc, &read)?)),
+        Err(EnvelopeFault::Memory) => Err(AllocError),
+        Err(_) => Ok(None),
+    }
 }
 
 /// Whether an envelope has the tag of this text.

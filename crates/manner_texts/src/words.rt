@@ -1,27 +1,57 @@
 //! Words of a command.
-ghost use Rattle.std.specs.Prelude.{◌≡◌, bytes_eq, map};
+ghost use Rattle.std.specs.Prelude.{◌≡◌, ◌∷◌, [], bytes_eq};
 ghost use Rattle.manner_laws.specs.Cursor.{further, is_command, middle, same_words, second, third};
 ghost use Rattle.manner_texts.specs.Heads.{HasWord};
 
 use wire_values::Bytes;
 
-/// Whether the words are these.
-pub fn are_said(expected: &[&[u8]], words: &[Bytes]) -> bool
-    ensures { result ≡ same_words (map (λ w. w.now) expected.now) words.now }
+/// Whether the words are this one.
+pub fn says_one(words: &[Bytes], first: &[u8]) -> bool
+    ensures { result ≡ same_words (first.now ∷ []) words.now }
 {
-    let mut left = expected;
-    let mut others = words;
-    'words: loop {
-        match left {
-            [] => return others.is_empty(),
-            [first, rest @ ..] => {
-                let Some(more) = after_word(first, others) else {
-                    return false;
-                };
-                left = rest;
-                others = more;
-            }
-        }
+    match after_word(first, words) {
+        Some(rest) => are_none(rest),
+        None => false,
+    }
+}
+
+/// Whether there are no words.
+fn are_none(words: &[Bytes]) -> bool
+    ensures { result ≡ same_words [] words.now }
+{
+    match words {
+        [] => true,
+        [_, ..] => false,
+    }
+}
+
+/// Whether the words are these two.
+pub fn says_two(words: &[Bytes], first: &[u8], second: &[u8]) -> bool
+    ensures { result ≡ same_words (first.now ∷ second.now ∷ []) words.now }
+{
+    match after_word(first, words) {
+        Some(rest) => says_one(rest, second),
+        None => false,
+    }
+}
+
+/// Whether the words are these three.
+pub fn says_three(words: &[Bytes], first: &[u8], second: &[u8], third: &[u8]) -> bool
+    ensures { result ≡ same_words (first.now ∷ second.now ∷ third.now ∷ []) words.now }
+{
+    match after_word(first, words) {
+        Some(rest) => says_two(rest, second, third),
+        None => false,
+    }
+}
+
+/// Whether the words are these four.
+pub fn says_four(words: &[Bytes], first: &[u8], second: &[u8], third: &[u8], fourth: &[u8]) -> bool
+    ensures { result ≡ same_words (first.now ∷ second.now ∷ third.now ∷ fourth.now ∷ []) words.now }
+{
+    match after_word(first, words) {
+        Some(rest) => says_three(rest, second, third, fourth),
+        None => false,
     }
 }
 

@@ -9,6 +9,8 @@ mod failing;
 #[cfg(test)]
 mod local;
 #[cfg(test)]
+mod long_texts;
+#[cfg(test)]
 mod played;
 #[cfg(test)]
 mod replied;
