@@ -5,7 +5,7 @@
 mod pops;
 mod releases;
 mod rest;
-mod returns;
+mod returning;
 mod tagged;
 
 pub use pops::{
@@ -14,7 +14,7 @@ pub use pops::{
 pub use releases::{
     ask_foreign, ask_own, ask_release_begun, ask_release_deleted, ask_releasing, ask_turning,
 };
-pub use returns::{
+pub use returning::{
     ask_asking, ask_begun, ask_leaving, ask_looking, ask_putting, ask_ready, ask_removed,
     ask_waiting, ask_watched,
 };

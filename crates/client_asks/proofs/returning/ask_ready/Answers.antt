@@ -4,7 +4,7 @@ use Rattle.manner_laws.specs.Spots.{routed}
 use Rattle.client_spots.specs.Stands.{job_of}
 use Rattle.client_asks.specs.Asks.{IsAskedAt}
 use Rattle.client_asks.proofs.Tests.{no_element}
-use Rattle.client_asks.proofs.returns.ask_ready.Goals as goal
+use Rattle.client_asks.proofs.returning.ask_ready.Goals as goal
 
 pub returns-in-empty : goal.returns-in-empty
 returns-in-empty c = λ at.

@@ -3,7 +3,7 @@ use Rattle.command_blocks.specs.EnvelopeTexts.{plain_setting}
 use Rattle.manner_laws.specs.Spots.{Entry}
 use Rattle.client_spots.specs.Stands.{job_of}
 use Rattle.client_asks.proofs.Tests.{job_said}
-use Rattle.client_asks.proofs.returns.ask_watched.Goals as goal
+use Rattle.client_asks.proofs.returning.ask_watched.Goals as goal
 
 pub returns-then-not-says_three : goal.returns-then-not-says_three
 returns-then-not-says_three c = λ at.

@@ -1,7 +1,7 @@
 use Rattle.std.proofs.Common.{Some, ap, refl, sym, ◌∙◌}
 use Rattle.manner_laws.specs.Spots.{Putting, Queueing}
 use Rattle.client_asks.proofs.Tests.{putting_said}
-use Rattle.client_asks.proofs.returns.ask_putting.Goals as goal
+use Rattle.client_asks.proofs.returning.ask_putting.Goals as goal
 
 pub returns-in_ok-spot-in-len1-up : goal.returns-in_ok-spot-in-len1-up
 returns-in_ok-spot-in-len1-up c = λ at.

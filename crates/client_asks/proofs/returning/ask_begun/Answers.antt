@@ -5,7 +5,7 @@ use Rattle.client_spots.specs.Stands.{job_of}
 use Rattle.command_blocks.specs.EnvelopeTexts.{plain_setting}
 use Rattle.client_asks.specs.Asks.{IsAskedAt}
 use Rattle.client_asks.proofs.Tests.{begun_said, job_said, no_element}
-use Rattle.client_asks.proofs.returns.ask_begun.Goals as goal
+use Rattle.client_asks.proofs.returning.ask_begun.Goals as goal
 
 pub returns-in-empty : goal.returns-in-empty
 returns-in-empty c = λ at.
