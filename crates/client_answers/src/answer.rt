@@ -1,5 +1,6 @@
 //! Answers to the commands of publications and pops.
-ghost use Rattle.std.specs.Prelude.{IfOk, OnOk};
+ghost use Rattle.std.specs.Prelude.{◌≡◌, IfOk, OnOk, option_map};
+ghost use Rattle.delivery_tags.specs.Tags.{tag_text};
 ghost use Rattle.envelope.specs.Bodies.{tag_of_bytes};
 ghost use Rattle.manner_laws.specs.Cursor.{popped_spot};
 ghost use Rattle.manner_laws.specs.Spots.{Bindings, Message};
@@ -8,7 +9,8 @@ ghost use Rattle.client_answers.specs.Leads.{IsAt, IsLed};
 use crate::values::{bulk_texts, is_null_array};
 use client_spots::{ClientSpot, Stand};
 use command_blocks::answer::pair;
-use manner_texts::{PoppedMessage, read_popped};
+use delivery_tags::Tag;
+use manner_texts::read_popped;
 use std::alloc::{AllocError, Global};
 use wire_values::{Bytes, Value};
 
@@ -55,8 +57,8 @@ pub(crate) fn message(
 fn popped(spot: &mut ClientSpot, alloc: Global, element: &[u8]) -> Result<(), AllocError>
     ensures { OnOk result (IsAt spot.old (popped_spot spot.old.drawn spot.old.passes element.now (tag_of_bytes element.now)) spot.new) }
 {
-    match read_popped(alloc, element)? {
-        Some(PoppedMessage { tag, .. }) => {
+    match popped_tag(alloc, element)? {
+        Some(tag) => {
             spot.envelope = Bytes::from_slice(alloc, element)?;
             spot.tag = Bytes::from_slice(alloc, tag.text().as_slice())?;
             spot.stand = Stand::Popped;
@@ -64,4 +66,14 @@ fn popped(spot: &mut ClientSpot, alloc: Global, element: &[u8]) -> Result<(), Al
         None => spot.stand = Stand::Free,
     }
     Ok(())
+}
+
+/// The tag of an element that is an envelope.
+fn popped_tag(alloc: Global, element: &[u8]) -> Result<Option<Tag>, AllocError>
+    ensures { IfOk result (λ found. tag_of_bytes element.now ≡ option_map (λ t. tag_text t.0) found) }
+{
+    match read_popped(alloc, element)? {
+        Some(message) => Ok(Some(message.tag)),
+        None => Ok(None),
+    }
 }

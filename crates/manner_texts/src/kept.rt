@@ -82,10 +82,22 @@ pub fn read_way(alloc: Global, entry: &[u8]) -> Result<Option<MessageWay>, Alloc
     ensures { IfOk result (λ way. way_in entry.now ≡ option_map way_told way) }
 {
     match read_entry(alloc, entry) {
-        Ok(read) => Ok(Some(way_of(alloc, &read)?)),
+        Ok(read) => way_found(alloc, entry, &read),
         Err(EnvelopeFault::Memory) => Err(AllocError),
         Err(_) => Ok(None),
     }
+}
+
+/// The same, by what was read.
+fn way_found(
+    alloc: Global,
+    entry: &[u8],
+    read: &UnackedEntry,
+) -> Result<Option<MessageWay>, AllocError>
+    requires { entry_at entry.now ≡ Ok (entry_view read.now) }
+    ensures { IfOk result (λ way. way_in entry.now ≡ option_map way_told way) }
+{
+    Ok(Some(way_of(alloc, read)?))
 }
 
 /// Whether an envelope has the tag of this text.
