@@ -1,12 +1,12 @@
 //! What happened so far: the present moment, the history with its running cost, and the store.
-ghost use Rattle.std.specs.Prelude.{◌≡◌, ◌<◌, ◌+◌, IfOk, IsSome, OnOk, Some, true};
+ghost use Rattle.std.specs.Prelude.{◌≡◌, ◌<◌, ◌+◌, IfOk, IsSome, OnErr, OnOk, Some, false, true};
 ghost use Rattle.place_model.specs.Shown.{has_stopped, history_of};
 ghost use Rattle.store_model.specs.Limits.{moment_limit};
 ghost use Rattle.schedule_model.specs.Costs.{reply_size, total_cost, words_size};
 ghost use Rattle.schedule_model.specs.Faults.{has_more, has_number, has_seed};
 ghost use Rattle.command_blocks.specs.Scripts.{next_words};
 ghost use Rattle.steps.specs.Goings.{script_after};
-ghost use Rattle.client_core.specs.Works.{client_left, core_client};
+ghost use Rattle.client_core.specs.Works.{client_left, core_client, lacked};
 
 use crate::cost::call_cost;
 use block_core::ReplyFault;
@@ -275,10 +275,8 @@ fn heard(alloc: Global, moment: u64, reply: &Reply, core: &mut ClientCore) -> Re
     ensures left { OnOk result (client_left core.new ≡ script_after (client_left core.old) reply.now) }
     ensures counts { core_client core.new ≡ core_client core.old }
 {
-    match core.took(alloc, moment, reply) {
-        Ok(()) | Err(ReplyFault::Refused(_)) => Ok(()),
-        Err(ReplyFault::Memory) => Err(AllocError),
-    }
+    let taken = core.took(alloc, moment, reply);
+    told(&taken)
 }
 
 /// Whether a client has this number.
@@ -293,4 +291,15 @@ fn has_seed(clients: &[(u32, u64)], seed: u64) -> bool
     ensures { result ≡ has_seed seed clients.now }
 {
     clients.iter().any(|client| client.1 == seed)
+}
+
+/// Whether a client had the memory to take a reply, listed or not.
+fn told(taken: &Result<(), ReplyFault>) -> Result<(), AllocError>
+    ensures ok { OnOk result (lacked taken.now ≡ false) }
+    ensures err { OnErr result (lacked taken.now ≡ true) }
+{
+    match taken {
+        Ok(()) | Err(ReplyFault::Refused(_)) => Ok(()),
+        Err(ReplyFault::Memory) => Err(AllocError),
+    }
 }

@@ -1,7 +1,7 @@
 -- What a line leads to by which a client begins a block.
 use Rattle.std.proofs.Common.{◌≡◌, ℕ, suc, ◌∷◌, ◌++◌, Bool, true, false, refl, sym, ap, ◌∙◌, subst, Option, None, Some, Result, Ok, Err}
 use Rattle.std.specs.Prelude.{◌||◌, if◌then◌else◌, option_map}
-use Rattle.std.specs.FinMap.{get, insert}
+use Rattle.std.specs.FinMap.{get, insert, remove}
 use Rattle.std.specs.Result.{IsErr, IsErrAnd}
 use Rattle.line_text.specs.declared.reason.Reason.{Reason}
 use Rattle.line_text.specs.declared.reason.Reason.TheVariants.{Busy, Stopped}
@@ -134,3 +134,11 @@ memory_alone old new errand p (begin.Name f) e h = ok_err (sym e ∙ h.0)
 memory_alone old new errand p (begin.Draft f) e h = ok_err (sym e ∙ h.0)
 memory_alone old new errand p begin.BadNeutral e h = ok_err (sym e ∙ h.0)
 memory_alone old new errand p begin.Memory e h = refl
+
+-- a book that was taken out and set again, whose client began a plan
+pub set_so : (m r t : Shelf) (c : ℕ) (book k : ClientBook) (p : Plan) (b : Block) → Some book ≡ get m c → r ≡ remove m c → get m c ≡ Some k → Begins (core_client k.core) p b
+    → ((q : Plan) → Begins (core_client book.core) q b → (n : ClientBook) × (t ≡ insert r c n) × BeganPlan book q n) → HasBegunPlan c k p m t
+set_so m r t c book k p b taken removed e begins f =
+    let one : k ≡ book = same_some k book (sym e ∙ sym taken) in
+    let h = f p (subst (λ j. Begins (core_client j.core) p b) one begins) in
+    (h.0, h.1 ∙ ap (λ x. insert x c h.0) removed, subst (λ j. BeganPlan j p h.0) (sym one) h.2)

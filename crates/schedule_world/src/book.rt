@@ -1,8 +1,13 @@
 //! What is kept of each client.
 ghost use Rattle.std.specs.FinMap as map;
 ghost use Rattle.std.specs.Option.{option_copied};
-ghost use Rattle.std.specs.Prelude.{◌≡◌, OnErr, OnOk, Some, alloc_error, true};
+ghost use Rattle.std.specs.Prelude.{◌≡◌, Ok, OnErr, OnOk, Some, alloc_error, true};
+ghost use Rattle.steps.specs.Begins.{errand_of};
 ghost use Rattle.steps.specs.declared.begun.BeginFault.TheVariants.{Memory};
+ghost use Rattle.command_blocks.specs.Scripts.{Over, Plan};
+ghost use Rattle.client_core.specs.Begun.{Began};
+ghost use Rattle.client_core.specs.Works.{client_left, core_client};
+ghost use Rattle.client_plans.specs.Plans.{Begins};
 ghost use Rattle.schedule_world.specs.Rests.{IsBusy, IsPresent, IsResting, is_book_gone};
 
 use client_core::ClientCore;
@@ -46,10 +51,7 @@ impl Model for Books {
 }
 
 impl Books {
-    ghost use Rattle.command_blocks.specs.Scripts.{Plan};
-    ghost use Rattle.client_core.specs.Works.{core_client};
-    ghost use Rattle.client_plans.specs.Plans.{Begins};
-    ghost use Rattle.schedule_world.specs.Begins.{HasBegunPlan, MayBegin};
+    ghost use Rattle.schedule_world.specs.Begins.{BeganPlan, HasBegunPlan, MayBegin};
     ghost use Rattle.schedule_world.specs.declared.book.ClientBook.{ClientBook as Kept};
 
     /// No books; takes no memory.
@@ -116,13 +118,26 @@ impl Books {
             → HasBegunPlan client k p self.old self.new) }
         ensures err { OnErr result (self.new ≡ map.remove self.old client) }
     {
-        let Some(mut book) = self.take(client) else {
-            return Ok(());
-        };
-        match book.core.begin(alloc, block) {
-            Ok(()) => self.set(client, book),
-            Err(fault) => Err(lacked(fault)),
+        match self.take(client) {
+            Some(book) => self.set_begun(alloc, client, book, block),
+            None => Ok(()),
         }
+    }
+
+    /// Sets the book of a client that begins a block; without memory the table is as it was.
+    fn set_begun(
+        &mut self,
+        alloc: Global,
+        client: u32,
+        mut book: ClientBook,
+        block: Block,
+    ) -> Result<(), AllocError>
+        requires { MayBegin book block }
+        ensures ok { OnOk result ((p : Plan) → Begins (core_client book.core) p block → (n : Kept) × (self.new ≡ map.insert self.old client n) × BeganPlan book p n) }
+        ensures err { OnErr result (self.new ≡ self.old) }
+    {
+        began(alloc, &mut book.core, block)?;
+        self.set(client, book)
     }
 
     /// Whether a client is there.
@@ -167,6 +182,18 @@ impl Books {
     {
         self.kept.insert(client, book)?;
         Ok(())
+    }
+}
+
+/// A client begins a block that it may begin.
+fn began(alloc: Global, core: &mut ClientCore, block: Block) -> Result<(), AllocError>
+    requires idle { client_left core.old ≡ Over }
+    requires planned { (p : Plan) × Begins (core_client core.old) p block }
+    ensures { OnOk result (Began core.old core.new (errand_of (core_client core.old) block) (Ok tt)) }
+{
+    match core.begin(alloc, block) {
+        Ok(()) => Ok(()),
+        Err(fault) => Err(lacked(fault)),
     }
 }
 

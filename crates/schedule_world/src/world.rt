@@ -200,8 +200,10 @@ impl World {
         ensures { IsTold (led_by program_craft (desk_of self.old) (Some (Step client))) (desk_of self.old) (desk_of self.new) result }
     {
         let mut book = self.books.take_busy(client)?;
-        let has_room = self.past.say_one(alloc, client, &mut book.core)?;
-        self.books.set(client, book)?;
+        let said = self.past.say_one(alloc, client, &mut book.core);
+        let kept = self.books.set(client, book);
+        let has_room = said?;
+        kept?;
         self.room_or_full(has_room)
     }
 
@@ -210,8 +212,10 @@ impl World {
         ensures { IsTold (led_by program_craft (desk_of self.old) (Some (Run client))) (desk_of self.old) (desk_of self.new) result }
     {
         let mut book = self.books.take_busy(client)?;
-        let has_room = self.past.say_all(alloc, client, &mut book.core)?;
-        self.books.set(client, book)?;
+        let said = self.past.say_all(alloc, client, &mut book.core);
+        let kept = self.books.set(client, book);
+        let has_room = said?;
+        kept?;
         self.room_or_full(has_room)
     }
 

@@ -16,29 +16,26 @@ returns-in_err-book c =
     (idle_led (desk_of c.args.self.now) c.args.self.now.books c.args.client (Run c.args.client) c.in_err-book.field-0.0 c.in_err-book.ensures.taken)
     (ap (λ b. desk_with c.args.self.now.past (books_of b)) c.in_err-book.ensures.kept)
 
-pub invariant_of-self-in-Break-branch-2 : goal.invariant_of-self-in-Break-branch-2
-invariant_of-self-in-Break-branch-2 c = record { known = taken_known c.args.self.now.books c.take_busy.new.self c.args.self.now.past.history.clients c.say_all.new.self.history.clients c.args.client c.args.self.now.known c.in_ok-book.ensures.removed c.say_all.ensures.clients.0; here = still_here c.take_busy.new.self c.args.self.now.past c.say_all.new.self c.say_all.ensures.clients (taken_here c.args.self.now.books c.take_busy.new.self c.args.self.now.past.history.entries c.args.client c.in_ok-book.book c.args.self.now.here c.in_ok-book.ensures.taken.0 c.in_ok-book.ensures.taken.1 c.in_ok-book.ensures.removed) }
-
 pub invariant_of-self-2 : goal.invariant_of-self-2
 invariant_of-self-2 c =
-    let there : has_number c.args.client c.say_all.new.self.history.clients ≡ true = ap (has_number c.args.client) c.say_all.ensures.clients.0 ∙ c.args.self.now.known c.args.client (ap is_some c.in_ok-book.ensures.taken.0) in
+    let there : has_number c.args.client c.say_all-said.new.self.history.clients ≡ true = ap (has_number c.args.client) c.say_all-said.ensures.clients.0 ∙ c.args.self.now.known c.args.client (ap is_some c.in_ok-book.ensures.taken.0) in
     record {
       known =
-          set_known c.take_busy.new.self c.set.new.self c.say_all.new.self.history.clients c.args.client _ c.set.result
-          (taken_known c.args.self.now.books c.take_busy.new.self c.args.self.now.past.history.clients c.say_all.new.self.history.clients c.args.client c.args.self.now.known c.in_ok-book.ensures.removed c.say_all.ensures.clients.0)
-          there c.set.ensures.ok c.set.ensures.err;
+          set_known c.take_busy.new.self c.set-kept.new.self c.say_all-said.new.self.history.clients c.args.client _ c.set-kept.result
+          (taken_known c.args.self.now.books c.take_busy.new.self c.args.self.now.past.history.clients c.say_all-said.new.self.history.clients c.args.client c.args.self.now.known c.in_ok-book.ensures.removed c.say_all-said.ensures.clients.0)
+          there c.set-kept.ensures.ok c.set-kept.ensures.err;
       here =
-          set_here c.take_busy.new.self c.set.new.self c.say_all.new.self.history.entries c.args.client _ c.set.result
-          (still_here c.take_busy.new.self c.args.self.now.past c.say_all.new.self c.say_all.ensures.clients (taken_here c.args.self.now.books c.take_busy.new.self c.args.self.now.past.history.entries c.args.client c.in_ok-book.book c.args.self.now.here c.in_ok-book.ensures.taken.0 c.in_ok-book.ensures.taken.1 c.in_ok-book.ensures.removed))
-          (c.say_all.ensures.clients.1 c.args.client ∙ book_here c.args.self.now.books c.args.self.now.past.history.entries c.args.client c.in_ok-book.book c.args.self.now.here c.in_ok-book.ensures.taken.0 c.in_ok-book.ensures.taken.1)
-          c.set.ensures.ok c.set.ensures.err;
+          set_here c.take_busy.new.self c.set-kept.new.self c.say_all-said.new.self.history.entries c.args.client _ c.set-kept.result
+          (still_here c.take_busy.new.self c.args.self.now.past c.say_all-said.new.self c.say_all-said.ensures.clients (taken_here c.args.self.now.books c.take_busy.new.self c.args.self.now.past.history.entries c.args.client c.in_ok-book.book c.args.self.now.here c.in_ok-book.ensures.taken.0 c.in_ok-book.ensures.taken.1 c.in_ok-book.ensures.removed))
+          (c.say_all-said.ensures.clients.1 c.args.client ∙ book_here c.args.self.now.books c.args.self.now.past.history.entries c.args.client c.in_ok-book.book c.args.self.now.here c.in_ok-book.ensures.taken.0 c.in_ok-book.ensures.taken.1)
+          c.set-kept.ensures.ok c.set-kept.ensures.err;
     }
 
 pub returns : goal.returns
 returns c =
-    told_room _ (desk_of c.args.self.now) (desk_with c.say_all.new.self (books_of c.set.new.self)) c.in_ok-has_room.has_room c.room_or_full.result
-    (run_led c.args.self.now.past c.say_all.new.self c.args.self.now.books c.set.new.self c.args.client c.in_ok-book.book c.say_all.new.core c.say_all.ensures.counts c.in_ok-has_room.has_room c.in_ok-book.ensures.taken.0 c.in_ok-book.ensures.taken.2 (c.in_ok-set.ensures.ok ∙ ap (λ t. insert t c.args.client (record { core = c.say_all.new.core; is_stopped = c.in_ok-book.book.is_stopped })) c.in_ok-book.ensures.removed) (c.in_ok-has_room.ensures.said (books_of c.args.self.now.books)))
+    told_room _ (desk_of c.args.self.now) (desk_with c.say_all-said.new.self (books_of c.set-kept.new.self)) c.in_ok-has_room.has_room c.room_or_full.result
+    (run_led c.args.self.now.past c.say_all-said.new.self c.args.self.now.books c.set-kept.new.self c.args.client c.in_ok-book.book c.say_all-said.new.core c.say_all-said.ensures.counts c.in_ok-has_room.has_room c.in_ok-book.ensures.taken.0 c.in_ok-book.ensures.taken.2 (c.in_ok-kept.ensures.ok ∙ ap (λ t. insert t c.args.client (record { core = c.say_all-said.new.core; is_stopped = c.in_ok-book.book.is_stopped })) c.in_ok-book.ensures.removed) (c.in_ok-has_room.ensures.said (books_of c.args.self.now.books)))
     c.room_or_full.ensures
 
-pub say_all-requires-clause-running : goal.say_all-requires-clause-running
-say_all-requires-clause-running c = book_here c.args.self.now.books c.args.self.now.past.history.entries c.args.client c.in_ok-book.book c.args.self.now.here c.in_ok-book.ensures.taken.0 c.in_ok-book.ensures.taken.1
+pub say_all-said-requires-clause-running : goal.say_all-said-requires-clause-running
+say_all-said-requires-clause-running c = book_here c.args.self.now.books c.args.self.now.past.history.entries c.args.client c.in_ok-book.book c.args.self.now.here c.in_ok-book.ensures.taken.0 c.in_ok-book.ensures.taken.1
