@@ -10,6 +10,8 @@ mod intervals;
 #[cfg(test)]
 mod revoked;
 #[cfg(test)]
+mod rounds;
+#[cfg(test)]
 mod spans;
 #[cfg(test)]
 mod waiting;
