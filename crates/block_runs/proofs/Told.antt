@@ -25,8 +25,8 @@ use Rattle.steps.specs.Trips.{RoundTrip, trip, trip_call, trip_calls}
 use Rattle.steps.specs.declared.begun.BeginFault.{BeginFault}
 use Rattle.steps.specs.declared.ended.BlockEnd.{BlockEnd}
 use Rattle.steps.specs.declared.begun.BeginFault.TheVariants as begin_
-use Rattle.block_runs.specs.Faults.{begin_fault, reply_fault}
-use Rattle.block_runs.specs.Runs.{AreClocked, IsDeskFault, HasHeardNext, HasRest, HasRunBlock, IsBlockTo, IsRestTo, HasSaid, HasSaidNext, HadMore, WasAsked, trip_deed, trip_deeds}
+use Rattle.block_runs.specs.Faults.{desk_fault, begin_fault, reply_fault}
+use Rattle.block_runs.specs.Runs.{IsOpenOrSpent, AreClocked, IsDeskFault, HasHeardNext, HasRest, HasRunBlock, IsBlockTo, IsRestTo, HasSaid, HasSaidNext, HadMore, WasAsked, trip_deed, trip_deeds}
 use Rattle.block_runs.specs.declared.fault.BlockFault.{BlockFault}
 use Rattle.block_runs.specs.declared.fault.BlockFault.TheVariants as fault_
 
@@ -107,7 +107,7 @@ heard_next goes fault stopped left had ended at desk desk2 steps steps2 words re
 heard_next goes fault stopped left had ended at desk desk2 steps steps2 words reply (Err (fault_.Desk f)) asked is_open h = absurd h
 heard_next goes fault stopped left had ended at desk desk2 steps steps2 words reply (Err (fault_.Refused given)) asked is_open h =
     (words, subst (λ r. WasAsked goes desk desk2 (left steps) at words r) (sym h.0) asked, is_open, h.1, h.2)
-heard_next goes fault stopped left had ended at desk desk2 steps steps2 words reply (Err fault_.Memory) asked is_open h = (is_open, inr (words, reply, asked))
+heard_next goes fault stopped left had ended at desk desk2 steps steps2 words reply (Err fault_.Memory) asked is_open h = (inl is_open, inr (words, reply, asked))
 
 -- the rest of a block stops at a fault of its next command
 pub rest_stops : {D T : Type 0} (goes : D → List Deed → D → Type 0) (joins : (s t u : D) (l m : List Deed) → goes s l t → goes t m u → goes s (l ++ m) u) (gives : ℕ → Type 0)
@@ -121,7 +121,7 @@ rest_stops {D} {T} goes joins gives fault stopped left had ended desk mid desk2 
       asked : (words : Words) (reply : Reply) → WasAsked goes mid desk2 (left midst) at words reply → HasSaid goes gives desk desk2 (left steps) (trips ++ trip at words reply ∷ []) (script_after (left midst) reply)
       asked words reply a = said_more goes joins gives desk mid desk2 (left steps) (left midst) trips at words reply h a soon given
 
-      lacked : IsOpen (fault desk2) (stopped desk2) → goes mid [] desk2 ⊎ ((words : Words) × (reply : Reply) × WasAsked goes mid desk2 (left midst) at words reply) → HasRest goes fault stopped left had ended gives desk desk2 steps steps2 (Err fault_.Memory)
+      lacked : IsOpenOrSpent (fault desk2) (stopped desk2) → goes mid [] desk2 ⊎ ((words : Words) × (reply : Reply) × WasAsked goes mid desk2 (left midst) at words reply) → HasRest goes fault stopped left had ended gives desk desk2 steps steps2 (Err fault_.Memory)
       lacked is_open (inl go) = record { trips = trips; rest = left midst; said = said_none goes joins gives desk mid desk2 (left steps) (left midst) trips h go; come = is_open; more = tt }
       lacked is_open (inr a) = record { trips = trips ++ trip at a.0 a.1 ∷ []; rest = script_after (left midst) a.1; said = asked a.0 a.1 a.2; come = is_open; more = tt }
 
@@ -194,7 +194,7 @@ run_not_begun {D} {T} goes stays gives fault stopped client left spent had desk 
   not f e s = subst (λ x. Run x (Err (fault_.Begin f))) (sym e) (refl, refl, s)
 
   lacked : (e : Result Errand BeginFault) → Run e (Err fault_.Memory)
-  lacked (Ok x) = record { trips = []; rest = errand_script (client steps) x; lawful = λ no. absurd (no refl); said = said_first goes stays gives desk (errand_script (client steps) x); come = is_open }
+  lacked (Ok x) = record { trips = []; rest = errand_script (client steps) x; lawful = λ no. absurd (no refl); said = said_first goes stays gives desk (errand_script (client steps) x); come = inl is_open }
   lacked (Err g) = refl
 
   by : (f : BeginFault) → HasBegun client left had spent steps new errand (Err f) → Run errand (Err (begin_fault f))
@@ -208,17 +208,33 @@ run_not_begun {D} {T} goes stays gives fault stopped client left spent had desk 
 
 -- the desk didn't take the next command
 pub desk_next : {D T : Type 0} (goes : D → List Deed → D → Type 0) (fault : D → Option DeskFault) (stopped : D → Bool) (left : T → Script) (had : T → ClientCounts → Errand → List RoundTrip → Type 0) (ended : T → Option BlockEnd)
-    (at : ℕ) (desk desk2 : D) (steps : T) (words : Words) (f : DeskFault) (result : Result Bool BlockFault) → IsErrAnd result (λ x. x ≡ fault_.Desk f) → next_words (left steps) at ≡ Some words → goes desk [] desk2
+    (at : ℕ) (desk desk2 : D) (steps : T) (words : Words) (f : DeskFault) (result : Result Bool BlockFault) → IsErrAnd result (λ x. x ≡ desk_fault f) → next_words (left steps) at ≡ Some words → goes desk [] desk2
     → IsOpen (fault desk) (stopped desk) → HasShown {T = Reply} (fault desk) (stopped desk) (fault desk2) (stopped desk2) (Err f) → HasSaidNext goes fault stopped left had ended at desk desk2 steps steps result
 desk_next goes fault stopped left had ended at desk desk2 steps words f result is next go is_open shown =
-    at_fault (HasSaidNext goes fault stopped left had ended at desk desk2 steps steps) result (fault_.Desk f) is (words, next, go, shown.1 ∙ ap (λ o. first_fault o f) is_open.no_fault, refl)
+    at_fault (HasSaidNext goes fault stopped left had ended at desk desk2 steps steps) result (desk_fault f) is (by f (shown.1 ∙ ap (λ o. first_fault o f) is_open.no_fault)) where
+      by : (g : DeskFault) → fault desk2 ≡ Some g → HasSaidNext goes fault stopped left had ended at desk desk2 steps steps (Err (desk_fault g))
+      by desk_.Link e = (words, next, go, e, refl)
+      by (desk_.Wire x y) e = (words, next, go, e, refl)
+      by desk_.Flood e = (words, next, go, e, refl)
+      by (desk_.Full x y) e = (words, next, go, e, refl)
+      by desk_.Closed e = (words, next, go, e, refl)
+      by desk_.Ended e = (words, next, go, e, refl)
+      by desk_.Memory e = (inr e, inl go)
 
 -- an open desk's fault isn't that it wasn't open
 timely_open : (fault : Option DeskFault) (stopped : Bool) (f : DeskFault) → IsOpen fault stopped → IsTimely fault stopped f → IsNotEnded f
 timely_open fault stopped f o t = subst (λ s. IsTimely None s f) o.no_stop (subst (λ x. IsTimely x stopped f) o.no_fault t)
 
-pub desk_kind : {X : Type 0} (remote shared : Bool) (a b c d : ℕ) (fault : Option DeskFault) (stopped : Bool) (f : DeskFault) (result : Result X BlockFault) → IsErrAnd result (λ x. x ≡ fault_.Desk f) → IsFaultOf remote shared a b c d f → IsOpen fault stopped → IsTimely fault stopped f → IfErr result (IsDeskFault remote shared a b c d)
-desk_kind remote shared a b c d fault stopped f result is kind o t = at_fault (λ r. IfErr r (IsDeskFault remote shared a b c d)) result (fault_.Desk f) is (kind, timely_open fault stopped f o t)
+pub desk_kind : {X : Type 0} (remote shared : Bool) (a b c d : ℕ) (fault : Option DeskFault) (stopped : Bool) (f : DeskFault) (result : Result X BlockFault) → IsErrAnd result (λ x. x ≡ desk_fault f) → IsFaultOf remote shared a b c d f → IsOpen fault stopped → IsTimely fault stopped f → IfErr result (IsDeskFault remote shared a b c d)
+desk_kind remote shared a b c d fault stopped f result is kind o t = at_fault (λ r. IfErr r (IsDeskFault remote shared a b c d)) result (desk_fault f) is (by f kind (timely_open fault stopped f o t)) where
+  by : (g : DeskFault) → IsFaultOf remote shared a b c d g → IsNotEnded g → IsDeskFault remote shared a b c d (desk_fault g)
+  by desk_.Link k n = (k, n, tt)
+  by (desk_.Wire x y) k n = (k, n, tt)
+  by desk_.Flood k n = (k, n, tt)
+  by (desk_.Full x y) k n = (k, n, tt)
+  by desk_.Closed k n = (k, n, tt)
+  by desk_.Ended k n = (k, n, tt)
+  by desk_.Memory k n = tt
 
 -- a client's fault is none of the desk
 pub heard_kind : {T : Type 0} (remote shared : Bool) (faults faults2 ends ends2 : ℕ) (left : T → Script) (had : T → ClientCounts → Errand → List RoundTrip → Type 0) (ended : T → Option BlockEnd)
@@ -251,7 +267,7 @@ pub earlier_kind : (remote shared : Bool) (a b c d e f : ℕ) (g : BlockFault) �
 earlier_kind remote shared a b c d e f (fault_.Begin x) l m k = tt
 earlier_kind remote shared a b c d e f (fault_.Refused x) l m k = tt
 earlier_kind remote shared a b c d e f fault_.Memory l m k = tt
-earlier_kind remote shared a b c d e f (fault_.Desk g) l m k = (by g k.0, k.1) where
+earlier_kind remote shared a b c d e f (fault_.Desk g) l m k = (by g k.0, k.1, k.2) where
   rose : Rose b c ⊎ Rose e f → Rose a c ⊎ Rose d f
   rose (inl x) = inl (rose_before a b c l x)
   rose (inr x) = inr (rose_before d e f m x)

@@ -1,10 +1,12 @@
--- The faults of a block, by those of a client. Serves the proofs of code.
+-- The faults of a block, by those of a client and of its desk. Serves the proofs of code.
 use Rattle.block_core.specs.declared.fault.ReplyFault.{ReplyFault}
 use Rattle.block_core.specs.declared.fault.ReplyFault.TheVariants as reply
 use Rattle.steps.specs.declared.begun.BeginFault.{BeginFault}
 use Rattle.steps.specs.declared.begun.BeginFault.TheVariants as begin
 use Rattle.block_runs.specs.declared.fault.BlockFault.{BlockFault}
-use Rattle.block_runs.specs.declared.fault.BlockFault.TheVariants.{Begin, Refused, Memory}
+use Rattle.desks.specs.declared.desk.DeskFault.{DeskFault}
+use Rattle.desks.specs.declared.desk.DeskFault.TheVariants as desk
+use Rattle.block_runs.specs.declared.fault.BlockFault.TheVariants.{Begin, Desk, Refused, Memory}
 
 -- a reply that wasn't taken
 abbrev pub reply_fault : ReplyFault → BlockFault
@@ -18,3 +20,13 @@ begin_fault (begin.Name f) = Begin (begin.Name f)
 begin_fault (begin.Draft f) = Begin (begin.Draft f)
 begin_fault begin.BadNeutral = Begin begin.BadNeutral
 begin_fault begin.Memory = Memory
+
+-- a command that a desk didn't take: its want of memory is the block's
+abbrev pub desk_fault : DeskFault → BlockFault
+desk_fault desk.Link = Desk desk.Link
+desk_fault (desk.Wire kind place) = Desk (desk.Wire kind place)
+desk_fault desk.Flood = Desk desk.Flood
+desk_fault (desk.Full entries bytes) = Desk (desk.Full entries bytes)
+desk_fault desk.Closed = Desk desk.Closed
+desk_fault desk.Ended = Desk desk.Ended
+desk_fault desk.Memory = Memory

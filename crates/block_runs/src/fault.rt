@@ -10,11 +10,11 @@ use store_model::Reply;
 pub enum BlockFault {
     /// The client didn't begin it; nothing was asked.
     Begin(BeginFault),
-    /// The desk didn't take its next command.
+    /// The desk didn't take its next command; never for want of memory.
     Desk(DeskFault),
     /// The store answered this, and no block goes on after it.
     Refused(Reply),
-    /// There was no memory.
+    /// There was no memory, also at the desk.
     Memory,
 }
 
@@ -31,12 +31,20 @@ impl From<AllocError> for BlockFault {
 
 impl From<DeskFault> for BlockFault {
     ghost use Rattle.std.specs.Prelude.{◌≡◌};
-    ghost use Rattle.block_runs.specs.declared.fault.BlockFault.TheVariants.{Desk};
+    ghost use Rattle.block_runs.specs.Faults.{desk_fault};
 
-    ghost from_gives = { λ given fault. fault ≡ Desk given };
+    ghost from_gives = { λ given fault. fault ≡ desk_fault given };
 
     fn from(given: DeskFault) -> BlockFault {
-        BlockFault::Desk(given)
+        match given {
+            DeskFault::Link
+            | DeskFault::Wire { .. }
+            | DeskFault::Flood
+            | DeskFault::Full { .. }
+            | DeskFault::Closed
+            | DeskFault::Ended => { BlockFault::Desk(given) }
+            DeskFault::Memory => BlockFault::Memory,
+        }
     }
 }
 
