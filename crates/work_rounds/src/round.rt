@@ -44,6 +44,7 @@ fn ask<D: Desk, A: Asks>(alloc: Global, _desk: &D, book: &mut A, question: BookA
     requires whole { A.fault book.old ≡ None }
     requires open { IsOpen (D.fault _desk.now) (D.stopped _desk.now) }
     ensures followed { HasFollowed D.goes A.goes _desk.now _desk.now book.old book.new (asks question) result }
+    ensures kind { IfOk result (λ answer. IsBookAnswer question answer) }
     ensures ended { HasEndedSo (D.fault _desk.now) (D.stopped _desk.now) (A.fault book.new) result }
 {
     match book.ask(alloc, question) {
