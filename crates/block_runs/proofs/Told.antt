@@ -17,11 +17,11 @@ use Rattle.desks.specs.declared.desk.DeskFault.TheVariants as desk_
 use Rattle.links.specs.Causes.{Rose}
 use Rattle.desks.specs.declared.desk.DeskFault.{DeskFault}
 use Rattle.sessions.specs.Talks.{IsClocked}
-use Rattle.steps.specs.Clients.{Client}
+use Rattle.steps.specs.declared.counts.ClientCounts.{ClientCounts}
 use Rattle.steps.specs.Errands.{Errand}
-use Rattle.steps.specs.Ends.{EndTells}
+use Rattle.steps.specs.Ends.{TellsOfErrand}
 use Rattle.steps.specs.Errands.{HasSaidOf, client_after, errand_script}
-use Rattle.steps.specs.Goings.{HasBegun, HasHeard, script_after}
+use Rattle.steps.specs.Goings.{HasBegun, HasTakenReply, script_after}
 use Rattle.steps.specs.Trips.{RoundTrip, trip, trip_call, trip_calls}
 use Rattle.steps.specs.declared.begun.BeginFault.{BeginFault}
 use Rattle.steps.specs.declared.ended.BlockEnd.{BlockEnd}
@@ -75,10 +75,10 @@ pub said_first : {D : Type 0} (goes : D → List Deed → D → Type 0) (stays :
 said_first goes stays gives d p = record { went = stays d; trace = first_trace p; given = tt }
 
 -- what was had goes on
-pub had_more : {T : Type 0} (had : T → Client → Errand → List RoundTrip → Type 0) (s t u : T) (l m : List RoundTrip) → HadMore had s t l → HadMore had t u m → HadMore had s u (l ++ m)
+pub had_more : {T : Type 0} (had : T → ClientCounts → Errand → List RoundTrip → Type 0) (s t u : T) (l m : List RoundTrip) → HadMore had s t l → HadMore had t u m → HadMore had s u (l ++ m)
 had_more had s t u l m h one c e k old = subst (had u c e) (append_assoc k l m) (one c e (k ++ l) (h c e k old))
 
-pub had_first : {T : Type 0} (had : T → Client → Errand → List RoundTrip → Type 0) (s : T) → HadMore had s s []
+pub had_first : {T : Type 0} (had : T → ClientCounts → Errand → List RoundTrip → Type 0) (s : T) → HadMore had s s []
 had_first had s c e k old = subst (had s c e) (sym (append-nil k)) old
 
 -- ---- the ends of calls
@@ -88,9 +88,9 @@ at_fault : {X : Type 0} (P : Result X BlockFault → Type 0) (r : Result X Block
 at_fault P r f is h = let p = err_from_is_err_and r is in subst P (sym (p.1 ∙ ap (λ x. Err x) p.2)) h
 
 -- a client didn't take a reply
-pub refused_heard : {T : Type 0} (left : T → Script) (spent : T → Bool) (had : T → Client → Errand → List RoundTrip → Type 0) (ended : T → Option BlockEnd)
+pub refused_heard : {T : Type 0} (left : T → Script) (spent : T → Bool) (had : T → ClientCounts → Errand → List RoundTrip → Type 0) (ended : T → Option BlockEnd)
     (at : ℕ) (steps steps2 : T) (reply : Reply) (f : ReplyFault) (result : Result Bool BlockFault) → IsErrAnd result (λ x. x ≡ reply_fault f)
-    → HasHeard left spent steps steps2 reply (Err f) → HasHeardNext left had ended at steps steps2 reply result
+    → HasTakenReply left spent steps steps2 reply (Err f) → HasHeardNext left had ended at steps steps2 reply result
 refused_heard left spent had ended at steps steps2 reply (taken.Refused given) result is h =
     at_fault (HasHeardNext left had ended at steps steps2 reply) result (fault_.Refused given) is
     (h.2, ap (λ r. script_after (left steps) r) h.2 ∙ sym h.0 ∙ h.1, h.1)
@@ -98,7 +98,7 @@ refused_heard left spent had ended at steps steps2 reply taken.Memory result is 
     at_fault (HasHeardNext left had ended at steps steps2 reply) result fault_.Memory is tt
 
 -- a command was asked, and its reply heard
-pub heard_next : {D T : Type 0} (goes : D → List Deed → D → Type 0) (fault : D → Option DeskFault) (stopped : D → Bool) (left : T → Script) (had : T → Client → Errand → List RoundTrip → Type 0) (ended : T → Option BlockEnd)
+pub heard_next : {D T : Type 0} (goes : D → List Deed → D → Type 0) (fault : D → Option DeskFault) (stopped : D → Bool) (left : T → Script) (had : T → ClientCounts → Errand → List RoundTrip → Type 0) (ended : T → Option BlockEnd)
     (at : ℕ) (desk desk2 : D) (steps steps2 : T) (words : Words) (reply : Reply) (result : Result Bool BlockFault)
     → WasAsked goes desk desk2 (left steps) at words reply → IsOpen (fault desk2) (stopped desk2) → HasHeardNext left had ended at steps steps2 reply result
     → HasSaidNext goes fault stopped left had ended at desk desk2 steps steps2 result
@@ -112,7 +112,7 @@ heard_next goes fault stopped left had ended at desk desk2 steps steps2 words re
 
 -- the rest of a block stops at a fault of its next command
 pub rest_stops : {D T : Type 0} (goes : D → List Deed → D → Type 0) (joins : (s t u : D) (l m : List Deed) → goes s l t → goes t m u → goes s (l ++ m) u) (gives : ℕ → Type 0)
-    (fault : D → Option DeskFault) (stopped : D → Bool) (left : T → Script) (had : T → Client → Errand → List RoundTrip → Type 0) (ended : T → Option BlockEnd)
+    (fault : D → Option DeskFault) (stopped : D → Bool) (left : T → Script) (had : T → ClientCounts → Errand → List RoundTrip → Type 0) (ended : T → Option BlockEnd)
     (desk mid desk2 : D) (steps midst steps2 : T) (at : ℕ) (trips : List RoundTrip) (f : BlockFault) (result : Result ⊤ BlockFault) → IsErrAnd result (λ x. x ≡ f)
     → at < 2 ^ 40 → IsClocked gives at → HasSaid goes gives desk mid (left steps) trips (left midst) → (left midst ≡ Off → ⊥)
     → HasSaidNext goes fault stopped left had ended at mid desk2 midst steps2 (Err f)
@@ -146,12 +146,12 @@ said_on goes joins gives left desk mid desk2 steps midst steps2 at trips words r
     subst (HasSaid goes gives desk desk2 (left steps) (trips ++ trip at words reply ∷ [])) (sym e) (said_more goes joins gives desk mid desk2 (left steps) (left midst) trips at words reply h asked soon given)
 
 -- a block that was begun, said to its end, and told how it ended
-pub run_whole : {D T : Type 0} (goes : D → List Deed → D → Type 0) (gives : ℕ → Type 0) (fault : D → Option DeskFault) (stopped : D → Bool) (client : T → Client) (left : T → Script) (spent : T → Bool) (had : T → Client → Errand → List RoundTrip → Type 0) (ended : T → Option BlockEnd)
-    (says : (s : T) (c : Client) (errand : Errand) (trips : List RoundTrip) → had s c errand trips → HasSaidOf c errand trips (left s))
+pub run_whole : {D T : Type 0} (goes : D → List Deed → D → Type 0) (gives : ℕ → Type 0) (fault : D → Option DeskFault) (stopped : D → Bool) (client : T → ClientCounts) (left : T → Script) (spent : T → Bool) (had : T → ClientCounts → Errand → List RoundTrip → Type 0) (ended : T → Option BlockEnd)
+    (says : (s : T) (c : ClientCounts) (errand : Errand) (trips : List RoundTrip) → had s c errand trips → HasSaidOf c errand trips (left s))
     (desk desk2 : D) (steps begun said told : T) (errand : Result Errand BeginFault) (end : BlockEnd)
     → HasBegun client left had spent steps begun errand (Ok tt) → HasRest goes fault stopped left had ended gives desk desk2 begun said (Ok tt)
     → client said ≡ client begun → client told ≡ client said → left told ≡ left said
-    → ((c : Client) (errand : Errand) (trips : List RoundTrip) → had said c errand trips → EndTells errand trips end)
+    → ((c : ClientCounts) (errand : Errand) (trips : List RoundTrip) → had said c errand trips → TellsOfErrand errand trips end)
     → HasRunBlock goes fault stopped client left gives desk desk2 steps told errand (Ok end)
 run_whole goes gives fault stopped client left spent had ended says desk desk2 steps begun said told errand end b r c1 c2 l tells =
     subst (λ e. HasRunBlock goes fault stopped client left gives desk desk2 steps told e (Ok end)) (sym b.1) (record {
@@ -163,8 +163,8 @@ run_whole goes gives fault stopped client left spent had ended says desk desk2 s
     })
 
 -- a block that was begun, and not said to its end
-pub run_stops : {D T : Type 0} (goes : D → List Deed → D → Type 0) (gives : ℕ → Type 0) (fault : D → Option DeskFault) (stopped : D → Bool) (client : T → Client) (left : T → Script) (spent : T → Bool) (had : T → Client → Errand → List RoundTrip → Type 0) (ended : T → Option BlockEnd)
-    (says : (s : T) (c : Client) (errand : Errand) (trips : List RoundTrip) → had s c errand trips → HasSaidOf c errand trips (left s))
+pub run_stops : {D T : Type 0} (goes : D → List Deed → D → Type 0) (gives : ℕ → Type 0) (fault : D → Option DeskFault) (stopped : D → Bool) (client : T → ClientCounts) (left : T → Script) (spent : T → Bool) (had : T → ClientCounts → Errand → List RoundTrip → Type 0) (ended : T → Option BlockEnd)
+    (says : (s : T) (c : ClientCounts) (errand : Errand) (trips : List RoundTrip) → had s c errand trips → HasSaidOf c errand trips (left s))
     (desk desk2 : D) (steps begun said : T) (errand : Result Errand BeginFault) (f : BlockFault) (result : Result BlockEnd BlockFault) → IsErrAnd result (λ x. x ≡ f)
     → HasBegun client left had spent steps begun errand (Ok tt) → HasRest goes fault stopped left had ended gives desk desk2 begun said (Err f) → client said ≡ client begun
     → HasRunBlock goes fault stopped client left gives desk desk2 steps said errand result
@@ -184,7 +184,7 @@ run_stops {D} {T} goes gives fault stopped client left spent had ended says desk
       by fault_.Memory n = n
 
 -- a block that wasn't begun
-pub run_not_begun : {D T : Type 0} (goes : D → List Deed → D → Type 0) (stays : (s : D) → goes s [] s) (gives : ℕ → Type 0) (fault : D → Option DeskFault) (stopped : D → Bool) (client : T → Client) (left : T → Script) (spent : T → Bool) (had : T → Client → Errand → List RoundTrip → Type 0)
+pub run_not_begun : {D T : Type 0} (goes : D → List Deed → D → Type 0) (stays : (s : D) → goes s [] s) (gives : ℕ → Type 0) (fault : D → Option DeskFault) (stopped : D → Bool) (client : T → ClientCounts) (left : T → Script) (spent : T → Bool) (had : T → ClientCounts → Errand → List RoundTrip → Type 0)
     (desk : D) (steps new : T) (errand : Result Errand BeginFault) (f : BeginFault) (result : Result BlockEnd BlockFault) → IsErrAnd result (λ x. x ≡ begin_fault f) → IsOpen (fault desk) (stopped desk)
     → HasBegun client left had spent steps new errand (Err f) → HasRunBlock goes fault stopped client left gives desk desk steps new errand result
 run_not_begun {D} {T} goes stays gives fault stopped client left spent had desk steps new errand f result is is_open h = at_fault (Run errand) result (begin_fault f) is (by f h) where
@@ -208,7 +208,7 @@ run_not_begun {D} {T} goes stays gives fault stopped client left spent had desk 
 -- ---- faults of desks
 
 -- the desk didn't take the next command
-pub desk_next : {D T : Type 0} (goes : D → List Deed → D → Type 0) (fault : D → Option DeskFault) (stopped : D → Bool) (left : T → Script) (had : T → Client → Errand → List RoundTrip → Type 0) (ended : T → Option BlockEnd)
+pub desk_next : {D T : Type 0} (goes : D → List Deed → D → Type 0) (fault : D → Option DeskFault) (stopped : D → Bool) (left : T → Script) (had : T → ClientCounts → Errand → List RoundTrip → Type 0) (ended : T → Option BlockEnd)
     (at : ℕ) (desk desk2 : D) (steps : T) (words : Words) (f : DeskFault) (result : Result Bool BlockFault) → IsErrAnd result (λ x. x ≡ fault_.Desk f) → next_words (left steps) at ≡ Some words → goes desk [] desk2
     → IsOpen (fault desk) (stopped desk) → HasShown {T = Reply} (fault desk) (stopped desk) (fault desk2) (stopped desk2) (Err f) → HasSaidNext goes fault stopped left had ended at desk desk2 steps steps result
 desk_next goes fault stopped left had ended at desk desk2 steps words f result is next go is_open shown =
@@ -222,7 +222,7 @@ pub desk_kind : {X : Type 0} (remote shared : Bool) (a b c d : ℕ) (fault : Opt
 desk_kind remote shared a b c d fault stopped f result is kind o t = at_fault (λ r. IfErr r (IsDeskFault remote shared a b c d)) result (fault_.Desk f) is (kind, timely_open fault stopped f o t)
 
 -- a client's fault is none of the desk
-pub heard_kind : {T : Type 0} (remote shared : Bool) (faults faults2 ends ends2 : ℕ) (left : T → Script) (had : T → Client → Errand → List RoundTrip → Type 0) (ended : T → Option BlockEnd)
+pub heard_kind : {T : Type 0} (remote shared : Bool) (faults faults2 ends ends2 : ℕ) (left : T → Script) (had : T → ClientCounts → Errand → List RoundTrip → Type 0) (ended : T → Option BlockEnd)
     (at : ℕ) (steps steps2 : T) (reply : Reply) (result : Result Bool BlockFault) → HasHeardNext left had ended at steps steps2 reply result → IfErr result (IsDeskFault remote shared faults faults2 ends ends2)
 heard_kind remote shared faults faults2 ends ends2 left had ended at steps steps2 reply (Ok b) h = tt
 heard_kind remote shared faults faults2 ends ends2 left had ended at steps steps2 reply (Err (fault_.Begin f)) h = tt

@@ -8,8 +8,8 @@ use Rattle.desks.specs.Deeds.{Deed, DidAsk}
 use Rattle.desks.specs.Faults.{IsFaultOf, IsNotEnded, IsOpen}
 use Rattle.desks.specs.declared.desk.DeskFault.{DeskFault}
 use Rattle.sessions.specs.Talks.{IsClocked}
-use Rattle.steps.specs.Clients.{Client}
-use Rattle.steps.specs.Ends.{EndTells}
+use Rattle.steps.specs.declared.counts.ClientCounts.{ClientCounts}
+use Rattle.steps.specs.Ends.{TellsOfErrand}
 use Rattle.steps.specs.Errands.{Errand, IsLawfulErrand, client_after, errand_script}
 use Rattle.steps.specs.Goings.{script_after}
 use Rattle.steps.specs.Trips.{RoundTrip, trip, trip_calls}
@@ -52,8 +52,8 @@ IsDeskFault remote shared faults faults2 ends ends2 (Refused given) = Unit {0}
 IsDeskFault remote shared faults faults2 ends ends2 Memory = Unit {0}
 
 -- whatever a client had before, it had these round trips more
-abbrev pub HadMore : {T : Type 0} → (T → Client → Errand → List RoundTrip → Type 0) → T → T → List RoundTrip → Type 0
-HadMore had steps steps2 trips = (c : Client) (errand : Errand) (before : List RoundTrip) → had steps c errand before → had steps2 c errand (before ++ trips)
+abbrev pub HadMore : {T : Type 0} → (T → ClientCounts → Errand → List RoundTrip → Type 0) → T → T → List RoundTrip → Type 0
+HadMore had steps steps2 trips = (c : ClientCounts) (errand : Errand) (before : List RoundTrip) → had steps c errand before → had steps2 c errand (before ++ trips)
 
 -- ---- one command
 
@@ -63,14 +63,14 @@ pub record WasAsked {D : Type 0} (goes : D → List Deed → D → Type 0) (desk
   pub went : goes desk (DidAsk at words reply ∷ []) desk2
 
 -- the block goes on after a reply, or is over with its end
-pub record IsOn {T : Type 0} (left : T → Script) (had : T → Client → Errand → List RoundTrip → Type 0) (ended : T → Option BlockEnd) (steps steps2 : T) (t : RoundTrip) : Type 0 where
+pub record IsOn {T : Type 0} (left : T → Script) (had : T → ClientCounts → Errand → List RoundTrip → Type 0) (ended : T → Option BlockEnd) (steps steps2 : T) (t : RoundTrip) : Type 0 where
   pub left_is : left steps2 ≡ script_after (left steps) t.reply
   pub on : left steps2 ≡ Off → ⊥
   pub end : left steps2 ≡ Over → IsSome (ended steps2)
   pub more : HadMore had steps steps2 (t ∷ [])
 
 -- the next command was said, or there was none
-abbrev pub HasSaidNext : {D T : Type 0} → (D → List Deed → D → Type 0) → (D → Option DeskFault) → (D → Bool) → (T → Script) → (T → Client → Errand → List RoundTrip → Type 0) → (T → Option BlockEnd) → ℕ → D → D → T → T → Result Bool BlockFault → Type 0
+abbrev pub HasSaidNext : {D T : Type 0} → (D → List Deed → D → Type 0) → (D → Option DeskFault) → (D → Bool) → (T → Script) → (T → ClientCounts → Errand → List RoundTrip → Type 0) → (T → Option BlockEnd) → ℕ → D → D → T → T → Result Bool BlockFault → Type 0
 HasSaidNext goes fault stopped left had ended at desk desk2 steps steps2 (Ok true) = (words : Words) × (reply : Reply) × WasAsked goes desk desk2 (left steps) at words reply × IsOpen (fault desk2) (stopped desk2) × IsOn left had ended steps steps2 (trip at words reply)
 HasSaidNext goes fault stopped left had ended at desk desk2 steps steps2 (Ok false) = (next_words (left steps) at ≡ None) × (desk2 ≡ desk) × (steps2 ≡ steps)
 HasSaidNext goes fault stopped left had ended at desk desk2 steps steps2 (Err (Begin f)) = ⊥
@@ -79,7 +79,7 @@ HasSaidNext goes fault stopped left had ended at desk desk2 steps steps2 (Err (R
 HasSaidNext goes fault stopped left had ended at desk desk2 steps steps2 (Err Memory) = IsOpen (fault desk2) (stopped desk2) × (goes desk [] desk2 ⊎ ((words : Words) × (reply : Reply) × WasAsked goes desk desk2 (left steps) at words reply))
 
 -- the reply to the next command was taken, or refused
-abbrev pub HasHeardNext : {T : Type 0} → (T → Script) → (T → Client → Errand → List RoundTrip → Type 0) → (T → Option BlockEnd) → ℕ → T → T → Reply → Result Bool BlockFault → Type 0
+abbrev pub HasHeardNext : {T : Type 0} → (T → Script) → (T → ClientCounts → Errand → List RoundTrip → Type 0) → (T → Option BlockEnd) → ℕ → T → T → Reply → Result Bool BlockFault → Type 0
 HasHeardNext left had ended at steps steps2 reply (Ok true) = (words : Words) → next_words (left steps) at ≡ Some words → IsOn left had ended steps steps2 (trip at words reply)
 HasHeardNext left had ended at steps steps2 reply (Ok false) = ⊥
 HasHeardNext left had ended at steps steps2 reply (Err (Begin f)) = ⊥
@@ -98,7 +98,7 @@ IsRestTo fault stopped left ended steps2 trips rest (Err (Refused given)) = IsOp
 IsRestTo fault stopped left ended steps2 trips rest (Err Memory) = IsOpen fault stopped
 
 -- what was left was said, whole or in front
-pub record HasRest {D T : Type 0} (goes : D → List Deed → D → Type 0) (fault : D → Option DeskFault) (stopped : D → Bool) (left : T → Script) (had : T → Client → Errand → List RoundTrip → Type 0) (ended : T → Option BlockEnd) (gives : ℕ → Type 0) (desk desk2 : D) (steps steps2 : T) (result : Result ⊤ BlockFault) : Type 0 where
+pub record HasRest {D T : Type 0} (goes : D → List Deed → D → Type 0) (fault : D → Option DeskFault) (stopped : D → Bool) (left : T → Script) (had : T → ClientCounts → Errand → List RoundTrip → Type 0) (ended : T → Option BlockEnd) (gives : ℕ → Type 0) (desk desk2 : D) (steps steps2 : T) (result : Result ⊤ BlockFault) : Type 0 where
   pub trips : List RoundTrip
   pub rest : Script
   pub said : HasSaid goes gives desk desk2 (left steps) trips rest
@@ -108,15 +108,15 @@ pub record HasRest {D T : Type 0} (goes : D → List Deed → D → Type 0) (fau
 -- ---- a block
 
 -- how far an errand came, of whose script this is left; the round trips are all of it
-abbrev pub IsBlockTo : {T : Type 0} → Option DeskFault → Bool → (T → Client) → (T → Script) → T → Client → Errand → List RoundTrip → Script → Result BlockEnd BlockFault → Type 0
-IsBlockTo fault stopped client left steps2 c errand trips rest (Ok end) = IsLawfulErrand c errand × IsOpen fault stopped × (client steps2 ≡ client_after c errand) × (left steps2 ≡ Over) × (rest ≡ Over) × EndTells errand trips end
+abbrev pub IsBlockTo : {T : Type 0} → Option DeskFault → Bool → (T → ClientCounts) → (T → Script) → T → ClientCounts → Errand → List RoundTrip → Script → Result BlockEnd BlockFault → Type 0
+IsBlockTo fault stopped client left steps2 c errand trips rest (Ok end) = IsLawfulErrand c errand × IsOpen fault stopped × (client steps2 ≡ client_after c errand) × (left steps2 ≡ Over) × (rest ≡ Over) × TellsOfErrand errand trips end
 IsBlockTo fault stopped client left steps2 c errand trips rest (Err (Begin f)) = ⊥
 IsBlockTo fault stopped client left steps2 c errand trips rest (Err (Desk f)) = (client steps2 ≡ client_after c errand) × (fault ≡ Some f) × (left steps2 ≡ rest) × IsCut rest
 IsBlockTo fault stopped client left steps2 c errand trips rest (Err (Refused given)) = (client steps2 ≡ client_after c errand) × IsOpen fault stopped × (left steps2 ≡ Off) × (rest ≡ Off) × EndsWith trips given
 IsBlockTo fault stopped client left steps2 c errand trips rest (Err Memory) = IsOpen fault stopped
 
 -- an errand was said at the desk, whole where it ended, else in front; it is lawful, where anything was asked
-pub record HasRunErrand {D T : Type 0} (goes : D → List Deed → D → Type 0) (fault : D → Option DeskFault) (stopped : D → Bool) (client : T → Client) (left : T → Script) (gives : ℕ → Type 0) (desk desk2 : D) (steps steps2 : T) (errand : Errand) (result : Result BlockEnd BlockFault) : Type 0 where
+pub record HasRunErrand {D T : Type 0} (goes : D → List Deed → D → Type 0) (fault : D → Option DeskFault) (stopped : D → Bool) (client : T → ClientCounts) (left : T → Script) (gives : ℕ → Type 0) (desk desk2 : D) (steps steps2 : T) (errand : Errand) (result : Result BlockEnd BlockFault) : Type 0 where
   pub trips : List RoundTrip
   pub rest : Script
   pub lawful : (trips ≡ [] → ⊥) → IsLawfulErrand (client steps) errand
@@ -132,6 +132,6 @@ HasNotBegun goes desk desk2 steps steps2 f (Err (Refused given)) = ⊥
 HasNotBegun goes desk desk2 steps steps2 f (Err Memory) = desk2 ≡ desk
 
 -- the errand of a block was run, or its first reason stood against it
-abbrev pub HasRunBlock : {D T : Type 0} → (D → List Deed → D → Type 0) → (D → Option DeskFault) → (D → Bool) → (T → Client) → (T → Script) → (ℕ → Type 0) → D → D → T → T → Result Errand BeginFault → Result BlockEnd BlockFault → Type 0
+abbrev pub HasRunBlock : {D T : Type 0} → (D → List Deed → D → Type 0) → (D → Option DeskFault) → (D → Bool) → (T → ClientCounts) → (T → Script) → (ℕ → Type 0) → D → D → T → T → Result Errand BeginFault → Result BlockEnd BlockFault → Type 0
 HasRunBlock goes fault stopped client left gives desk desk2 steps steps2 (Ok errand) result = HasRunErrand goes fault stopped client left gives desk desk2 steps steps2 errand result
 HasRunBlock goes fault stopped client left gives desk desk2 steps steps2 (Err f) result = HasNotBegun goes desk desk2 steps steps2 f result

@@ -5,8 +5,8 @@ ghost use Rattle.wire_grammar.specs.Fits.{IsWithinLimits};
 ghost use Rattle.command_blocks.specs.Scripts.{Over, Off, next_words};
 ghost use Rattle.desks.specs.Faults.{HasCounts, IsOpen};
 ghost use Rattle.steps.specs.Begins.{IsLawfulBlock, errand_of};
-ghost use Rattle.steps.specs.Clients.{Client};
-ghost use Rattle.steps.specs.Ends.{EndTells};
+ghost use Rattle.steps.specs.declared.counts.ClientCounts.{ClientCounts};
+ghost use Rattle.steps.specs.Ends.{TellsOfErrand};
 ghost use Rattle.steps.specs.Errands.{Errand};
 ghost use Rattle.steps.specs.Trips.{RoundTrip};
 ghost use Rattle.block_runs.specs.Runs.{IsDeskFault, HasHeardNext, HasRest, HasRunBlock, HasSaidNext};
@@ -133,7 +133,7 @@ fn told<T: Steps>(steps: &mut T) -> BlockEnd
     ensures ended { T.ended steps.old ≡ Some result }
     ensures left { T.left steps.new ≡ T.left steps.old }
     ensures client { T.client steps.new ≡ T.client steps.old }
-    ensures tells { (c : Client) (errand : Errand) (trips : Listed RoundTrip) → T.had steps.old c errand trips → EndTells errand trips result }
+    ensures tells { (c : ClientCounts) (errand : Errand) (trips : Listed RoundTrip) → T.had steps.old c errand trips → TellsOfErrand errand trips result }
 {
     match steps.end() {
         Some(end) => end,

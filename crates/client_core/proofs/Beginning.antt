@@ -18,7 +18,7 @@ use Rattle.sealed_drafts.specs.declared.sealing.Draft.{Draft}
 use Rattle.block_laws.specs.Rows.{IsLawfulPlan}
 use Rattle.command_blocks.specs.Blocks.{Other, drawn, passes_after}
 use Rattle.command_blocks.specs.EnvelopeTexts.{plain_setting, tag_as_written}
-use Rattle.command_blocks.specs.Scripts.{Off, Over, Say, Plan, Declare, Undeclare, Publish, Pop, End, Return, Pass, Script, asking_script, counter_use, pop_script, popping, pushes, script_of}
+use Rattle.command_blocks.specs.Scripts.{Off, Over, Plan, Declare, Undeclare, Publish, Pop, End, Return, Pass, Script, asking_script, counter_use, next_words, pop_script, popping, pushes, script_of}
 use Rattle.command_blocks.specs.TakeBlocks.{IsPop}
 use Rattle.client_blocks.specs.Blocks.{script_left}
 use Rattle.client_blocks.specs.declared.left.BlockLeft.{BlockLeft}
@@ -27,7 +27,8 @@ use Rattle.routes.specs.Publishes.{IsPublishable}
 use Rattle.routes.specs.declared.declaration.Change.{Change}
 use Rattle.routes.specs.declared.declaration.Change.TheVariants.{Add, Remove}
 use Rattle.steps.specs.Begins.{drafted_errand, if_named, neutral_errand, publish_errand, sealed_errand, way_name_fault}
-use Rattle.steps.specs.Clients.{Client, next_tag_of}
+use Rattle.steps.specs.Clients.{next_tag_of}
+use Rattle.steps.specs.declared.counts.ClientCounts.{ClientCounts}
 use Rattle.steps.specs.Errands.{Errand, Planned, Aside, IsLawfulErrand, client_after, errand_script}
 use Rattle.steps.specs.Neutrals.{is_neutral}
 use Rattle.steps.specs.Goings.{IsBegun}
@@ -39,7 +40,7 @@ use Rattle.store_model.specs.Words.{Words}
 use Rattle.client_core.proofs.Neutral.{neutral_found}
 use Rattle.client_core.specs.Begun.{Began, IsMade, TookUp}
 use Rattle.client_core.specs.Laws.{left_trace}
-use Rattle.client_core.specs.Works.{ClientHad, WorkHad, client_ended, client_left, core_client, live_left}
+use Rattle.client_core.specs.Works.{ClientHad, WorkHad, client_left, core_client, live_left}
 use Rattle.client_core.specs.declared.client.ClientCore.{ClientCore}
 use Rattle.client_core.specs.declared.work.Work.TheVariants as work
 
@@ -72,10 +73,10 @@ written_is d s n a b e t =
     ∙ ap (λ m. Some m) (text_of_tag s n a b)
 
 -- the next tag, where there is one
-pub next_is : (c : Client) → c.drawn + 1 < 2 ^ 64 → next_tag_of c ≡ Some (tag_number c.seed (c.drawn + 1))
+pub next_is : (c : ClientCounts) → c.drawn + 1 < 2 ^ 64 → next_tag_of c ≡ Some (tag_number c.seed (c.drawn + 1))
 next_is c a = let e : nat_lt (c.drawn + 1) (2 ^ 64) ≡ true = grind (arith, nat_tests) in rw e refl
 
-pub next_none : (c : Client) → 2 ^ 64 ≤ c.drawn + 1 → next_tag_of c ≡ None
+pub next_none : (c : ClientCounts) → 2 ^ 64 ≤ c.drawn + 1 → next_tag_of c ≡ None
 next_none c a = let e : nat_lt (c.drawn + 1) (2 ^ 64) ≡ false = grind (arith, nat_tests) in rw e refl
 
 -- what was sealed
@@ -110,7 +111,7 @@ began_plan old new plan left live made spent is client = record {
 }
 
 -- what a plan that takes no counter leaves of the client
-same_counters : (c : Client) (plan : Plan) → counter_use plan ≡ Other → c ≡ client_after c (Planned plan)
+same_counters : (c : ClientCounts) (plan : Plan) → counter_use plan ≡ Other → c ≡ client_after c (Planned plan)
 same_counters c plan e = sym (ap (λ u. record { seed = c.seed; drawn = drawn u c.drawn; passes = passes_after u c.passes }) e)
 
 pub took_up : (old new : ClientCore) (plan : Plan) (made : Result BlockLeft AllocError) (result : Result ⊤ BeginFault) → client_left old ≡ Over → counter_use plan ≡ Other → IfOk made (IsMade (core_client old) plan) → TookUp old new made result → Began old new (Ok (Planned plan)) result
@@ -138,7 +139,7 @@ ok_err : {A B C : Type 0} {x : A} {y : B} → ◌≡◌ {A = Result A B} (Ok x) 
 ok_err e = absurd (cc e)
 
 pub pass_began : (old mid new : ClientCore) (v number : ℕ) (made : Result BlockLeft AllocError) → client_left old ≡ Over → TookUp old mid made (Ok tt) → number ≡ suc old.passes
-    → IfOk made (λ left. (c : Client) → c.seed ≡ old.seed → suc c.passes ≡ number → IsMade c (Pass v) left) → new ≡ record mid { passes = number } → Began old new (Ok (Planned (Pass v))) (Ok tt)
+    → IfOk made (λ left. (c : ClientCounts) → c.seed ≡ old.seed → suc c.passes ≡ number → IsMade c (Pass v) left) → new ≡ record mid { passes = number } → Began old new (Ok (Planned (Pass v))) (Ok tt)
 pass_began old mid new v number (Ok left) idle h e made n = (
   Planned (Pass v),
   refl,
@@ -149,7 +150,7 @@ pass_began old mid new v number (Err f) idle h e made n = ok_err h.1
 
 pub send_began : (old mid new : ClientCore) (d : Data) (number : ℕ) (made : Result BlockLeft AllocError) → client_left old ≡ Over → TookUp old mid made (Ok tt) → number ≡ suc old.drawn → old.seed < 2 ^ 64 → number < 2 ^ 64
     → envelope_at (compact_text d) ≡ Ok d → next_tag_of (core_client old) ≡ Some (parts_in d).tag
-    → IfOk made (λ left. (c : Client) → plain_setting.written_tag (compact_text d) ≡ Some (plain_setting.tag c.seed (suc c.drawn)) → IsMade c (Publish (compact_text d)) left) → new ≡ record mid { drawn = number } → Began old new (Ok (publish_errand d)) (Ok tt)
+    → IfOk made (λ left. (c : ClientCounts) → plain_setting.written_tag (compact_text d) ≡ Some (plain_setting.tag c.seed (suc c.drawn)) → IsMade c (Publish (compact_text d)) left) → new ≡ record mid { drawn = number } → Began old new (Ok (publish_errand d)) (Ok tt)
 send_began old mid new d number (Ok left) idle h e small low again tag made n =
     let room : old.drawn + 1 < 2 ^ 64 = omega (arith, e, low) in
     let is : (parts_in d).tag ≡ tag_number old.seed (suc old.drawn) = some_same (parts_in d).tag (tag_number old.seed (suc old.drawn)) (sym tag ∙ next_is (core_client old) room ∙ ap (λ m. Some (tag_number old.seed m)) (omega arith)) in
@@ -173,45 +174,33 @@ aside_began old new words core idle e had n = (
   },
 )
 
--- ---- nothing that was begun is over
+-- ---- what was begun has a first command
 
-say_over : {w : ℕ → Words} {go : Value → Script} → Say w go ≡ Over → ⊥
-say_over e = cc
+pop_says : (names : List Bytes) (k : Bytes) (ks : List Bytes) (at : ℕ) → IsPop plain_setting names (k ∷ ks) → IsSome (next_words (pop_script plain_setting names) at)
+pop_says names k ks at l = subst (λ qs. IsSome (next_words (popping plain_setting qs) at)) (sym l.1) refl
 
-pop_says : (names : List Bytes) (k : Bytes) (ks : List Bytes) → IsPop plain_setting names (k ∷ ks) → pop_script plain_setting names ≡ Over → ⊥
-pop_says names k ks l o = say_over (sym (ap (popping plain_setting) l.1) ∙ o)
+plan_says : (s n p : ℕ) (plan : Plan) (at : ℕ) → IsLawfulPlan plain_setting s n plan → IsSome (next_words (script_of plain_setting s p plan) at)
+plan_says s n p (Declare e r x q) at l = refl
+plan_says s n p (Undeclare e r x q) at l = refl
+plan_says s n p (Publish v) at l = by (plain_setting.exchange_of v) refl where
+  by : (x : Option Bytes) → plain_setting.exchange_of v ≡ x → IsSome (next_words (asking_script plain_setting x (λ ms. pushes v (plain_setting.keys_for v ms))) at)
+  by None e = let k = l.key e in subst (λ ks. IsSome (next_words (pushes v ks) at)) (sym k.1) refl
+  by (Some x) e = refl
+plan_says s n p (Pop names) at l = pop_says names l.0 l.1 at l.2
+plan_says s n p (End t) at l = refl
+plan_says s n p (Return side t) at l = refl
+plan_says s n p (Pass v) at l = refl
 
-none_left : (s n p : ℕ) (plan : Plan) → IsLawfulPlan plain_setting s n plan → script_of plain_setting s p plan ≡ Over → ⊥
-none_left s n p (Declare e r x q) l o = say_over o
-none_left s n p (Undeclare e r x q) l o = say_over o
-none_left s n p (Publish v) l o = by (plain_setting.exchange_of v) refl o where
-  by : (x : Option Bytes) → plain_setting.exchange_of v ≡ x → asking_script plain_setting x (λ ms. pushes v (plain_setting.keys_for v ms)) ≡ Over → ⊥
-  by None e o = let k = l.key e in say_over (sym (ap (λ ks. pushes v ks) k.1) ∙ o)
-  by (Some x) e o = say_over o
-none_left s n p (Pop names) l o = pop_says names l.0 l.1 l.2 o
-none_left s n p (End t) l o = say_over o
-none_left s n p (Return side t) l o = say_over o
-none_left s n p (Pass v) l o = say_over o
+errand_says : (c : ClientCounts) (errand : Errand) (at : ℕ) → IsLawfulErrand c errand → IsSome (next_words (errand_script c errand) at)
+errand_says c (Planned plan) at l = plan_says c.seed c.drawn c.passes plan at l
+errand_says c (Aside words) at l = refl
 
-made_says : (c : Client) (plan : Plan) (left : BlockLeft) → IsMade c plan left → script_left left ≡ Over → ⊥
-made_says c plan left m o = none_left c.seed c.drawn c.passes plan m.lawful (sym (left_trace c.seed c.passes plan [] left m.had.1).left ∙ o)
-
--- a client that took up a block has something to say
-pub took_up_says : (old new : ClientCore) (plan : Plan) (made : Result BlockLeft AllocError) (result : Result ⊤ BeginFault) → client_left old ≡ Over → IfOk made (IsMade (core_client old) plan) → TookUp old new made result → OnOk result (client_left new ≡ Over → IsSome (client_ended new))
-took_up_says old new plan (Ok left) result idle made h = subst (λ r. OnOk r (client_left new ≡ Over → IsSome (client_ended new))) (sym h.1)
-    (λ o. absurd (made_says (core_client old) plan left made (sym (ap client_left h.0 ∙ ap (λ b. live_left b (work.Block left)) (not_spent old idle)) ∙ o)))
-took_up_says old new plan (Err f) result idle made h = subst (λ r. OnOk r (client_left new ≡ Over → IsSome (client_ended new))) (sym h.1) tt
-
--- so has one that began an errand
-errand_says : (c : Client) (errand : Errand) → IsLawfulErrand c errand → errand_script c errand ≡ Over → ⊥
-errand_says c (Planned plan) l o = none_left c.seed c.drawn c.passes plan l o
-errand_says c (Aside words) l o = say_over o
-
-pub began_says : (old new : ClientCore) (errand : Result Errand BeginFault) (result : Result ⊤ BeginFault) → Began old new errand result → OnOk result (client_left new ≡ Over → IsSome (client_ended new))
-began_says old new errand (Ok u) b = λ o. absurd (errand_says (core_client old) b.0 b.2.had_none.lawful (sym b.2.left_is ∙ o))
+-- so it is with a client that began an errand
+pub began_says : (old new : ClientCore) (errand : Result Errand BeginFault) (result : Result ⊤ BeginFault) → Began old new errand result → OnOk result ((at : ℕ) → IsSome (next_words (client_left new) at))
+began_says old new errand (Ok u) b = λ at. subst (λ s. IsSome (next_words s at)) (sym b.2.left_is) (errand_says (core_client old) b.0 at b.2.had_none.lawful)
 began_says old new errand (Err f) b = tt
 
 -- what was made for each client was made for this one
-pub made_for : (made : Result BlockLeft AllocError) (plan : Plan) (c : Client) → IfOk made (λ left. (d : Client) → IsMade d plan left) → IfOk made (IsMade c plan)
+pub made_for : (made : Result BlockLeft AllocError) (plan : Plan) (c : ClientCounts) → IfOk made (λ left. (d : ClientCounts) → IsMade d plan left) → IfOk made (IsMade c plan)
 made_for (Ok left) plan c h = h c
 made_for (Err e) plan c h = tt

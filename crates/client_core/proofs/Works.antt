@@ -15,10 +15,10 @@ use Rattle.command_blocks.specs.Calls.{Call, call}
 use Rattle.command_blocks.specs.Scripts.{Plan, Script, Over, Off, Say, after_call, next_words}
 use Rattle.client_blocks.specs.declared.left.BlockLeft.{BlockLeft}
 use Rattle.client_blocks.specs.declared.left.BlockLeft.TheVariants as left
-use Rattle.steps.specs.Clients.{Client}
-use Rattle.steps.specs.Ends.{EndTells, TellsPlan, end_kind, plan_kind}
+use Rattle.steps.specs.declared.counts.ClientCounts.{ClientCounts}
+use Rattle.steps.specs.Ends.{TellsOfErrand, TellsPlan, end_kind, plan_kind}
 use Rattle.steps.specs.Errands.{Errand, Planned, Aside, aside_script}
-use Rattle.steps.specs.Goings.{HasHeard, HasHeardOn, script_after}
+use Rattle.steps.specs.Goings.{HasTakenReply, HasHeardOn, script_after}
 use Rattle.steps.specs.Trips.{RoundTrip, trip, trip_call, trip_calls}
 use Rattle.steps.specs.declared.ended.BlockEnd.{BlockEnd}
 use Rattle.steps.specs.declared.ended.BlockEnd.TheVariants as end
@@ -48,12 +48,12 @@ block_heard o n at r result h = record { taken = taken result h; traced = traced
   taken (Err (Refused given)) h = h.taken
   taken (Err Memory) h = tt
 
-  on : (c : Client) (plan : Plan) (trips : List RoundTrip) (words : Words) (result : Result ⊤ ReplyFault) → LeftHadOn (LeftHad c.seed c.passes plan) (trip_calls trips) (call at words r.answer) n result → HasHeardOn (λ t. WorkHad c (Planned plan) t (work.Block n)) trips (trip at words r) result
+  on : (c : ClientCounts) (plan : Plan) (trips : List RoundTrip) (words : Words) (result : Result ⊤ ReplyFault) → LeftHadOn (LeftHad c.seed c.passes plan) (trip_calls trips) (call at words r.answer) n result → HasHeardOn (λ t. WorkHad c (Planned plan) t (work.Block n)) trips (trip at words r) result
   on c plan trips words (Ok u) g = subst (λ l. LeftHad c.seed c.passes plan l n) (sym (map-more trip_call trips (trip at words r))) g
   on c plan trips words (Err (Refused given)) g = subst (λ l. LeftHad c.seed c.passes plan l n) (sym (map-more trip_call trips (trip at words r))) g
   on c plan trips words (Err Memory) g = tt
 
-  traced : (c : Client) (errand : Errand) (trips : List RoundTrip) (words : Words) → WorkHad c errand trips (work.Block o) → next_words (work_left (work.Block o)) at ≡ Some words → HasHeardOn (λ t. WorkHad c errand t (work.Block n)) trips (trip at words r) result
+  traced : (c : ClientCounts) (errand : Errand) (trips : List RoundTrip) (words : Words) → WorkHad c errand trips (work.Block o) → next_words (work_left (work.Block o)) at ≡ Some words → HasHeardOn (λ t. WorkHad c errand t (work.Block n)) trips (trip at words r) result
   traced c (Planned plan) trips words had next = on c plan trips words result (h.traced c.seed c.passes plan (trip_calls trips) words had next)
   traced c (Aside words2) trips words had next = absurd had
 
@@ -119,7 +119,7 @@ module _ (o : AsideCore) (at : ℕ) (soon : at < 2 ^ 40) (asked : IsSome (next_w
     on words said trips had next (Err (Refused given)) h = record { trace = aside_trace n words said trips had next (ap (λ q. asides.state_left q) h.2 ∙ sym (listed true h.0)); tells = subst (asides.StateTells (trips ++ trip at said r ∷ [])) (sym h.2) tt }
     on words said trips had next (Err Memory) h = tt
 
-    traced : (c : Client) (errand : Errand) (trips : List RoundTrip) (words : Words) → WorkHad c errand trips (work.Beside o) → next_words (work_left (work.Beside o)) at ≡ Some words → HasHeardOn (λ t. WorkHad c errand t (work.Beside n)) trips (trip at words r) result
+    traced : (c : ClientCounts) (errand : Errand) (trips : List RoundTrip) (words : Words) → WorkHad c errand trips (work.Beside o) → next_words (work_left (work.Beside o)) at ≡ Some words → HasHeardOn (λ t. WorkHad c errand t (work.Beside n)) trips (trip at words r) result
     traced c (Planned plan) trips words had next = absurd had
     traced c (Aside words2) trips words had next = on words2 words trips had next result h
 
@@ -132,7 +132,7 @@ ended_is : (s : ClientCore) → s.spent ≡ false → client_ended s ≡ work_en
 ended_is s e = ap (λ b. live_end b s.work) e
 
 -- a client whose reply was taken
-pub heard_taken : (old new : ClientCore) (at : ℕ) (r : Reply) (result : Result ⊤ ReplyFault) → old.spent ≡ false → ClientHeard old new at r result → HasHeard client_left (λ (s : ClientCore). s.spent) old new r result
+pub heard_taken : (old new : ClientCore) (at : ℕ) (r : Reply) (result : Result ⊤ ReplyFault) → old.spent ≡ false → ClientHeard old new at r result → HasTakenReply client_left (λ (s : ClientCore). s.spent) old new r result
 heard_taken old new at r (Ok u) live h = (live_is new h.spent_is ∙ h.work_is.taken.0 ∙ ap (λ q. script_after q r) (sym (live_is old live)), λ off. h.work_is.taken.1 (sym (live_is new h.spent_is) ∙ off))
 heard_taken old new at r (Err (Refused given)) live h = (live_is new h.spent_is ∙ h.work_is.taken.0 ∙ ap (λ q. script_after q r) (sym (live_is old live)), live_is new h.spent_is ∙ h.work_is.taken.1, h.work_is.taken.2, h.spent_is)
 heard_taken old new at r (Err Memory) live h = h.spent_is
@@ -142,7 +142,7 @@ heard_end old new at r (Ok u) h = λ over. subst IsSome (sym (ended_is new h.spe
 heard_end old new at r (Err f) h = tt
 
 pub heard_had : (old new : ClientCore) (at : ℕ) (r : Reply) (result : Result ⊤ ReplyFault) → ClientHeard old new at r result
-    → (c : Client) (errand : Errand) (trips : List RoundTrip) (words : Words) → ClientHad old c errand trips → next_words (client_left old) at ≡ Some words → HasHeardOn (ClientHad new c errand) trips (trip at words r) result
+    → (c : ClientCounts) (errand : Errand) (trips : List RoundTrip) (words : Words) → ClientHad old c errand trips → next_words (client_left old) at ≡ Some words → HasHeardOn (ClientHad new c errand) trips (trip at words r) result
 heard_had old new at r result h c errand trips words had next = by result h.spent_is (h.work_is.traced c errand trips words had.had (ap (λ q. next_words q at) (sym (live_is old had.live)) ∙ next)) where
   by : (result : Result ⊤ ReplyFault) → new.spent ≡ lacked result → HasHeardOn (λ t. WorkHad c errand t new.work) trips (trip at words r) result → HasHeardOn (ClientHad new c errand) trips (trip at words r) result
   by (Ok u) e g = record { live = e; lawful = had.lawful; had = g }
@@ -172,18 +172,18 @@ left_tells s p plan calls (left.End c) h = core_tells end.End (PlanTold plan cal
 left_tells s p plan calls (left.Return c) h = core_tells end.Return (PlanTold plan calls) (ReturnHad plan) (TellsReturn plan) calls (λ e t. (h.0, t)) c.value.state h.1.tells
 left_tells s p plan calls (left.Pass c) h = core_tells end.Pass (PlanTold plan calls) (PassesHad plan) (PassTells plan) calls (λ e t. (h.0, t)) c.value.state h.1.tells
 
-aside_tells : (words : Words) (trips : List RoundTrip) (q : AsideState) → asides.StateTells trips q → IfSome (asides.state_end q) (EndTells (Aside words) trips)
+aside_tells : (words : Words) (trips : List RoundTrip) (q : AsideState) → asides.StateTells trips q → IfSome (asides.state_end q) (TellsOfErrand (Aside words) trips)
 aside_tells words trips (aside.Saying command) t = tt
 aside_tells words trips (aside.Over None) t = tt
 aside_tells words trips (aside.Over (Some told)) t = (refl, t)
 aside_tells words trips aside.Off t = tt
 
-work_tells : (c : Client) (errand : Errand) (trips : List RoundTrip) (w : Work) → WorkHad c errand trips w → IfSome (work_end w) (EndTells errand trips)
+work_tells : (c : ClientCounts) (errand : Errand) (trips : List RoundTrip) (w : Work) → WorkHad c errand trips w → IfSome (work_end w) (TellsOfErrand errand trips)
 work_tells c (Planned plan) trips (work.Block l) h = left_tells c.seed c.passes plan (trip_calls trips) l h
 work_tells c (Planned plan) trips (work.Beside a) h = absurd h
 work_tells c (Aside words) trips (work.Block l) h = absurd h
 work_tells c (Aside words) trips (work.Beside a) h = aside_tells words trips a.state h.tells
 
 -- what a client tells as its end is what its round trips show
-pub client_tells : (s : ClientCore) (c : Client) (errand : Errand) (trips : List RoundTrip) → ClientHad s c errand trips → IfSome (client_ended s) (EndTells errand trips)
-client_tells s c errand trips h = subst (λ o. IfSome o (EndTells errand trips)) (sym (ended_is s h.live)) (work_tells c errand trips s.work h.had)
+pub client_tells : (s : ClientCore) (c : ClientCounts) (errand : Errand) (trips : List RoundTrip) → ClientHad s c errand trips → IfSome (client_ended s) (TellsOfErrand errand trips)
+client_tells s c errand trips h = subst (λ o. IfSome o (TellsOfErrand errand trips)) (sym (ended_is s h.live)) (work_tells c errand trips s.work h.had)

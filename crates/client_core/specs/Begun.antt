@@ -11,7 +11,7 @@ use Rattle.routes.specs.Publishes.{IsPublishable}
 use Rattle.sealed_drafts.specs.declared.sealing.Draft.{Draft}
 use Rattle.serde_json.specs.View.{view as data_of}
 use Rattle.steps.specs.Begins.{drafted_errand, publish_errand}
-use Rattle.steps.specs.Clients.{Client}
+use Rattle.steps.specs.declared.counts.ClientCounts.{ClientCounts}
 use Rattle.steps.specs.Errands.{Errand}
 use Rattle.steps.specs.Goings.{HasBegun}
 use Rattle.steps.specs.declared.begun.BeginFault.{BeginFault}
@@ -22,7 +22,7 @@ use Rattle.client_core.specs.Works.{ClientHad, client_left, core_client}
 use Rattle.client_core.specs.declared.work.Work.TheVariants as work
 
 -- the block of a lawful plan of a client with these counters, which had no call yet
-pub record IsMade (c : Client) (plan : Plan) (left : BlockLeft) : Type 0 where
+pub record IsMade (c : ClientCounts) (plan : Plan) (left : BlockLeft) : Type 0 where
   pub lawful : IsLawfulPlan plain_setting c.seed c.drawn plan
   pub had : LeftHad c.seed c.passes plan [] left
 

@@ -17,7 +17,7 @@ use Rattle.routes.specs.Declares.{declare_stage_left}
 use Rattle.routes.specs.Publishes.{publish_stage_left}
 use Rattle.unacked.specs.Ends.{end_stage_left}
 use Rattle.unacked.specs.Pops.{pop_stage_left}
-use Rattle.steps.specs.Clients.{Client}
+use Rattle.steps.specs.declared.counts.ClientCounts.{ClientCounts}
 use Rattle.steps.specs.Errands.{Errand, Planned, Aside, HasSaidOf, errand_script}
 use Rattle.steps.specs.Trips.{RoundTrip, trip_calls}
 use Rattle.steps.specs.declared.ended.BlockEnd.{BlockEnd}
@@ -45,13 +45,13 @@ left_trace s p plan calls (left.End c) h = h.trace
 left_trace s p plan calls (left.Return c) h = h.trace
 left_trace s p plan calls (left.Pass c) h = h.trace
 
-pub work_trace : (c : Client) (errand : Errand) (trips : List RoundTrip) (w : Work) → WorkHad c errand trips w → IsTrace (errand_script c errand) (trip_calls trips) (work_left w)
+pub work_trace : (c : ClientCounts) (errand : Errand) (trips : List RoundTrip) (w : Work) → WorkHad c errand trips w → IsTrace (errand_script c errand) (trip_calls trips) (work_left w)
 work_trace c (Planned plan) trips (work.Block l) h = left_trace c.seed c.passes plan (trip_calls trips) l h.1
 work_trace c (Planned plan) trips (work.Beside a) h = absurd h
 work_trace c (Aside words) trips (work.Block l) h = absurd h
 work_trace c (Aside words) trips (work.Beside a) h = h.trace
 
-pub client_says : (s : ClientCore) (c : Client) (errand : Errand) (trips : List RoundTrip) → ClientHad s c errand trips → HasSaidOf c errand trips (client_left s)
+pub client_says : (s : ClientCore) (c : ClientCounts) (errand : Errand) (trips : List RoundTrip) → ClientHad s c errand trips → HasSaidOf c errand trips (client_left s)
 client_says s c errand trips h = record {
   lawful = h.lawful;
   trace = subst (λ b. IsTrace (errand_script c errand) (trip_calls trips) (live_left b s.work)) (sym h.live) (work_trace c errand trips s.work h.had);

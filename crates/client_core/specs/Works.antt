@@ -6,7 +6,7 @@ use Rattle.block_core.specs.declared.fault.ReplyFault.{ReplyFault}
 use Rattle.block_core.specs.declared.fault.ReplyFault.TheVariants.{Refused, Memory}
 use Rattle.command_blocks.specs.Scripts.{Script, Over, Off, next_words}
 use Rattle.client_blocks.specs.Blocks.{script_left}
-use Rattle.steps.specs.Clients.{Client}
+use Rattle.steps.specs.declared.counts.ClientCounts.{ClientCounts}
 use Rattle.steps.specs.Errands.{Errand, Planned, Aside, IsLawfulErrand}
 use Rattle.steps.specs.Goings.{HasHeardOn, script_after}
 use Rattle.steps.specs.Trips.{RoundTrip, trip, trip_calls}
@@ -28,7 +28,7 @@ work_end (work.Block left) = left_end left
 work_end (work.Beside core) = aside_end core
 
 -- a client with these counters is about this errand, and made these round trips since it began it
-abbrev pub WorkHad : Client → Errand → List RoundTrip → Work → Type 0
+abbrev pub WorkHad : ClientCounts → Errand → List RoundTrip → Work → Type 0
 WorkHad c (Planned plan) trips (work.Block left) = LeftHad c.seed c.passes plan (trip_calls trips) left
 WorkHad c (Planned plan) trips (work.Beside core) = ⊥
 WorkHad c (Aside words) trips (work.Block left) = ⊥
@@ -43,12 +43,12 @@ WorkTaken old new r (Err Memory) = Unit {0}
 -- a reply was taken: what follows, and what it had then
 pub record HeardWork (old new : Work) (at : ℕ) (r : Reply) (result : Result ⊤ ReplyFault) : Type 0 where
   pub taken : WorkTaken old new r result
-  pub traced : (c : Client) (errand : Errand) (trips : List RoundTrip) (words : Words) → WorkHad c errand trips old → next_words (work_left old) at ≡ Some words → HasHeardOn (λ t. WorkHad c errand t new) trips (trip at words r) result
+  pub traced : (c : ClientCounts) (errand : Errand) (trips : List RoundTrip) (words : Words) → WorkHad c errand trips old → next_words (work_left old) at ≡ Some words → HasHeardOn (λ t. WorkHad c errand t new) trips (trip at words r) result
 
 -- ---- the client
 
 -- its counters
-abbrev pub core_client : ClientCore → Client
+abbrev pub core_client : ClientCore → ClientCounts
 core_client s = record { seed = s.seed; drawn = s.drawn; passes = s.passes }
 
 -- what it has left to say; nothing where memory was wanting
@@ -68,7 +68,7 @@ abbrev pub client_ended : ClientCore → Option BlockEnd
 client_ended s = live_end s.spent s.work
 
 -- it began a lawful errand when its counters were so, and made these round trips since
-pub record ClientHad (s : ClientCore) (c : Client) (errand : Errand) (trips : List RoundTrip) : Type 0 where
+pub record ClientHad (s : ClientCore) (c : ClientCounts) (errand : Errand) (trips : List RoundTrip) : Type 0 where
   pub live : s.spent ≡ false
   pub lawful : IsLawfulErrand c errand
   pub had : WorkHad c errand trips s.work

@@ -3,7 +3,7 @@ ghost use Rattle.std.specs.Prelude.{◌≡◌, [], IfOk, IfSome, None};
 ghost use Rattle.wire_grammar.specs.Fits.{IsWithinLimits};
 ghost use Rattle.command_blocks.specs.Scripts.{next_words};
 ghost use Rattle.client_core.specs.Asides.{AsideHeard, HasAside, HasKeptReply, aside_end, aside_left};
-ghost use Rattle.steps.specs.Goings.{is_idle};
+ghost use Rattle.schedule_model.specs.Faults.{has_more, is_script_off};
 
 use crate::aside_words::AsideWords;
 use crate::asides::is_error;
@@ -92,13 +92,23 @@ impl AsideCore {
         }
     }
 
-    /// Whether it is over.
-    pub(crate) fn is_over(&self) -> bool
-        ensures { result ≡ is_idle (aside_left self.now) }
+    /// Whether it was answered an error.
+    pub(crate) fn is_off(&self) -> bool
+        ensures { result ≡ is_script_off (aside_left self.now) }
     {
         match &self.state {
-            AsideState::Over(_) => true,
-            AsideState::Saying(_) | AsideState::Off => false,
+            AsideState::Off => true,
+            AsideState::Saying(_) | AsideState::Over(_) => false,
+        }
+    }
+
+    /// Whether it is still to be said.
+    pub(crate) fn has_more(&self) -> bool
+        ensures { result ≡ has_more (aside_left self.now) }
+    {
+        match &self.state {
+            AsideState::Saying(_) => true,
+            AsideState::Over(_) | AsideState::Off => false,
         }
     }
 }

@@ -1,5 +1,5 @@
 //! A client whole.
-ghost use Rattle.std.specs.Prelude.{◌≡◌, ◌<◌, Some, None, false, suc, OnOk, IfErr, IsSome, Ok, Err, alloc_error};
+ghost use Rattle.std.specs.Prelude.{◌≡◌, ◌<◌, Some, None, true, false, suc, OnOk, IfErr, IsSome, Ok, Err, alloc_error};
 ghost use Rattle.serde_json.specs.View.{view as data_of};
 ghost use Rattle.delivery_tags.specs.Tags.{tag_number};
 ghost use Rattle.envelope.specs.Envelopes.{parts_in};
@@ -9,8 +9,10 @@ ghost use Rattle.queue_keys.specs.NameFaults.{told_fault};
 ghost use Rattle.command_blocks.specs.Scripts.{Over, Pass, next_words};
 ghost use Rattle.routes.specs.Publishes.{IsPublishable};
 ghost use Rattle.steps.specs.Begins.{AreTexts, again_errand, drafted_errand, neutral_errand, publish_errand, way_name_fault};
-ghost use Rattle.steps.specs.Clients.{new_client, next_tag_of};
+ghost use Rattle.steps.specs.Clients.{new_counts, next_tag_of};
 ghost use Rattle.steps.specs.Errands.{Planned};
+ghost use Rattle.steps.specs.Neutrals.{is_neutral};
+ghost use Rattle.schedule_model.specs.Faults.{has_more, is_script_off};
 ghost use Rattle.client_core.specs.Begun.{Began, GaveSealed, TookUp};
 ghost use Rattle.client_core.specs.Works.{ClientHeard, client_left, core_client, lacked};
 
@@ -24,7 +26,7 @@ use envelope::{Envelope, EnvelopeFault, Tag};
 use queue_keys::{NameFault, QueueName};
 use sealed_drafts::{Draft, seal};
 use std::alloc::{AllocError, Global};
-use steps::{BeginFault, Block, BlockEnd, Steps};
+use steps::{BeginFault, Block, BlockEnd, ClientCounts, Steps};
 use store_model::Reply;
 use wire_values::Words;
 
@@ -41,7 +43,7 @@ pub struct ClientCore {
 impl ClientCore {
     /// A client of this seed that did nothing yet; takes no memory.
     pub fn new(seed: u64) -> ClientCore
-        ensures client { ⟦<ClientCore as Steps>⟧.client result ≡ new_client seed }
+        ensures client { ⟦<ClientCore as Steps>⟧.client result ≡ new_counts seed }
         ensures idle { ⟦<ClientCore as Steps>⟧.left result ≡ Over }
         ensures end { ⟦<ClientCore as Steps>⟧.ended result ≡ None }
         ensures spent { ⟦<ClientCore as Steps>⟧.spent result ≡ false }
@@ -53,6 +55,31 @@ impl ClientCore {
             spent: false,
             work: Work::Block(BlockLeft::Over),
         }
+    }
+
+    /// Its seed, and how many tags it drew and passes it began.
+    pub fn counts(&self) -> ClientCounts
+        ensures { result ≡ core_client self.now }
+    {
+        ClientCounts {
+            seed: self.seed,
+            drawn: self.drawn,
+            passes: self.passes,
+        }
+    }
+
+    /// Whether it says nothing more: a reply was refused, or memory was wanting.
+    pub fn is_off(&self) -> bool
+        ensures { result ≡ is_script_off (client_left self.now) }
+    {
+        self.spent || self.work.is_off()
+    }
+
+    /// Whether its block has a command to come.
+    pub fn has_more(&self) -> bool
+        ensures { result ≡ has_more (client_left self.now) }
+    {
+        !self.spent && self.work.has_more()
     }
 
     /// Takes up a block that was made.
@@ -90,13 +117,13 @@ impl ClientCore {
     }
 
     /// Publishes an envelope that has the next tag.
-    fn again(&mut self, alloc: Global, envelope: Envelope) -> Result<(), BeginFault>
+    fn again(&mut self, alloc: Global, envelope: Box<Envelope>) -> Result<(), BeginFault>
         requires idle { client_left self.old ≡ Over }
-        requires tag { next_tag_of (core_client self.old) ≡ Some (parts_in (data_of envelope)).tag }
-        ensures { Began self.old self.new (again_errand (data_of envelope)) result }
+        requires tag { next_tag_of (core_client self.old) ≡ Some (parts_in (data_of envelope.value)).tag }
+        ensures { Began self.old self.new (again_errand (data_of envelope.value)) result }
     {
         match check_way(alloc, envelope.exchange(), envelope.routing_key()) {
-            Ok(()) => self.send(alloc, envelope),
+            Ok(()) => self.send(alloc, Box::into_inner(envelope)),
             Err(NameFault::Memory) => self.lack(),
             Err(fault) => Err(BeginFault::Name(fault)),
         }
@@ -153,7 +180,7 @@ impl ClientCore {
     /// Begins a command that concerns no message.
     fn say_aside(&mut self, words: Words) -> Result<(), BeginFault>
         requires idle { client_left self.old ≡ Over }
-        requires limits { IsWithinLimits words }
+        requires limits { is_neutral words ≡ true → IsWithinLimits words }
         ensures { Began self.old self.new (neutral_errand words) result }
     {
         if !is_neutral(&words) {
@@ -191,7 +218,7 @@ impl Steps for ClientCore {
     ghost spent = { λ s. s.spent };
 
     fn idle(&self) -> bool {
-        !self.spent && self.work.is_over()
+        !self.is_off() && !self.has_more()
     }
 
     fn next_tag(&self) -> Option<Tag> {
@@ -206,7 +233,7 @@ impl Steps for ClientCore {
                 Box::into_inner(declaration),
             )),
             Block::Publish(draft) => self.publish(alloc, &draft),
-            Block::Again(envelope) => self.again(alloc, Box::into_inner(envelope)),
+            Block::Again(envelope) => self.again(alloc, envelope),
             Block::Pop(queues) => self.take_up(popping(alloc, queues)),
             Block::End(tag) => self.take_up(ending(alloc, tag)),
             Block::Return { tag, side } => self.take_up(returning(alloc, tag, side)),

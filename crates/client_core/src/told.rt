@@ -41,11 +41,11 @@ pub(crate) fn end_of(left: &mut BlockLeft) -> Option<BlockEnd>
 {
     match left {
         BlockLeft::Over => None,
-        BlockLeft::Declare(core) => Some(BlockEnd::Declare(core.end()?)),
-        BlockLeft::Publish(core) => Some(BlockEnd::Publish(core.end()?)),
-        BlockLeft::Pop(core) => Some(BlockEnd::Pop(core.end()?)),
-        BlockLeft::End(core) => Some(BlockEnd::End(core.end()?)),
-        BlockLeft::Return(core) => Some(BlockEnd::Return(core.end()?)),
-        BlockLeft::Pass(core) => Some(BlockEnd::Pass(core.end()?)),
+        BlockLeft::Declare(core) => core.end().map(BlockEnd::Declare),
+        BlockLeft::Publish(core) => core.end().map(BlockEnd::Publish),
+        BlockLeft::Pop(core) => core.end().map(BlockEnd::Pop),
+        BlockLeft::End(core) => core.end().map(BlockEnd::End),
+        BlockLeft::Return(core) => core.end().map(BlockEnd::Return),
+        BlockLeft::Pass(core) => core.end().map(BlockEnd::Pass),
     }
 }

@@ -3,7 +3,7 @@ ghost use Rattle.std.specs.Prelude.{◌≡◌, ◌<◌, IfOk, IfSome, IsSome, No
 ghost use Rattle.store_model.specs.Limits.{moment_limit};
 ghost use Rattle.wire_grammar.specs.Fits.{IsWithinLimits};
 ghost use Rattle.command_blocks.specs.Scripts.{next_words};
-ghost use Rattle.steps.specs.Goings.{is_idle};
+ghost use Rattle.schedule_model.specs.Faults.{has_more, is_script_off};
 ghost use Rattle.client_core.specs.Works.{HeardWork, work_end, work_left};
 
 use crate::aside::AsideCore;
@@ -23,13 +23,23 @@ pub(crate) enum Work {
 }
 
 impl Work {
-    /// Whether nothing is left to say, and no reply was refused.
-    pub(crate) fn is_over(&self) -> bool
-        ensures { result ≡ is_idle (work_left self.now) }
+    /// Whether a reply was refused.
+    pub(crate) fn is_off(&self) -> bool
+        ensures { result ≡ is_script_off (work_left self.now) }
     {
         match self {
-            Work::Block(left) => !left.has_more() && !left.is_off(),
-            Work::Beside(core) => core.is_over(),
+            Work::Block(left) => left.is_off(),
+            Work::Beside(core) => core.is_off(),
+        }
+    }
+
+    /// Whether there is a command to come.
+    pub(crate) fn has_more(&self) -> bool
+        ensures { result ≡ has_more (work_left self.now) }
+    {
+        match self {
+            Work::Block(left) => left.has_more(),
+            Work::Beside(core) => core.has_more(),
         }
     }
 

@@ -1,5 +1,5 @@
 -- What a client begins: the errand of a block, or the first reason why it doesn't begin it.
-use Rattle.std.specs.Prelude.{◌≡◌, ◌≤◌, ℕ, IsUtf8, if◌then◌else◌, [], ◌∷◌, length, Option, None, Some, Result, Ok, Err}
+use Rattle.std.specs.Prelude.{◌≡◌, ◌≤◌, ℕ, true, IsUtf8, if◌then◌else◌, [], ◌∷◌, length, Option, None, Some, Result, Ok, Err}
 use Rattle.serde_json.specs.Data.{Data}
 use Rattle.serde_json.specs.View.{view as data_of}
 use Rattle.serde_json.specs.Written.{compact_text}
@@ -15,7 +15,8 @@ use Rattle.store_model.specs.Words.{Words}
 use Rattle.wire_grammar.specs.Fits.{IsWithinLimits}
 use Rattle.command_blocks.specs.Scripts.{Publish, Pop, End, Return, Pass}
 use Rattle.routes.specs.Declares.{declaration_plan}
-use Rattle.steps.specs.Clients.{Client, next_tag_of}
+use Rattle.steps.specs.Clients.{next_tag_of}
+use Rattle.steps.specs.declared.counts.ClientCounts.{ClientCounts}
 use Rattle.steps.specs.Errands.{Errand, Planned, Aside}
 use Rattle.steps.specs.Neutrals.{is_neutral}
 use Rattle.steps.specs.declared.begun.BeginFault.{BeginFault}
@@ -56,7 +57,7 @@ abbrev pub neutral_errand : Words → Result Errand BeginFault
 neutral_errand words = if is_neutral words then Ok (Aside words) else Err fault.BadNeutral
 
 -- the errand of a block, or the first reason why a client with these counters doesn't begin it
-abbrev pub errand_of : Client → Block → Result Errand BeginFault
+abbrev pub errand_of : ClientCounts → Block → Result Errand BeginFault
 errand_of c (block.Declare declaration) = Ok (Planned (declaration_plan declaration.value))
 errand_of c (block.Publish draft) = drafted_errand draft.value (next_tag_of c)
 errand_of c (block.Again envelope) = again_errand (data_of envelope.value)
@@ -72,8 +73,8 @@ pub record AreTexts (draft : Draft) : Type 0 where
   pub exchange : IsUtf8 draft.exchange
   pub routing_key : IsUtf8 draft.routing_key
 
--- what a client with these counters may be asked to begin: a message that is sent again has its next tag
-abbrev pub IsLawfulBlock : Client → Block → Type 0
+-- what a client with these counters may be asked to begin: a message that is sent again has its next tag, and a command that concerns no message is within the limits of one
+abbrev pub IsLawfulBlock : ClientCounts → Block → Type 0
 IsLawfulBlock c (block.Declare declaration) = Unit {0}
 IsLawfulBlock c (block.Publish draft) = AreTexts draft.value
 IsLawfulBlock c (block.Again envelope) = next_tag_of c ≡ Some (parts_in (data_of envelope.value)).tag
@@ -81,4 +82,4 @@ IsLawfulBlock c (block.Pop queues) = (1 ≤ length queues) × (length queues ≤
 IsLawfulBlock c (block.End tag) = Unit {0}
 IsLawfulBlock c (block.Return tag side) = Unit {0}
 IsLawfulBlock c (block.Pass v) = Unit {0}
-IsLawfulBlock c (block.Neutral words) = IsWithinLimits words
+IsLawfulBlock c (block.Neutral words) = is_neutral words ≡ true → IsWithinLimits words

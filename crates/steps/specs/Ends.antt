@@ -73,5 +73,5 @@ TellsErrand (Planned plan) trips e = TellsPlan plan (trip_calls trips) e
 TellsErrand (Aside words) trips e = TellsAside trips e
 
 -- the end is one of the errand's kind, and tells of its round trips
-abbrev pub EndTells : Errand → List RoundTrip → BlockEnd → Type 0
-EndTells errand trips e = (errand_kind errand ≡ end_kind e) × TellsErrand errand trips e
+abbrev pub TellsOfErrand : Errand → List RoundTrip → BlockEnd → Type 0
+TellsOfErrand errand trips e = (errand_kind errand ≡ end_kind e) × TellsErrand errand trips e

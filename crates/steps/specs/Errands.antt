@@ -9,7 +9,7 @@ use Rattle.command_blocks.specs.EnvelopeTexts.{plain_setting}
 use Rattle.command_blocks.specs.Scripts.{Plan, Script, Over, Off, plainly, counter_use, script_of}
 use Rattle.block_laws.specs.Rows.{IsLawfulPlan, IsPlanBlock}
 use Rattle.block_laws.specs.Traces.{IsTrace}
-use Rattle.steps.specs.Clients.{Client}
+use Rattle.steps.specs.declared.counts.ClientCounts.{ClientCounts}
 use Rattle.steps.specs.Trips.{RoundTrip, trip_calls}
 
 -- what a client goes about: the plan of a block, or a command that concerns no message
@@ -26,7 +26,7 @@ abbrev pub aside_script : Words → Script
 aside_script words = plainly words on_no_error
 
 -- what a client with these counters says of an errand
-abbrev pub errand_script : Client → Errand → Script
+abbrev pub errand_script : ClientCounts → Errand → Script
 errand_script c (Planned plan) = script_of plain_setting c.seed c.passes plan
 errand_script c (Aside words) = aside_script words
 
@@ -36,20 +36,20 @@ errand_use (Planned plan) = counter_use plan
 errand_use (Aside words) = Other
 
 -- the client after it began an errand
-abbrev pub client_after : Client → Errand → Client
+abbrev pub client_after : ClientCounts → Errand → ClientCounts
 client_after c errand = record { seed = c.seed; drawn = drawn (errand_use errand) c.drawn; passes = passes_after (errand_use errand) c.passes }
 
 -- the errand is lawful for a client with these counters
-abbrev pub IsLawfulErrand : Client → Errand → Type 0
+abbrev pub IsLawfulErrand : ClientCounts → Errand → Type 0
 IsLawfulErrand c (Planned plan) = IsLawfulPlan plain_setting c.seed c.drawn plan
 IsLawfulErrand c (Aside words) = IsNeutral plain_setting words
 
 -- the calls are the whole block of an errand of a client with these counters
-abbrev pub IsErrandBlock : Client → Errand → List Call → Type 0
+abbrev pub IsErrandBlock : ClientCounts → Errand → List Call → Type 0
 IsErrandBlock c (Planned plan) calls = IsPlanBlock plain_setting c.seed c.drawn c.passes plan calls
 IsErrandBlock c (Aside words) calls = IsNeutralBlock plain_setting words calls
 
 -- the errand is lawful, its script said these round trips, and this is left of it
-pub record HasSaidOf (c : Client) (errand : Errand) (trips : List RoundTrip) (left : Script) : Type 0 where
+pub record HasSaidOf (c : ClientCounts) (errand : Errand) (trips : List RoundTrip) (left : Script) : Type 0 where
   pub lawful : IsLawfulErrand c errand
   pub trace : IsTrace (errand_script c errand) (trip_calls trips) left

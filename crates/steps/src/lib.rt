@@ -5,9 +5,11 @@
 #![tactic(auto)]
 
 mod begun;
+mod counts;
 mod ended;
 mod steps;
 
 pub use begun::{BeginFault, Block};
+pub use counts::ClientCounts;
 pub use ended::BlockEnd;
 pub use steps::Steps;

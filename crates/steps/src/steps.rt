@@ -6,10 +6,11 @@ ghost use Rattle.wire_grammar.specs.Fits.{IsWithinLimits};
 ghost use Rattle.block_core.specs.declared.fault.ReplyFault.TheVariants.{Memory};
 ghost use Rattle.command_blocks.specs.Scripts.{Over, Off, Script, next_words};
 ghost use Rattle.steps.specs.Begins.{IsLawfulBlock, errand_of};
-ghost use Rattle.steps.specs.Clients.{Client, next_tag_of};
-ghost use Rattle.steps.specs.Ends.{EndTells};
+ghost use Rattle.steps.specs.Clients.{next_tag_of};
+ghost use Rattle.steps.specs.declared.counts.ClientCounts.{ClientCounts};
+ghost use Rattle.steps.specs.Ends.{TellsOfErrand};
 ghost use Rattle.steps.specs.Errands.{Errand, HasSaidOf};
-ghost use Rattle.steps.specs.Goings.{HasBegun, HasHeard, HasHeardOn, is_idle};
+ghost use Rattle.steps.specs.Goings.{HasBegun, HasTakenReply, HasHeardOn, is_idle};
 ghost use Rattle.steps.specs.Trips.{RoundTrip, trip};
 ghost use Rattle.steps.specs.declared.ended.BlockEnd.{BlockEnd as End};
 
@@ -25,13 +26,13 @@ use wire_values::Words;
 /// After want of memory in `begin` or `took` it is spent: `next` and `took` answer want of memory from then on.
 pub trait Steps {
     /// Its seed, and how many tags it drew and passes it began.
-    ghost client: { Self → Client };
+    ghost client: { Self → ClientCounts };
 
     /// What is left to say of its block.
     ghost left: { Self → Script };
 
     /// It began this errand when its counters were so, and since then made these round trips.
-    ghost had: { Self → Client → Errand → Listed RoundTrip → Type 0 };
+    ghost had: { Self → ClientCounts → Errand → Listed RoundTrip → Type 0 };
 
     /// How its block ended, where that wasn't told yet.
     ghost ended: { Self → Option End };
@@ -56,7 +57,8 @@ pub trait Steps {
         requires idle { left self.old ≡ Over }
         requires lawful { IsLawfulBlock (client self.old) block }
         ensures begun { HasBegun client left had spent self.old self.new (errand_of (client self.old) block) result }
-        ensures end { OnOk result (left self.new ≡ Over → IsSome (ended self.new)) };
+        // There is a first command to say.
+        ensures says { OnOk result ((at : ℕ) → IsSome (next_words (left self.new) at)) };
 
     /// The next command, at this moment in seconds. None exactly where no block goes on: it is idle, or a reply was
     /// refused.
@@ -76,12 +78,12 @@ pub trait Steps {
     fn took(&mut self, alloc: Global, at: u64, reply: &Reply) -> Result<(), ReplyFault>
         requires moment { at < moment_limit }
         requires asked { spent self.old ≡ false → IsSome (next_words (left self.old) at) }
-        ensures taken { HasHeard left spent self.old self.new reply.now result }
+        ensures taken { HasTakenReply left spent self.old self.new reply.now result }
         ensures end { OnOk result (left self.new ≡ Over → IsSome (ended self.new)) }
         ensures spent { spent self.old ≡ true → result ≡ Err Memory }
         ensures same { client self.new ≡ client self.old }
         // Whatever it had before, now it has had one round trip more.
-        ensures had { (c : Client) (errand : Errand) (trips : Listed RoundTrip) (words : Said) → had self.old c errand trips
+        ensures had { (c : ClientCounts) (errand : Errand) (trips : Listed RoundTrip) (words : Said) → had self.old c errand trips
             → next_words (left self.old) at ≡ Some words → HasHeardOn (had self.new c errand) trips (trip at words reply.now) result };
 
     /// How the block ended, once, after its last reply.
@@ -92,10 +94,10 @@ pub trait Steps {
         ensures same { client self.new ≡ client self.old }
         ensures spent { spent self.new ≡ spent self.old }
         // What is told is what the round trips show.
-        ensures tells { (c : Client) (errand : Errand) (trips : Listed RoundTrip) → had self.old c errand trips → IfSome result (EndTells errand trips) };
+        ensures tells { (c : ClientCounts) (errand : Errand) (trips : Listed RoundTrip) → had self.old c errand trips → IfSome result (TellsOfErrand errand trips) };
 
     /// What it had since it began a lawful errand was said by the errand's script, of which the rest is left.
-    ghost says: { (s : Self) (c : Client) (errand : Errand) (trips : Listed RoundTrip) → had s c errand trips → HasSaidOf c errand trips (left s) };
+    ghost says: { (s : Self) (c : ClientCounts) (errand : Errand) (trips : Listed RoundTrip) → had s c errand trips → HasSaidOf c errand trips (left s) };
 
     /// An end is there only where nothing is left to say.
     ghost ends: { (s : Self) (end : End) → ended s ≡ Some end → left s ≡ Over };

@@ -24,7 +24,8 @@ use Rattle.block_laws.proofs.Talks.{Talks, off_talks, over_talks, say_talks, say
 use Rattle.message_places.proofs.Serving.{readable}
 use Rattle.manner_laws.specs.LayoutKeys.{exchange_of_key}
 use Rattle.schedule_laws.proofs.Decided.{fronts_decided}
-use Rattle.steps.specs.Clients.{Client, new_client}
+use Rattle.steps.specs.Clients.{new_counts}
+use Rattle.steps.specs.declared.counts.ClientCounts.{ClientCounts}
 use Rattle.steps.specs.Errands.{Errand, Planned, Aside, IsErrandBlock, IsLawfulErrand, aside_script, client_after, errand_script, errand_use, on_no_error}
 use Rattle.steps_laws.specs.Manners.{AreSaid, ErrandSaid, said_calls}
 
@@ -61,12 +62,12 @@ aside_talk words n = say_talks (λ at. words) on_no_error (IsNeutralBlock plain_
 -- ---- errands
 
 -- an errand's script can always be said to its end, and what was said to its end is the errand's block
-record IsTold (c : Client) (errand : Errand) : Type 0 where
+record IsTold (c : ClientCounts) (errand : Errand) : Type 0 where
   good : IsGood (errand_script c errand)
   whole : (l : List Call) → AreTimely l → IsSaid (errand_script c errand) l → rest_of (errand_script c errand) l ≡ Over → IsErrandBlock c errand l
   block : (l : List Call) → AreTimely l → IsSaid (errand_script c errand) l → rest_of (errand_script c errand) l ≡ Over → IsBlock plain_setting c.seed c.drawn c.passes (errand_use errand) l
 
-told : (c : Client) (errand : Errand) → IsLawfulErrand c errand → IsTold c errand
+told : (c : ClientCounts) (errand : Errand) → IsLawfulErrand c errand → IsTold c errand
 told c (Planned plan) lawful = let row = plan_row plain_setting c.seed c.drawn c.passes plan lawful in record { good = row.good; whole = row.told; block = row.block }
 told c (Aside words) lawful = record { good = aside_good words; whole = whole; block = λ l t s e. Neutral words l (whole l t s e) } where
   whole : (l : List Call) → AreTimely l → IsSaid (aside_script words) l → rest_of (aside_script words) l ≡ Over → IsNeutralBlock plain_setting words l
@@ -102,7 +103,7 @@ aside_off words calls more off b = by (calls ++ more) refl b where
         let none : xs ++ more ≡ [] = ap tail_of i in
         over_off (sym (taken_by r false e) ∙ sym (ap (λ (y : Call). on_no_error y.answer) first) ∙ sym (ap (λ l. rest_of (on_no_error x.answer) l) (left_none xs more none)) ∙ o)
 
-module _ (c : Client) (errand : Errand) (lawful : IsLawfulErrand c errand) (calls : List Call) (left : Script) (t : IsTrace (errand_script c errand) calls left) where
+module _ (c : ClientCounts) (errand : Errand) (lawful : IsLawfulErrand c errand) (calls : List Call) (left : Script) (t : IsTrace (errand_script c errand) calls left) where
   abbrev its : Script
   its = errand_script c errand
 
@@ -130,7 +131,7 @@ module _ (c : Client) (errand : Errand) (lawful : IsLawfulErrand c errand) (call
   errand_front = record { whole = λ over. is.whole calls t.timely t.said (sym t.left ∙ over); front = front; but_last = but_last }
 
 -- where the last answer isn't listed no block goes on
-pub errand_off : (c : Client) (errand : Errand) (calls : List Call) (left : Script) → IsTrace (errand_script c errand) calls left → left ≡ Off → (more : List Call) → IsErrandBlock c errand (calls ++ more) → ⊥
+pub errand_off : (c : ClientCounts) (errand : Errand) (calls : List Call) (left : Script) → IsTrace (errand_script c errand) calls left → left ≡ Off → (more : List Call) → IsErrandBlock c errand (calls ++ more) → ⊥
 errand_off c (Planned plan) calls left t off more = plan_off plain_setting plain_lawful c.seed c.drawn c.passes plan calls more (sym t.left ∙ off)
 errand_off c (Aside words) calls left t off more = aside_off words calls more (sym t.left ∙ off)
 
@@ -144,12 +145,12 @@ calls_are [] = refl
 calls_are (e ∷ es) = ap (λ l. e.calls ++ l) (calls_are es)
 
 -- they are blocks of one client
-record AreBlocksOf (c : Client) (es : List ErrandSaid) (d : Client) : Type 0 where
+record AreBlocksOf (c : ClientCounts) (es : List ErrandSaid) (d : ClientCounts) : Type 0 where
   seed : d.seed ≡ c.seed
   blocks : BlocksTo plain_setting c.seed c.drawn c.passes (parts es) d.drawn d.passes
 
-said_blocks : (c : Client) (es : List ErrandSaid) (d : Client) → AreSaid c es d → AreBlocksOf c es d
-said_blocks c [] d h = record { seed = ap (λ (x : Client). x.seed) (sym h); blocks = (ap (λ (x : Client). x.drawn) h, ap (λ (x : Client). x.passes) h) }
+said_blocks : (c : ClientCounts) (es : List ErrandSaid) (d : ClientCounts) → AreSaid c es d → AreBlocksOf c es d
+said_blocks c [] d h = record { seed = ap (λ (x : ClientCounts). x.seed) (sym h); blocks = (ap (λ (x : ClientCounts). x.drawn) h, ap (λ (x : ClientCounts). x.passes) h) }
 said_blocks c (e ∷ es) d h =
     let rest = said_blocks (client_after c e.errand) es d h.2 in
     record {
@@ -157,7 +158,7 @@ said_blocks c (e ∷ es) d h =
       blocks = (errand_use e.errand, (told c e.errand h.0).block e.calls h.1.timely h.1.said (sym h.1.left), rest.blocks);
     }
 
-timely_all : (c : Client) (es : List ErrandSaid) (d : Client) → AreSaid c es d → AreTimely (said_calls es)
+timely_all : (c : ClientCounts) (es : List ErrandSaid) (d : ClientCounts) → AreSaid c es d → AreTimely (said_calls es)
 timely_all c [] d h = tt
 timely_all c (e ∷ es) d h = timely-append e.calls (said_calls es) h.1.timely (timely_all (client_after c e.errand) es d h.2)
 
@@ -165,7 +166,7 @@ decides : (s : ℕ) (l : List Call) → AreTimely l → IsFrontOfBlocks plain_se
 unfolding same
 decides = fronts_decided plain_setting (exchange_of_key plain) plain_lawful (readable plain refl)
 
-module _ (s : ℕ) (es : List ErrandSaid) (c : Client) (errand : Errand) (calls : List Call) (left : Script) (before : AreSaid (new_client s) es c) (lawful : IsLawfulErrand c errand) (t : IsTrace (errand_script c errand) calls left) where
+module _ (s : ℕ) (es : List ErrandSaid) (c : ClientCounts) (errand : Errand) (calls : List Call) (left : Script) (before : AreSaid (new_counts s) es c) (lawful : IsLawfulErrand c errand) (t : IsTrace (errand_script c errand) calls left) where
   abbrev Front : List Call → Type 0
   Front l = IsFrontOfBlocks plain_setting s l
 
@@ -175,8 +176,8 @@ module _ (s : ℕ) (es : List ErrandSaid) (c : Client) (errand : Errand) (calls 
   abbrev all : List Call
   all = said_calls es ++ calls
 
-  bs : AreBlocksOf (new_client s) es c
-  bs = said_blocks (new_client s) es c before
+  bs : AreBlocksOf (new_counts s) es c
+  bs = said_blocks (new_counts s) es c before
 
   its_told : IsTold c errand
   its_told = told c errand lawful
@@ -188,7 +189,7 @@ module _ (s : ℕ) (es : List ErrandSaid) (c : Client) (errand : Errand) (calls 
       (subst (λ x. IsBlock plain_setting x c.drawn c.passes (errand_use errand) (l ++ more)) bs.seed (its_told.block (l ++ more) timely said over)))
 
   timely : AreTimely all
-  timely = timely-append (said_calls es) calls (timely_all (new_client s) es c before) t.timely
+  timely = timely-append (said_calls es) calls (timely_all (new_counts s) es c before) t.timely
 
   off_mannered : IsPutOff its_script calls → IsMannered plain_setting s all
   off_mannered o = by (decides s all timely) where
@@ -220,5 +221,5 @@ module _ (s : ℕ) (es : List ErrandSaid) (c : Client) (errand : Errand) (calls 
     by (inr h) = off_mannered h.1
 
 -- whole errands alone
-pub whole_mannered : (s : ℕ) (es : List ErrandSaid) (c : Client) → AreSaid (new_client s) es c → IsMannered plain_setting s (said_calls es)
-whole_mannered s es c before = inl (subst (IsFrontOfBlocks plain_setting s) (sym (calls_are es)) (whole_front plain_setting s c.drawn c.passes (parts es) (said_blocks (new_client s) es c before).blocks))
+pub whole_mannered : (s : ℕ) (es : List ErrandSaid) (c : ClientCounts) → AreSaid (new_counts s) es c → IsMannered plain_setting s (said_calls es)
+whole_mannered s es c before = inl (subst (IsFrontOfBlocks plain_setting s) (sym (calls_are es)) (whole_front plain_setting s c.drawn c.passes (parts es) (said_blocks (new_counts s) es c before).blocks))
