@@ -3,7 +3,6 @@ use Rattle.std.proofs.Common.{◌≡◌, ℕ, suc, ◌+◌, ◌<◌, ◌≤◌, 
 use Rattle.std.specs.Prelude.{⊤, IfOk, OnOk, cond, option_and_then}
 use Rattle.std.specs.Result.{result_ok}
 use Rattle.std.specs.declared.alloc.AllocError.{AllocError}
-use Rattle.wire_values.specs.declared.value.Value.{Value}
 use Rattle.std.proofs.lemmas.Bool.Decides.{nat_tests}
 use Rattle.std.proofs.lemmas.Slice.Eq.{bytes_eq-Decides}
 use Rattle.serde_json.specs.Data.{Data}
@@ -18,9 +17,8 @@ use Rattle.sealed_drafts.specs.declared.sealing.Draft.{Draft}
 use Rattle.block_laws.specs.Rows.{IsLawfulPlan}
 use Rattle.command_blocks.specs.Blocks.{Other, drawn, passes_after}
 use Rattle.command_blocks.specs.EnvelopeTexts.{plain_setting, tag_as_written}
-use Rattle.command_blocks.specs.Scripts.{Off, Over, Plan, Declare, Undeclare, Publish, Pop, End, Return, Pass, Script, asking_script, counter_use, next_words, pop_script, popping, pushes, script_of}
+use Rattle.command_blocks.specs.Scripts.{Off, Over, Plan, Declare, Undeclare, Publish, Pop, End, Return, Pass, asking_script, counter_use, next_words, pop_script, popping, pushes, script_of}
 use Rattle.command_blocks.specs.TakeBlocks.{IsPop}
-use Rattle.client_blocks.specs.Blocks.{script_left}
 use Rattle.client_blocks.specs.declared.left.BlockLeft.{BlockLeft}
 use Rattle.routes.specs.Declares.{declared_plan}
 use Rattle.routes.specs.Publishes.{IsPublishable}
