@@ -1,11 +1,10 @@
 -- Round trips one after the other.
-use Rattle.std.proofs.Common.{◌≡◌, ◌⊎◌, Bool, true, false, Result, Ok, Err, IfErr, IsErrAnd, IsSome, OnOk, inl, inr, ℕ, ◌<◌, ◌≤◌, ◌^◌, arith, List, [], ◌∷◌, ◌++◌, map, Option, None, Some, refl, sym, subst, ap, ◌∙◌, append_assoc}
+use Rattle.std.proofs.Common.{◌≡◌, ◌⊎◌, Bool, true, false, Result, Ok, Err, IfErr, IsErrAnd, inl, inr, ℕ, ◌<◌, ◌≤◌, ◌^◌, arith, List, [], ◌∷◌, ◌++◌, map, Option, None, Some, refl, sym, subst, ap, ◌∙◌, append_assoc}
 use Rattle.std.proofs.lemmas.List.{append-nil}
 use Rattle.std.proofs.lemmas.Result.{err_from_is_err_and}
 use Rattle.std.specs.Prelude.{⊤}
 use Rattle.store_model.specs.Words.{Words}
 use Rattle.store_model.specs.declared.reply.Reply.{Reply}
-use Rattle.command_blocks.specs.Calls.{Call}
 use Rattle.command_blocks.specs.Scripts.{Script, Over, Off, Say, next_words, after_call}
 use Rattle.block_laws.specs.Traces.{IsTrace}
 use Rattle.block_laws.proofs.Traces.{first_trace, next_trace}
@@ -20,14 +19,14 @@ use Rattle.sessions.specs.Talks.{IsClocked}
 use Rattle.steps.specs.declared.counts.ClientCounts.{ClientCounts}
 use Rattle.steps.specs.Errands.{Errand}
 use Rattle.steps.specs.Ends.{TellsOfErrand}
-use Rattle.steps.specs.Errands.{HasSaidOf, client_after, errand_script}
+use Rattle.steps.specs.Errands.{HasSaidOf, errand_script}
 use Rattle.steps.specs.Goings.{HasBegun, HasTakenReply, script_after}
 use Rattle.steps.specs.Trips.{RoundTrip, trip, trip_call, trip_calls}
 use Rattle.steps.specs.declared.begun.BeginFault.{BeginFault}
 use Rattle.steps.specs.declared.ended.BlockEnd.{BlockEnd}
 use Rattle.steps.specs.declared.begun.BeginFault.TheVariants as begin_
 use Rattle.block_runs.specs.Faults.{begin_fault, reply_fault}
-use Rattle.block_runs.specs.Runs.{AreClocked, IsDeskFault, HasHeardNext, HasRest, HasRunBlock, IsBlockTo, IsRestTo, HasSaid, HasSaidNext, HadMore, IsOn, WasAsked, trip_deed, trip_deeds}
+use Rattle.block_runs.specs.Runs.{AreClocked, IsDeskFault, HasHeardNext, HasRest, HasRunBlock, IsBlockTo, IsRestTo, HasSaid, HasSaidNext, HadMore, WasAsked, trip_deed, trip_deeds}
 use Rattle.block_runs.specs.declared.fault.BlockFault.{BlockFault}
 use Rattle.block_runs.specs.declared.fault.BlockFault.TheVariants as fault_
 

@@ -4,7 +4,7 @@ use Rattle.block_core.specs.declared.fault.ReplyFault.TheVariants as reply
 use Rattle.steps.specs.declared.begun.BeginFault.{BeginFault}
 use Rattle.steps.specs.declared.begun.BeginFault.TheVariants as begin
 use Rattle.block_runs.specs.declared.fault.BlockFault.{BlockFault}
-use Rattle.block_runs.specs.declared.fault.BlockFault.TheVariants.{Begin, Desk, Refused, Memory}
+use Rattle.block_runs.specs.declared.fault.BlockFault.TheVariants.{Begin, Refused, Memory}
 
 -- a reply that wasn't taken
 abbrev pub reply_fault : ReplyFault → BlockFault

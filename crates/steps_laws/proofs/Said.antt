@@ -1,19 +1,19 @@
 -- Errands one after the other are blocks of a client.
-use Rattle.std.proofs.Common.{◌≡◌, ◌⊎◌, inl, inr, ℕ, ◌<◌, ◌^◌, refl, ap, sym, ◌∙◌, subst, Bool, true, false, List, [], ◌∷◌, ◌++◌, append_assoc}
+use Rattle.std.proofs.Common.{◌≡◌, ◌⊎◌, inl, inr, ℕ, refl, ap, sym, ◌∙◌, subst, Bool, true, false, List, [], ◌∷◌, ◌++◌, append_assoc}
 use Rattle.std.specs.Prelude.{cond, map}
 use Rattle.wire_values.specs.Layer.{layer}
 use Rattle.wire_values.specs.declared.value.Value.{Value}
 use Rattle.wire_values.specs.declared.value.Value.TheVariants.{NullBulk}
 use Rattle.store_model.specs.Words.{Words}
 use Rattle.queue_keys.specs.Layouts.{plain}
-use Rattle.queue_keys.specs.Names.{Bytes, same}
+use Rattle.queue_keys.specs.Names.{same}
 use Rattle.key_laws.proofs.EnvelopeFacts.{envelopes_serve}
 use Rattle.key_laws.proofs.Settings.{lawful_setting}
 use Rattle.command_blocks.specs.Answers.{is_error}
-use Rattle.command_blocks.specs.Blocks.{CounterUse, IsBlock, IsFrontOfBlocks, IsMannered, IsNeutral, IsNeutralBlock, Answered, Neutral, drawn, passes_after}
+use Rattle.command_blocks.specs.Blocks.{IsBlock, IsFrontOfBlocks, IsMannered, IsNeutral, IsNeutralBlock, Answered, Neutral}
 use Rattle.command_blocks.specs.Calls.{Call, call, concat}
 use Rattle.command_blocks.specs.EnvelopeTexts.{plain_setting, texts}
-use Rattle.command_blocks.specs.Scripts.{Script, Over, Off, Say, after_call, rest_of, IsSaid}
+use Rattle.command_blocks.specs.Scripts.{Script, Over, Off, rest_of, IsSaid}
 use Rattle.command_blocks.specs.Setting.{IsLawful}
 use Rattle.block_laws.specs.Rows.{AreTimely, IsGood}
 use Rattle.block_laws.specs.Traces.{IsTrace, IsFrontOf}

@@ -1,6 +1,6 @@
-use Rattle.std.proofs.Common.{◌≡◌, ◌++◌, ◌∷◌, [], Ok, true, arith, sym, subst, ◌∙◌}
+use Rattle.std.proofs.Common.{◌++◌, ◌∷◌, [], Ok, arith, subst, ◌∙◌}
 use Rattle.steps.specs.Trips.{trip}
-use Rattle.block_runs.specs.Runs.{HasSaid, HasSaidNext}
+use Rattle.block_runs.specs.Runs.{HasSaidNext}
 use Rattle.block_runs.proofs.Told.{earlier_kind, had_more, handed_kind, rest_stops, said_on}
 use Rattle.block_runs.proofs.saying.say_all.Goals as goal
 
