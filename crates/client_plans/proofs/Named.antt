@@ -1,12 +1,14 @@
 -- What a sealed tree says of where it goes.
-use Rattle.std.proofs.Common.{◌≡◌, ℕ, ℤ, length, codes, Option, Some, Result, Ok, sym, ap, ◌∙◌}
+use Rattle.std.proofs.Common.{◌≡◌, ◌<◌, ◌^◌, arith, ℕ, ℤ, length, codes, Option, Some, Result, Ok, sym, ap, ◌∙◌}
 use Rattle.std.specs.Prelude.{nat_le, not}
 use Rattle.std.specs.Str.{is_utf8}
 use Rattle.serde_json.specs.Data.{Data, depth}
 use Rattle.serde_json.specs.Find.{get}
 use Rattle.serde_json.specs.View.{view as data_of}
 use Rattle.serde_json.specs.Written.{compact_text, has_float}
-use Rattle.envelope.specs.Envelopes.{Parts, are_short, max_bytes, max_text, parts_in, said_by}
+use Rattle.envelope.specs.Envelopes.{Parts, parts_or_none, are_short, max_bytes, max_text, parts_in, said_by}
+use Rattle.delivery_tags.specs.Tags.{tag_number}
+use Rattle.envelope_laws.proofs.SealsSay.{seals_say}
 use Rattle.envelope_trees.specs.Marks.{marked}
 use Rattle.envelope_trees.specs.Members.{if_object, is_nothing, object_at, text_at}
 use Rattle.envelope.specs.SealedTrees.{sealed_info, sealed_properties, sealed_tree}
@@ -63,3 +65,11 @@ names_sealed draft n d e said =
 -- under other names that are the same
 pub same_names : (x y k l : Bytes) (d : Data) → x ≡ y → k ≡ l → Names x k d → Names y l d
 same_names x y k l d e f n = record { exchange_is = n.exchange_is ∙ e; routing_key_is = n.routing_key_is ∙ f }
+
+-- and it has the tag under which it was sealed
+pub tag_sealed : (draft : Draft) (n : ℕ) (d : Data) → n < 2 ^ 128 → seal_of draft n ≡ Ok d → (parts_in d).tag ≡ n
+tag_sealed draft n d small e = ap (λ (p : Parts). p.tag) (ap parts_or_none (seals_say draft n d small e).1)
+
+-- a tag's number, of 64 bits each
+pub tag_fits : (s n : ℕ) → s < 2 ^ 64 → n < 2 ^ 64 → tag_number s n < 2 ^ 128
+tag_fits s n a b = omega (arith, a, b)

@@ -1,16 +1,21 @@
 -- The tests of what a client begins, and what is begun.
-use Rattle.std.proofs.Common.{◌≡◌, ℕ, suc, ◌<◌, ◌^◌, List, [], ◌∷◌, length, get_or, Bool, true, false, ◌&&◌, ◌||◌, Some, None, is_some, is_none, Result, Ok, refl, sym, ap, subst, ◌∙◌}
+use Rattle.std.proofs.Common.{◌≡◌, ℕ, suc, ◌+◌, ◌<◌, ◌≤◌, ◌^◌, List, [], ◌∷◌, length, get_or, Bool, true, false, ◌&&◌, ◌||◌, cond, nat_lt, arith, Option, Some, None, is_some, is_none, Result, Ok, refl, sym, ap, subst, ◌∙◌}
 use Rattle.std.specs.Prelude.{not, if◌then◌else◌}
 use Rattle.std.specs.List.{list_all, list_any}
 use Rattle.serde_json.specs.Data.{Data}
 use Rattle.line_text.specs.declared.reason.Reason.{Reason}
 use Rattle.line_text.specs.declared.reason.Reason.TheVariants.{Name, Reserved, Json, Task}
 use Rattle.delivery_tags.specs.Tags.{tag, tag_number, tag_text}
-use Rattle.command_blocks.specs.EnvelopeTexts.{plain_setting}
+use Rattle.std.proofs.lemmas.Bool.Decides.{nat_tests}
+use Rattle.serde_json.specs.Written.{compact_text}
+use Rattle.envelope.specs.Envelopes.{parts_in}
+use Rattle.delivery_tags.specs.declared.tag.Tag.{Tag}
 use Rattle.queue_keys.specs.Bindings.{is_part}
 use Rattle.queue_keys.specs.Names.{Bytes, all_free, has_length, is_name, is_reserved}
-use Rattle.queue_keys.specs.Texts.{token}
-use Rattle.command_blocks.specs.Scripts.{Declare, End, Pass, Publish, Pop, Return, Undeclare, end_script, pass_script, pop_script, publish_script, return_script, script_of}
+use Rattle.queue_keys.specs.NameFaults.{name_fault}
+use Rattle.queue_keys.specs.declared.queue_name.NameFault.{NameFault}
+use Rattle.queue_keys.proofs.NameFaults.{lawful_none}
+use Rattle.command_blocks.specs.Scripts.{Declare, End, Publish, Pop, Return, Undeclare}
 use Rattle.command_blocks.specs.declared.side.Side.{Side}
 use Rattle.command_blocks.specs.declared.side.Side.TheVariants.{Left, Right}
 use Rattle.routes.specs.Declares.{declared_plan}
@@ -22,13 +27,15 @@ use Rattle.schedule_model.specs.Faults.{Test, asked_tests, first_reason, is_empt
 use Rattle.schedule_model.specs.Programs.{are_arguments, program_craft}
 use Rattle.schedule_model.specs.Schedules.{publish_plan}
 use Rattle.schedule_model.specs.declared.line.Asked.TheVariants as asked
-use Rattle.client_blocks.specs.Blocks.{script_left}
-use Rattle.client_plans.specs.Plans.{IsPrepared, are_no_parts, asked_binding, asked_return, is_no_binding, way_reason}
+use Rattle.steps.specs.Begins.{if_named, publish_errand, way_name_fault}
+use Rattle.steps.specs.Clients.{next_tag_of}
+use Rattle.steps.specs.Errands.{Planned}
+use Rattle.steps.specs.declared.begun.Block.{Block}
+use Rattle.steps.specs.declared.begun.Block.TheVariants as block
+use Rattle.steps.specs.declared.counts.ClientCounts.{ClientCounts}
+use Rattle.client_plans.specs.Plans.{IsAgain, IsBlockOf, IsPrepared, are_no_parts, asked_binding, asked_return, is_no_binding, way_reason}
 use Rattle.client_plans.specs.Tasks.{Names}
-use Rattle.client_blocks.specs.declared.left.BlockLeft.{BlockLeft}
-use Rattle.client_plans.specs.declared.counts.ClientCounts.{ClientCounts}
 use Rattle.client_plans.specs.declared.fault.PlanFault.{PlanFault}
-use Rattle.client_plans.specs.declared.plan.BegunBlock.{BegunBlock}
 use Rattle.std.proofs.lemmas.List.Folds.{list_all_at}
 use Rattle.client_plans.proofs.Drafted.{text_of_tag}
 
@@ -79,16 +86,8 @@ module _ (s n : ℕ) (x k : Bytes) (p : ℕ) (t j : Bytes) where
   pub no_fault : (d : Data) (v : Bytes) → way_reason x k ≡ None → Some d ≡ arguments_of j → Some v ≡ sealed_task s n x k p t j → first_reason tests ≡ None
   no_fault d v a e f = spelled d a e ∙ ap (λ o. first_reason (more false (is_none o))) (sym f)
 
--- what is begun of a sealed envelope
-pub published : (w : ClientCounts) (x k : Bytes) (p : ℕ) (t j : Bytes) (args : Data) (v : Bytes) (l : BlockLeft) (d : ℕ) → way_reason x k ≡ None
-    → Some args ≡ arguments_of j → Some v ≡ sealed_task w.seed (suc w.drawn) x k p t j → script_left l ≡ publish_script plain_setting v → d ≡ suc w.drawn
-    → IsPrepared w (asked.Publish x k p t j) (Ok (record { left = l; counts = record { seed = w.seed; drawn = d; passes = w.passes } }))
-published w x k p t j args v l d way e f left drawn =
-    let with_drawn : ℕ → ClientCounts = λ n. record { seed = w.seed; drawn = n; passes = w.passes } in
-    (no_fault w.seed (suc w.drawn) x k p t j args v way e f, (Publish v, ap publish_plan (sym f), (left, ap with_drawn drawn)))
-
 -- an answer to a publication by names that are the same
-pub same_prepared : (w : ClientCounts) (x y k l : Bytes) (p : ℕ) (t u j : Bytes) (r : Result BegunBlock PlanFault) → x ≡ y → k ≡ l → t ≡ u → IsPrepared w (asked.Publish x k p t j) r → IsPrepared w (asked.Publish y l p u j) r
+pub same_prepared : (w : ClientCounts) (x y k l : Bytes) (p : ℕ) (t u j : Bytes) (r : Result Block PlanFault) → x ≡ y → k ≡ l → t ≡ u → IsPrepared w (asked.Publish x k p t j) r → IsPrepared w (asked.Publish y l p u j) r
 same_prepared w x y k l p t u j r a b e h =
     subst (λ z. IsPrepared w (asked.Publish y l p z j) r) e (subst (λ z. IsPrepared w (asked.Publish y z p t j) r) b (subst (λ z. IsPrepared w (asked.Publish z k p t j) r) a h))
 
@@ -103,19 +102,19 @@ pop_name s n qs a = ap (λ y. first_reason (two y (list_any is_reserved qs))) a
 pub pop_reserved : (s n : ℕ) (qs : List Bytes) → list_any is_no_name qs ≡ false → list_any is_reserved qs ≡ true → first_reason (asked_tests program_craft s n (asked.Pop qs)) ≡ Some Reserved
 pop_reserved s n qs a b = ap (λ y. first_reason (two y (list_any is_reserved qs))) a ∙ ap (λ y. first_reason (two false y)) b
 
--- what is begun of names that passed
-pub popped : (w : ClientCounts) (qs : List Bytes) (l : BlockLeft) → list_any is_no_name qs ≡ false → list_any is_reserved qs ≡ false
-    → script_left l ≡ pop_script plain_setting qs → IsPrepared w (asked.Pop qs) (Ok (record { left = l; counts = w }))
-popped w qs l a c left =
-    (ap (λ y. first_reason (two y (list_any is_reserved qs))) a ∙ ap (λ y. first_reason (two false y)) c, (Pop qs, refl, (left, refl)))
+-- the block of names that passed
+pub popped : (w : ClientCounts) (qs ns : List Bytes) → list_any is_no_name qs ≡ false → list_any is_reserved qs ≡ false → ns ≡ qs → 1 ≤ length qs → length qs ≤ 1023
+    → IsPrepared w (asked.Pop qs) (Ok (block.Pop ns))
+popped w qs ns a c e some few =
+    (ap (λ y. first_reason (two y (list_any is_reserved qs))) a ∙ ap (λ y. first_reason (two false y)) c,
+    (Pop qs, refl, (ap (λ l. Ok (Planned (Pop l))) e, (subst (λ l. 1 ≤ length l) (sym e) some, subst (λ l. length l ≤ 1023) (sym e) few))))
 
 -- ---- an acknowledgement
 
--- what is begun of a tag
-pub acknowledged : (w : ClientCounts) (of counter m : ℕ) (l : BlockLeft) → of < 2 ^ 64 → counter < 2 ^ 64 → m ≡ tag_number of counter
-    → script_left l ≡ end_script plain_setting (tag_text m) → IsPrepared w (asked.Ack of counter) (Ok (record { left = l; counts = w }))
-acknowledged w of counter m l h i e left =
-    (refl, (End (tag of counter), refl, (left ∙ ap (λ t. end_script plain_setting t) (ap tag_text e ∙ text_of_tag of counter h i), refl)))
+-- the block of a tag
+pub acknowledged : (w : ClientCounts) (of counter : ℕ) (tag : Tag) → of < 2 ^ 64 → counter < 2 ^ 64 → tag.0 ≡ tag_number of counter → IsPrepared w (asked.Ack of counter) (Ok (block.End tag))
+acknowledged w of counter t h i e =
+    (refl, (End (tag of counter), refl, (ap (λ v. Ok (Planned (End v))) (ap tag_text e ∙ text_of_tag of counter h i), tt)))
 
 -- ---- names
 
@@ -189,27 +188,45 @@ lawful_parts x k p q e f =
     let c = or_false (not (is_part x)) (not (is_part k)) b.0 in
     (not_false (is_part x) c.0, not_false (is_part k) c.1, not_false (is_part p) b.1, lawful q a.1 f)
 
--- what is begun of a lawful binding
-pub declared : (w : ClientCounts) (change : Change) (x k p q : Bytes) (l : BlockLeft) → is_no_binding x k p q ≡ false → is_reserved q ≡ false
-    → script_left l ≡ script_of plain_setting w.seed w.passes (declared_plan change x k p q) → IsPrepared w (asked_binding change x k p q) (Ok (record { left = l; counts = w }))
-declared w Add x k p q l e f left = (two_known (is_no_binding x k p q) (is_reserved q) false false e f, (Declare x k p q, refl, (left, refl)))
-declared w Remove x k p q l e f left = (two_known (is_no_binding x k p q) (is_reserved q) false false e f, (Undeclare x k p q, refl, (left, refl)))
+-- the block of a lawful binding
+pub declared : (w : ClientCounts) (change : Change) (x k p q : Bytes) (b : Block) → is_no_binding x k p q ≡ false → is_reserved q ≡ false
+    → ((c : ClientCounts) → IsBlockOf c (declared_plan change x k p q) b) → IsPrepared w (asked_binding change x k p q) (Ok b)
+declared w Add x k p q b e f h = (two_known (is_no_binding x k p q) (is_reserved q) false false e f, (Declare x k p q, refl, h w))
+declared w Remove x k p q b e f h = (two_known (is_no_binding x k p q) (is_reserved q) false false e f, (Undeclare x k p q, refl, h w))
 
 -- ---- a return
 
--- what is begun of a tag
-pub returned : (w : ClientCounts) (side : Side) (of counter m : ℕ) (l : BlockLeft) → of < 2 ^ 64 → counter < 2 ^ 64 → m ≡ tag_number of counter
-    → script_left l ≡ return_script plain_setting side (tag_text m) → IsPrepared w (asked_return side of counter) (Ok (record { left = l; counts = w }))
-returned w Left of counter m l h i e left =
-    (refl, (Return Left (tag of counter), refl, (left ∙ ap (λ t. return_script plain_setting Left t) (ap tag_text e ∙ text_of_tag of counter h i), refl)))
-returned w Right of counter m l h i e left =
-    (refl, (Return Right (tag of counter), refl, (left ∙ ap (λ t. return_script plain_setting Right t) (ap tag_text e ∙ text_of_tag of counter h i), refl)))
+-- the block of a tag
+pub returned : (w : ClientCounts) (side : Side) (of counter : ℕ) (tag : Tag) → of < 2 ^ 64 → counter < 2 ^ 64 → tag.0 ≡ tag_number of counter → IsPrepared w (asked_return side of counter) (Ok (block.Return tag side))
+returned w Left of counter t h i e =
+    (refl, (Return Left (tag of counter), refl, (ap (λ v. Ok (Planned (Return Left v))) (ap tag_text e ∙ text_of_tag of counter h i), tt)))
+returned w Right of counter t h i e =
+    (refl, (Return Right (tag of counter), refl, (ap (λ v. Ok (Planned (Return Right v))) (ap tag_text e ∙ text_of_tag of counter h i), tt)))
 
--- ---- a pass
+-- ---- the block of an envelope
 
--- what is begun under the token of the client's next pass
-pub passing_begun : (w : ClientCounts) (v m : ℕ) (t : Bytes) (l : BlockLeft) → m ≡ suc w.passes → t ≡ token w.seed m → script_left l ≡ pass_script plain_setting t v
-    → IsPrepared w (asked.Pass v) (Ok (record { left = l; counts = record { seed = w.seed; drawn = w.drawn; passes = m } }))
-passing_begun w v m t l next made left =
-    let with_passes : ℕ → ClientCounts = λ n. record { seed = w.seed; drawn = w.drawn; passes = n } in
-    (refl, (Pass v, refl, (left ∙ ap (λ k. pass_script plain_setting k v) (made ∙ ap (token w.seed) next), ap with_passes next)))
+is_nothing : (o : Option NameFault) → is_none o ≡ true → o ≡ None
+is_nothing None e = refl
+is_nothing (Some f) e = cc
+
+-- a way that passed has no fault
+unfaulted : (x k : Bytes) → way_reason x k ≡ None → way_name_fault x k ≡ None
+unfaulted [] k e = let both = neither (is_no_name k) (is_reserved k) e in is_nothing (name_fault k) (sym (lawful_none k) ∙ lawful k both.0 both.1)
+unfaulted (b ∷ x) k e = refl
+
+-- the tag that a client draws next
+next_is : (w : ClientCounts) (n : ℕ) → n ≡ suc w.drawn → n < 2 ^ 64 → next_tag_of w ≡ Some (tag_number w.seed n)
+next_is w n e low =
+    let test : nat_lt (w.drawn + 1) (2 ^ 64) ≡ true = grind (arith, nat_tests) in
+    let same : w.drawn + 1 ≡ n = omega (arith, e) in
+    ap (λ b. cond b (Some (tag_number w.seed (w.drawn + 1))) None) test ∙ ap (λ m. Some (tag_number w.seed m)) same
+
+-- the block of a sealed envelope
+pub published : (w : ClientCounts) (x k : Bytes) (p : ℕ) (t j : Bytes) (args d : Data) (n : ℕ) (b : Block) → way_reason x k ≡ None
+    → Some args ≡ arguments_of j → Some (compact_text d) ≡ sealed_task w.seed (suc w.drawn) x k p t j → Names x k d → (parts_in d).tag ≡ tag_number w.seed n
+    → n ≡ suc w.drawn → n < 2 ^ 64 → IsAgain d b → IsPrepared w (asked.Publish x k p t j) (Ok b)
+published w x k p t j args d n b way e f names tag next low h =
+    let free : way_name_fault (parts_in d).exchange (parts_in d).routing_key ≡ None =
+    ap (λ y. way_name_fault y (parts_in d).routing_key) names.exchange_is ∙ ap (way_name_fault x) names.routing_key_is ∙ unfaulted x k way in
+    (no_fault w.seed (suc w.drawn) x k p t j args (compact_text d) way e f, (Publish (compact_text d), ap publish_plan (sym f),
+    ((h w).0 ∙ ap (λ o. if_named o (Ok (publish_errand d))) free, (h w).1 (next_is w n next low ∙ ap (λ m. Some m) (sym tag)))))

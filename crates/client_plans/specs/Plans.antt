@@ -1,8 +1,8 @@
 -- What preparing a plan answers, and what may be begun.
 use Rattle.std.specs.Prelude.{◌≡◌, ◌≤◌, ℕ, suc, Bool, not, ◌&&◌, ◌||◌, length, [], ◌∷◌, Option, Result, Ok, Err, None, Some}
-use Rattle.command_blocks.specs.Blocks.{drawn, passes_after}
-use Rattle.command_blocks.specs.EnvelopeTexts.{plain_setting}
-use Rattle.command_blocks.specs.Scripts.{Plan, counter_use, script_of}
+use Rattle.serde_json.specs.Data.{Data}
+use Rattle.envelope.specs.Envelopes.{parts_in}
+use Rattle.command_blocks.specs.Scripts.{Plan}
 use Rattle.command_blocks.specs.declared.side.Side.{Side}
 use Rattle.command_blocks.specs.declared.side.Side.TheVariants.{Left, Right}
 use Rattle.line_text.specs.declared.reason.Reason.{Reason}
@@ -16,11 +16,13 @@ use Rattle.schedule_model.specs.Programs.{program_craft}
 use Rattle.schedule_model.specs.Schedules.{plan_of}
 use Rattle.schedule_model.specs.declared.line.Asked.{Asked}
 use Rattle.schedule_model.specs.declared.line.Asked.TheVariants as asked
-use Rattle.client_blocks.specs.Blocks.{script_left}
-use Rattle.client_plans.specs.declared.counts.ClientCounts.{ClientCounts}
+use Rattle.steps.specs.Begins.{IsLawfulBlock, again_errand, errand_of}
+use Rattle.steps.specs.Clients.{next_tag_of}
+use Rattle.steps.specs.Errands.{Planned}
+use Rattle.steps.specs.declared.begun.Block.{Block}
+use Rattle.steps.specs.declared.counts.ClientCounts.{ClientCounts}
 use Rattle.client_plans.specs.declared.fault.PlanFault.{PlanFault}
 use Rattle.client_plans.specs.declared.fault.PlanFault.TheVariants.{Bad, Memory}
-use Rattle.client_plans.specs.declared.plan.BegunBlock.{BegunBlock}
 
 -- a line can ask for it: a published task has a name, a pop goes over 1 to 1,023 queues
 abbrev pub IsAskable : Asked → Type 0
@@ -60,16 +62,16 @@ is_no_binding x k p q = are_no_parts x k p || is_no_name q
 
 -- ---- answers
 
--- a client's counts after it began a plan
-abbrev pub counts_after : Plan → ClientCounts → ClientCounts
-counts_after p w = record { seed = w.seed; drawn = drawn (counter_use p) w.drawn; passes = passes_after (counter_use p) w.passes }
+-- the block of a plan: a client with these counts begins just that by it, and may be asked to
+abbrev pub IsBlockOf : ClientCounts → Plan → Block → Type 0
+IsBlockOf w p b = (errand_of w b ≡ Ok (Planned p)) × IsLawfulBlock w b
 
--- what is begun by the plan of a client with these counts
-abbrev pub IsBegun : ClientCounts → Plan → BegunBlock → Type 0
-IsBegun w p b = (script_left b.left ≡ script_of plain_setting w.seed w.passes p) × (b.counts ≡ counts_after p w)
+-- the block publishes an envelope of this tree, which has its client's next tag
+abbrev pub IsAgain : Data → Block → Type 0
+IsAgain d b = (w : ClientCounts) → (errand_of w b ≡ again_errand d) × (next_tag_of w ≡ Some (parts_in d).tag → IsLawfulBlock w b)
 
--- an answer to what a client with these counts asks to begin: its plan is begun, or the first of its tests that holds; want of memory may be answered at any time
-abbrev pub IsPrepared : ClientCounts → Asked → Result BegunBlock PlanFault → Type 0
-IsPrepared w a (Ok b) = (first_reason (asked_tests program_craft w.seed (suc w.drawn) a) ≡ None) × ((p : Plan) × (plan_of program_craft w.seed (suc w.drawn) a ≡ Some p) × IsBegun w p b)
+-- an answer to what a client with these counts asks to begin: the block of its plan, or the first of its tests that holds; want of memory may be answered at any time
+abbrev pub IsPrepared : ClientCounts → Asked → Result Block PlanFault → Type 0
+IsPrepared w a (Ok b) = (first_reason (asked_tests program_craft w.seed (suc w.drawn) a) ≡ None) × ((p : Plan) × (plan_of program_craft w.seed (suc w.drawn) a ≡ Some p) × IsBlockOf w p b)
 IsPrepared w a (Err (Bad r)) = first_reason (asked_tests program_craft w.seed (suc w.drawn) a) ≡ Some r
 IsPrepared w a (Err Memory) = Unit {0}

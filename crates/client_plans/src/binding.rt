@@ -3,30 +3,29 @@ ghost use Rattle.std.specs.Prelude.{◌≡◌, IfOk, true};
 ghost use Rattle.queue_keys.specs.Bindings.{is_part};
 ghost use Rattle.queue_keys.specs.Names.{is_name};
 ghost use Rattle.routes.specs.Declares.{declaration_plan, declared_plan};
-ghost use Rattle.client_plans.specs.Plans.{IsPrepared, are_no_parts, asked_binding, is_no_binding};
+ghost use Rattle.steps.specs.declared.counts.ClientCounts.{ClientCounts};
+ghost use Rattle.client_plans.specs.Plans.{IsBlockOf, IsPrepared, are_no_parts, asked_binding, is_no_binding};
 
+use crate::PlanFault;
 use crate::names::{is_no_name, queue_name};
-use crate::plan::BegunBlock;
-use crate::{ClientCounts, PlanFault};
-use client_blocks::BlockLeft;
 use line_text::Reason;
 use lookups::is_part;
 use queue_keys::is_reserved;
 use routes::{Change, Declaration};
 use std::alloc::{AllocError, Global};
+use steps::Block;
 use wire_values::Bytes;
 
 /// A binding that goes into its exchange's set, or out of it.
 pub(crate) fn declaring(
     alloc: Global,
-    counts: ClientCounts,
     change: Change,
     exchange: &Bytes,
     routing_key: &Bytes,
     pattern: &Bytes,
     queue: &Bytes,
-) -> Result<BegunBlock, PlanFault>
-    ensures { IsPrepared counts
+) -> Result<Block, PlanFault>
+    ensures { (w : ClientCounts) → IsPrepared w
         (asked_binding change exchange.now routing_key.now pattern.now queue.now) result }
 {
     if is_no_binding(exchange, routing_key, pattern, queue) {
@@ -36,8 +35,14 @@ pub(crate) fn declaring(
         return Err(PlanFault::Bad(Reason::Reserved));
     }
     let declaration = declaration_of(alloc, change, exchange, routing_key, pattern, queue)?;
-    let left = BlockLeft::declaration(alloc, declaration)?;
-    Ok(BegunBlock { left, counts })
+    Ok(block_of(alloc, declaration)?)
+}
+
+/// The block of a declaration.
+fn block_of(alloc: Global, declaration: Declaration) -> Result<Block, AllocError>
+    ensures { IfOk result (λ block. (w : ClientCounts) → IsBlockOf w (declaration_plan declaration) block) }
+{
+    Ok(Block::Declare(Box::new(alloc, declaration)?))
 }
 
 /// Whether these aren't the parts of a binding, or no queue's name is spelled so, reserved or not.

@@ -1,52 +1,37 @@
-//! What a client begins, prepared: the tests of the line, and the block's first state.
-ghost use Rattle.std.specs.Prelude.{◌≡◌, ◌≤◌, IfOk, None, Some, length};
+//! What a client begins, prepared: the tests of the line, and the block.
+ghost use Rattle.std.specs.Prelude.{◌≡◌, ◌≤◌, IfOk, Ok, None, Some, length};
 ghost use Rattle.serde_json.specs.View.{view as data_of};
-ghost use Rattle.command_blocks.specs.EnvelopeTexts.{plain_setting};
 ghost use Rattle.queue_keys.specs.Names.{Bytes};
-ghost use Rattle.command_blocks.specs.Scripts.{publish_script};
 ghost use Rattle.schedule_model.specs.Drafts.{arguments_of, if_arguments};
-ghost use Rattle.routes.specs.Publishes.{IsPublishable};
-ghost use Rattle.client_blocks.specs.Blocks.{script_left};
 ghost use Rattle.schedule_model.specs.declared.line.Asked.TheVariants.{Ack, Pass, Pop, Publish};
-ghost use Rattle.client_plans.specs.Plans.{IsAskable, IsPrepared, asked_return, way_reason};
-ghost use Rattle.client_plans.specs.Tasks.{envelope_text};
+ghost use Rattle.steps.specs.declared.counts.ClientCounts.{ClientCounts};
+ghost use Rattle.client_plans.specs.Plans.{IsAgain, IsAskable, IsPrepared, asked_return, way_reason};
 
+use crate::PlanFault;
 use crate::arguments::arguments_of;
 use crate::binding::declaring;
 use crate::names::{has_no_name, has_reserved, queue_names, way_fault};
 use crate::task::{Publication, sealed_task};
-use crate::{ClientCounts, PlanFault};
-use client_blocks::BlockLeft;
 use command_blocks::Side;
 use envelope::{Envelope, Tag, Tree};
 use letters::Letters;
 use line_text::Reason;
-use passes::pass_token;
 use routes::Change;
 use schedule_model::Asked;
 use std::alloc::{AllocError, Global};
+use steps::{Block, ClientCounts};
 use wire_values::{Bytes, Words};
-
-/// A block that was begun, and its client's counts from then on.
-#[derive(Drop)]
-pub struct BegunBlock {
-    /// What its client has left to say of it.
-    pub left: BlockLeft,
-    /// The counts of its client.
-    pub counts: ClientCounts,
-}
 
 /// What a client with these counts asks to begin.
 ///
 /// # Errors
-/// `Bad` with the first reason that holds; `Memory` is want of memory, or of a tag or a token that the client could
-/// draw.
+/// `Bad` with the first reason that holds; `Memory` is want of memory, or of a tag that the client could draw.
 pub fn prepared(
     alloc: Global,
     letters: &mut Letters,
     counts: ClientCounts,
     asked: &Asked,
-) -> Result<BegunBlock, PlanFault>
+) -> Result<Block, PlanFault>
     requires { IsAskable asked.now }
     ensures { IsPrepared counts asked.now result }
 {
@@ -77,7 +62,6 @@ pub fn prepared(
         } => {
             declaring(
                 alloc,
-                counts,
                 Change::Add,
                 exchange,
                 routing_key,
@@ -93,7 +77,6 @@ pub fn prepared(
         } => {
             declaring(
                 alloc,
-                counts,
                 Change::Remove,
                 exchange,
                 routing_key,
@@ -101,17 +84,11 @@ pub fn prepared(
                 queue,
             )
         }
-        Asked::Pop { queues } => popping(alloc, counts, queues),
-        Asked::Ack { seed: of, counter } => acknowledging(alloc, counts, *of, *counter),
-        Asked::Restore { seed: of, counter } => returning(
-            alloc,
-            counts,
-            Side::Right,
-            *of,
-            *counter,
-        ),
-        Asked::Requeue { seed: of, counter } => returning(alloc, counts, Side::Left, *of, *counter),
-        Asked::Pass { visibility } => passing(alloc, counts, *visibility),
+        Asked::Pop { queues } => popping(alloc, queues),
+        Asked::Ack { seed: of, counter } => Ok(acknowledging(*of, *counter)),
+        Asked::Restore { seed: of, counter } => Ok(returning(Side::Right, *of, *counter)),
+        Asked::Requeue { seed: of, counter } => Ok(returning(Side::Left, *of, *counter)),
+        Asked::Pass { visibility } => Ok(passing(*visibility)),
     }
 }
 
@@ -125,7 +102,7 @@ fn publication(
     priority: u8,
     task: &Bytes,
     text: &Bytes,
-) -> Result<BegunBlock, PlanFault>
+) -> Result<Block, PlanFault>
     requires { 1 ≤ length task.now }
     ensures { IsPrepared counts (Publish exchange.now routing_key.now priority task.now text.now) result }
 {
@@ -151,7 +128,7 @@ fn sealing(
     counts: ClientCounts,
     asked: &Publication,
     arguments: Tree,
-) -> Result<BegunBlock, PlanFault>
+) -> Result<Block, PlanFault>
     requires way { way_reason asked.now.exchange.now asked.now.routing_key.now ≡ None }
     requires task { 1 ≤ length asked.now.task.now }
     requires lawful { if_arguments (data_of arguments) ≡ Some (data_of arguments) }
@@ -166,30 +143,22 @@ fn sealing(
     let Some(envelope) = sealed_task(alloc, counts.seed, counter, asked, arguments)? else {
         return Err(PlanFault::Bad(Reason::Task));
     };
-    let left = sent(alloc, letters, envelope)?;
-    let counts = ClientCounts {
-        seed: counts.seed,
-        drawn: counter,
-        passes: counts.passes,
-    };
-    Ok(BegunBlock { left, counts })
+    Ok(sent(alloc, letters, envelope)?)
 }
 
-/// An envelope on its way to its queues, which is noted.
-fn sent(alloc: Global, letters: &mut Letters, envelope: Envelope) -> Result<BlockLeft, AllocError>
-    requires { IsPublishable (data_of envelope) }
-    ensures { IfOk result (λ left. script_left left ≡ publish_script plain_setting (envelope_text envelope)) }
+/// An envelope that has its client's next tag, on its way to its queues; it is noted.
+fn sent(alloc: Global, letters: &mut Letters, envelope: Envelope) -> Result<Block, AllocError>
+    ensures { IfOk result (IsAgain (data_of envelope)) }
 {
     letters.note(alloc, &envelope)?;
-    let _text = envelope.text();
-    BlockLeft::publication(alloc, envelope)
+    Ok(Block::Again(Box::new(alloc, envelope)?))
 }
 
 /// A pop over queues.
-fn popping(alloc: Global, counts: ClientCounts, queues: &Words) -> Result<BegunBlock, PlanFault>
+fn popping(alloc: Global, queues: &Words) -> Result<Block, PlanFault>
     requires some { 1 ≤ length queues.now }
     requires few { length queues.now ≤ 1023 }
-    ensures { IsPrepared counts (Pop queues.now) result }
+    ensures { (w : ClientCounts) → IsPrepared w (Pop queues.now) result }
 {
     if has_no_name(queues.as_slice()) {
         return Err(PlanFault::Bad(Reason::Name));
@@ -198,51 +167,29 @@ fn popping(alloc: Global, counts: ClientCounts, queues: &Words) -> Result<BegunB
         return Err(PlanFault::Bad(Reason::Reserved));
     }
     let names = queue_names(alloc, queues.as_slice())?;
-    let left = BlockLeft::pop(alloc, names)?;
-    Ok(BegunBlock { left, counts })
+    Ok(Block::Pop(names))
 }
 
 /// An acknowledgement of a tag.
-fn acknowledging(
-    alloc: Global,
-    counts: ClientCounts,
-    of: u64,
-    counter: u64,
-) -> Result<BegunBlock, PlanFault>
-    ensures { IsPrepared counts (Ack of counter) result }
+fn acknowledging(of: u64, counter: u64) -> Block
+    ensures { (w : ClientCounts) → IsPrepared w (Ack of counter) (Ok result) }
 {
-    let left = BlockLeft::acknowledgement(alloc, Tag::of(of, counter))?;
-    Ok(BegunBlock { left, counts })
+    Block::End(Tag::of(of, counter))
 }
 
 /// A return of a tag's message to its queues, at this side of them.
-fn returning(
-    alloc: Global,
-    counts: ClientCounts,
-    side: Side,
-    of: u64,
-    counter: u64,
-) -> Result<BegunBlock, PlanFault>
-    ensures { IsPrepared counts (asked_return side of counter) result }
+fn returning(side: Side, of: u64, counter: u64) -> Block
+    ensures { (w : ClientCounts) → IsPrepared w (asked_return side of counter) (Ok result) }
 {
-    let left = BlockLeft::returning(alloc, Tag::of(of, counter), side)?;
-    Ok(BegunBlock { left, counts })
+    Block::Return {
+        tag: Tag::of(of, counter),
+        side,
+    }
 }
 
 /// A pass over the messages that have been unacknowledged for so many seconds.
-fn passing(alloc: Global, counts: ClientCounts, visibility: u32) -> Result<BegunBlock, PlanFault>
-    ensures { IsPrepared counts (Pass visibility) result }
+fn passing(visibility: u32) -> Block
+    ensures { (w : ClientCounts) → IsPrepared w (Pass visibility) (Ok result) }
 {
-    // No history has room for 2^64 passes.
-    let Some(number) = counts.passes.checked_add(1) else {
-        return Err(PlanFault::Memory);
-    };
-    let token = pass_token(alloc, counts.seed, number)?;
-    let left = BlockLeft::passing(alloc, visibility, token)?;
-    let counts = ClientCounts {
-        seed: counts.seed,
-        drawn: counts.drawn,
-        passes: number,
-    };
-    Ok(BegunBlock { left, counts })
+    Block::Pass { visibility }
 }

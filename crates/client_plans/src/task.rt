@@ -1,9 +1,10 @@
 //! The task that a publish line drafts, and its sealed envelope (Celery's message protocol, version 2).
-ghost use Rattle.std.specs.Prelude.{◌≡◌, ◌≤◌, IfOk, IfSome, IsUtf8, Some, length, option_map};
+ghost use Rattle.std.specs.Prelude.{◌≡◌, ◌≤◌, ◌<◌, ◌^◌, IfOk, IfSome, IsUtf8, Some, length, option_map};
 ghost use Rattle.std.specs.Result.{result_ok};
 ghost use Rattle.std.specs.Str.{is_utf8};
 ghost use Rattle.serde_json.specs.View.{view as data_of};
-ghost use Rattle.delivery_tags.specs.Tags.{tag_text};
+ghost use Rattle.delivery_tags.specs.Tags.{tag_number, tag_text};
+ghost use Rattle.envelope.specs.Envelopes.{parts_in};
 ghost use Rattle.sealed_drafts.specs.Sealed.{seal_of};
 ghost use Rattle.queue_keys.specs.Names.{Bytes};
 ghost use Rattle.task_message.specs.Shown.{task_view};
@@ -47,6 +48,8 @@ pub(crate) fn sealed_task(
         asked.now.exchange.now asked.now.routing_key.now asked.now.priority asked.now.task.now j) }
     ensures names { IfOk result (λ made. IfSome made (λ e.
         Names asked.now.exchange.now asked.now.routing_key.now (data_of e))) }
+    ensures tag { IfOk result (λ made. IfSome made (λ e.
+        (parts_in (data_of e)).tag ≡ tag_number seed counter)) }
 {
     if !are_texts(asked) {
         return Ok(None);
@@ -118,12 +121,14 @@ fn task_of(alloc: Global, tag: Tag, name: &[u8], arguments: Tree) -> Result<Task
 
 /// The envelope of a draft under a tag. None where it is refused.
 fn sealed_draft(alloc: Global, draft: &Draft, tag: Tag) -> Result<Option<Envelope>, AllocError>
+    requires tag { tag.0 < 2 ^ 128 }
     requires id { IsUtf8 draft.now.id }
     requires exchange { IsUtf8 draft.now.exchange }
     requires routing_key { IsUtf8 draft.now.routing_key }
     ensures tree { IfOk result (λ made. option_map data_of made ≡ result_ok (seal_of draft.now tag.0)) }
     ensures names { IfOk result (λ made. IfSome made (λ e.
         Names draft.now.exchange draft.now.routing_key (data_of e))) }
+    ensures tag { IfOk result (λ made. IfSome made (λ e. (parts_in (data_of e)).tag ≡ tag.0)) }
 {
     match seal(alloc, draft, tag) {
         Ok(envelope) => {

@@ -1,13 +1,18 @@
 -- What a client says of its block, one command after the other.
-use Rattle.std.proofs.Common.{◌≡◌, ℕ, Bool, true, false, cond, refl, sym, ap, ◌∙◌, None, Some}
-use Rattle.std.specs.Prelude.{unwrap_or}
+use Rattle.std.proofs.Common.{◌≡◌, ℕ, Bool, true, false, cond, refl, sym, ap, ◌∙◌, None, Some, Result, Ok, Err}
+use Rattle.std.specs.Prelude.{⊤, unwrap_or}
 use Rattle.store_model.specs.Store.{apply_of}
 use Rattle.store_model.specs.Words.{Words}
 use Rattle.command_blocks.specs.Scripts.{Script, Over, Off, Say, next_words}
 use Rattle.schedule_model.specs.Costs.{is_full}
 use Rattle.schedule_model.specs.Desk.{ScheduleReader, Said, said_all, said_one, with_call}
 use Rattle.schedule_model.specs.Faults.{has_more}
-use Rattle.client_blocks.specs.Lefts.{after_answer}
+use Rattle.store_model.specs.declared.reply.Reply.{Reply}
+use Rattle.block_core.specs.declared.fault.ReplyFault.{ReplyFault}
+use Rattle.block_core.specs.declared.fault.ReplyFault.TheVariants.{Refused, Memory}
+use Rattle.steps.specs.Goings.{HasTakenReply, script_after}
+use Rattle.client_core.specs.Works.{client_left, lacked}
+use Rattle.client_core.specs.declared.client.ClientCore.{ClientCore}
 
 false_true : false ≡ true → ⊥
 false_true e = cc
@@ -34,7 +39,7 @@ said_full d c at (Say w go) ws e full = let r = apply_of d.store d.moment c (w d
 
 -- where it has
 pub said_next : (d : ScheduleReader) (c : ℕ) (s : Script) (ws : Words) → next_words s d.moment ≡ Some ws → is_full d.entries ≡ false
-    → said_one d c s ≡ record { desk = with_call d c ws (apply_of d.store d.moment c ws); left = after_answer s (apply_of d.store d.moment c ws).1.answer; room = true }
+    → said_one d c s ≡ record { desk = with_call d c ws (apply_of d.store d.moment c ws); left = script_after s (apply_of d.store d.moment c ws).1; room = true }
 said_next d c Over ws e room = absurd (none_some e)
 said_next d c Off ws e room = absurd (none_some e)
 said_next d c (Say w go) ws e room =
@@ -42,13 +47,7 @@ said_next d c (Say w go) ws e room =
     ap (λ b. cond b (record { desk = d; left = Say w go; room = false }) (record { desk = with_call d c (w d.moment) r; left = go r.1.answer; room = true })) room
     ∙ ap (λ u. record { desk = with_call d c u (apply_of d.store d.moment c u); left = go (apply_of d.store d.moment c u).1.answer; room = true }) (same_some _ _ e)
 
--- who has words has more to say
-pub more_next : (s : Script) (at : ℕ) (ws : Words) → next_words s at ≡ Some ws → has_more s ≡ true
-more_next Over at ws e = absurd (none_some e)
-more_next Off at ws e = absurd (none_some e)
-more_next (Say w go) at ws e = refl
-
--- who has none hasn't
+-- who has no words has nothing more to say
 pub more_none : (s : Script) (at : ℕ) → next_words s at ≡ None → has_more s ≡ false
 more_none Over at e = refl
 more_none Off at e = refl
@@ -87,3 +86,11 @@ pub said_whole : (d : ScheduleReader) (c : ℕ) (s : Script) → has_more s ≡ 
 said_whole d c Over h = refl
 said_whole d c Off h = refl
 said_whole d c (Say w go) h = absurd (false_true (sym h))
+
+-- ---- replies
+
+-- a reply that was taken, listed or not
+pub taken_listed : (old new : ClientCore) (r : Reply) (result : Result ⊤ ReplyFault) → HasTakenReply client_left (λ (s : ClientCore). s.spent) old new r result → lacked result ≡ false → client_left new ≡ script_after (client_left old) r
+taken_listed old new r (Ok u) h e = h.0
+taken_listed old new r (Err (Refused given)) h e = h.0
+taken_listed old new r (Err Memory) h e = absurd (false_true (sym e))

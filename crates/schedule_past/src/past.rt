@@ -1,17 +1,20 @@
 //! What happened so far: the present moment, the history with its running cost, and the store.
-ghost use Rattle.std.specs.Prelude.{◌≡◌, ◌<◌, ◌+◌, IfOk, OnOk, Some, true};
+ghost use Rattle.std.specs.Prelude.{◌≡◌, ◌<◌, ◌+◌, IfOk, IsSome, OnOk, Some, true};
 ghost use Rattle.place_model.specs.Shown.{has_stopped, history_of};
 ghost use Rattle.store_model.specs.Limits.{moment_limit};
 ghost use Rattle.schedule_model.specs.Costs.{reply_size, total_cost, words_size};
 ghost use Rattle.schedule_model.specs.Faults.{has_more, has_number, has_seed};
-ghost use Rattle.client_blocks.specs.Blocks.{script_left};
-ghost use Rattle.client_blocks.specs.Lefts.{after_answer};
+ghost use Rattle.command_blocks.specs.Scripts.{next_words};
+ghost use Rattle.steps.specs.Goings.{script_after};
+ghost use Rattle.client_core.specs.Works.{client_left, core_client, lacked};
 
 use crate::cost::call_cost;
-use client_blocks::BlockLeft;
+use block_core::ReplyFault;
+use client_core::ClientCore;
 use mini_store::Store;
 use place_model::{Entry, History};
 use std::alloc::{AllocError, Global};
+use steps::Steps;
 use store_model::Reply;
 use wire_values::Words;
 
@@ -46,7 +49,6 @@ impl Past {
     ghost use Rattle.place_model.specs.declared.history.Entry.TheVariants.{Call, Stop};
     ghost use Rattle.store_model.specs.Store.{apply_of, gone_of};
     ghost use Rattle.wire_grammar.specs.Fits.{IsWithinLimits};
-    ghost use Rattle.command_blocks.specs.Scripts.{next_words};
     ghost use Rattle.schedule_model.specs.Costs.{is_full};
     ghost use Rattle.schedule_model.specs.Desk.{ClientBook, first_desk, said_all, said_one, with_call};
     ghost use Rattle.schedule_past.specs.Clients.{HasSameClients, HasSameGoneBut, HasSameTable};
@@ -110,18 +112,19 @@ impl Past {
         alloc: Global,
         client: u32,
         words: Words,
-        left: &mut BlockLeft,
+        core: &mut ClientCore,
     ) -> Result<(), AllocError>
         requires known { has_number client (history_of self.old.history).clients ≡ true }
         requires running { has_stopped client (history_of self.old.history).entries ≡ false }
         requires limits { IsWithinLimits words }
-        requires next { next_words (script_left left.old) self.old.moment ≡ Some words }
+        requires next { next_words (client_left core.old) self.old.moment ≡ Some words }
         ensures desk { OnOk result ((bs : FinMap nat_cmp ClientBook) → desk_with self.new bs ≡ with_call (desk_with self.old bs) client words (apply_of self.old.store.state self.old.moment client words)) }
-        ensures left { OnOk result (script_left left.new ≡ after_answer (script_left left.old) (apply_of self.old.store.state self.old.moment client words).1.answer) }
+        ensures left { OnOk result (client_left core.new ≡ script_after (client_left core.old) (apply_of self.old.store.state self.old.moment client words).1) }
+        ensures counts { core_client core.new ≡ core_client core.old }
         ensures clients { HasSameClients self.old self.new }
     {
         let reply = self.store.apply(alloc, self.moment, client, &words)?;
-        self.hear(alloc, client, words, reply, left)
+        self.hear(alloc, client, words, reply, core)
     }
 
     /// The store answered a call of these words, which are the next of the client's block: the block goes on, and the call
@@ -132,17 +135,18 @@ impl Past {
         client: u32,
         words: Words,
         reply: Reply,
-        left: &mut BlockLeft,
+        core: &mut ClientCore,
     ) -> Result<(), AllocError>
         requires known { has_number client (history_of self.old.history).clients ≡ true }
         requires running { has_stopped client (history_of self.old.history).entries ≡ false }
         requires limits { IsWithinLimits words }
-        requires asked { has_more (script_left left.old) ≡ true }
+        requires asked { IsSome (next_words (client_left core.old) self.old.moment) }
         ensures desk { OnOk result ((bs : FinMap nat_cmp ClientBook) → desk_with self.new bs ≡ record (desk_with self.old bs) { entries = (history_of self.old.history).entries ++ Call client self.old.moment words reply ∷ [] }) }
-        ensures left { OnOk result (script_left left.new ≡ after_answer (script_left left.old) reply.answer) }
+        ensures left { OnOk result (client_left core.new ≡ script_after (client_left core.old) reply) }
+        ensures counts { core_client core.new ≡ core_client core.old }
         ensures clients { HasSameClients self.old self.new }
     {
-        let cost = answered(alloc, self.moment, self.cost, &words, &reply, left)?;
+        let cost = answered(alloc, self.moment, self.cost, &words, &reply, core)?;
         self.note(alloc, client, words, reply, cost)
     }
 
@@ -197,21 +201,22 @@ impl Past {
         &mut self,
         alloc: Global,
         client: u32,
-        left: &mut BlockLeft,
+        core: &mut ClientCore,
     ) -> Result<bool, AllocError>
         requires known { has_number client (history_of self.old.history).clients ≡ true }
         requires running { has_stopped client (history_of self.old.history).entries ≡ false }
-        ensures said { IfOk result (λ room. (bs : FinMap nat_cmp ClientBook) → said_one (desk_with self.old bs) client (script_left left.old) ≡ record { desk = desk_with self.new bs; left = script_left left.new; room = room }) }
-        ensures fewer { IfOk result (λ room. room ≡ true → has_more (script_left left.old) ≡ true → room_left self.new < room_left self.old) }
+        ensures said { IfOk result (λ room. (bs : FinMap nat_cmp ClientBook) → said_one (desk_with self.old bs) client (client_left core.old) ≡ record { desk = desk_with self.new bs; left = client_left core.new; room = room }) }
+        ensures fewer { IfOk result (λ room. room ≡ true → has_more (client_left core.old) ≡ true → room_left self.new < room_left self.old) }
+        ensures counts { core_client core.new ≡ core_client core.old }
         ensures clients { HasSameClients self.old self.new }
     {
-        let Some(words) = left.next(alloc, self.moment)? else {
+        let Some(words) = core.next(alloc, self.moment)? else {
             return Ok(true);
         };
         if self.is_full() {
             return Ok(false);
         }
-        self.call(alloc, client, words, left)?;
+        self.call(alloc, client, words, core)?;
         Ok(true)
     }
 
@@ -220,15 +225,16 @@ impl Past {
         &mut self,
         alloc: Global,
         client: u32,
-        left: &mut BlockLeft,
+        core: &mut ClientCore,
     ) -> Result<bool, AllocError>
         requires known { has_number client (history_of self.old.history).clients ≡ true }
         requires running { has_stopped client (history_of self.old.history).entries ≡ false }
-        ensures said { IfOk result (λ room. (bs : FinMap nat_cmp ClientBook) → said_all (desk_with self.old bs) client (script_left left.old) ≡ record { desk = desk_with self.new bs; left = script_left left.new; room = room }) }
+        ensures said { IfOk result (λ room. (bs : FinMap nat_cmp ClientBook) → said_all (desk_with self.old bs) client (client_left core.old) ≡ record { desk = desk_with self.new bs; left = client_left core.new; room = room }) }
+        ensures counts { core_client core.new ≡ core_client core.old }
         ensures clients { HasSameClients self.old self.new }
     {
-        while left.has_more() {
-            let has_room = self.say_one(alloc, client, left)?;
+        while core.has_more() {
+            let has_room = self.say_one(alloc, client, core)?;
             if !has_room {
                 return Ok(false);
             }
@@ -244,14 +250,15 @@ fn answered(
     before: u64,
     words: &Words,
     reply: &Reply,
-    left: &mut BlockLeft,
+    core: &mut ClientCore,
 ) -> Result<u64, AllocError>
     requires moment { moment < moment_limit }
-    requires asked { has_more (script_left left.old) ≡ true }
-    ensures left { OnOk result (script_left left.new ≡ after_answer (script_left left.old) reply.now.answer) }
+    requires asked { IsSome (next_words (client_left core.old) moment) }
+    ensures left { OnOk result (client_left core.new ≡ script_after (client_left core.old) reply.now) }
     ensures cost { IfOk result (λ cost. cost ≡ before + (64 + words_size words.now + reply_size reply.now)) }
+    ensures counts { core_client core.new ≡ core_client core.old }
 {
-    left.took(alloc, moment, reply)?;
+    take_reply(alloc, moment, reply, core)?;
     let Some(cost) = call_cost(words.as_slice(), reply) else {
         return Err(AllocError);
     };
@@ -259,6 +266,35 @@ fn answered(
         return Err(AllocError);
     };
     Ok(cost)
+}
+
+/// Has a client take the reply to its next command, listed or not: one that isn't listed stops it.
+fn take_reply(
+    alloc: Global,
+    moment: u64,
+    reply: &Reply,
+    core: &mut ClientCore,
+) -> Result<(), AllocError>
+    requires moment { moment < moment_limit }
+    requires asked { IsSome (next_words (client_left core.old) moment) }
+    ensures left { OnOk result (client_left core.new ≡ script_after (client_left core.old) reply.now) }
+    ensures counts { core_client core.new ≡ core_client core.old }
+{
+    let heard = core.took(alloc, moment, reply);
+    if lacks_memory(&heard) {
+        return Err(AllocError);
+    }
+    Ok(())
+}
+
+/// Whether a client lacked the memory to take a reply.
+fn lacks_memory(heard: &Result<(), ReplyFault>) -> bool
+    ensures { result ≡ lacked heard.now }
+{
+    match heard {
+        Ok(()) | Err(ReplyFault::Refused(_)) => false,
+        Err(ReplyFault::Memory) => true,
+    }
 }
 
 /// Whether a client has this number.

@@ -1,17 +1,16 @@
-use Rattle.std.proofs.Common.{false, true, sym, ap, ◌∙◌}
+use Rattle.std.proofs.Common.{sym, subst, ap, ◌∙◌}
 use Rattle.queue_keys.specs.Names.{is_reserved}
-use Rattle.command_blocks.specs.EnvelopeTexts.{plain_setting}
-use Rattle.command_blocks.specs.Scripts.{script_of}
+use Rattle.client_plans.specs.Plans.{IsBlockOf}
 use Rattle.client_plans.proofs.Preparing.{bad_part, bad_queue, declared, lawful_parts}
 use Rattle.client_plans.proofs.binding.declaring.Goals as goal
 
 pub returns-then-is_no_binding : goal.returns-then-is_no_binding
-returns-then-is_no_binding c = let a = c.args in bad_part a.counts.seed _ a.change a.exchange.now a.routing_key.now a.pattern.now a.queue.now (sym c.is_no_binding.ensures ∙ c.if-is_no_binding.true)
+returns-then-is_no_binding c = λ w. let a = c.args in bad_part w.seed _ a.change a.exchange.now a.routing_key.now a.pattern.now a.queue.now (sym c.is_no_binding.ensures ∙ c.if-is_no_binding.true)
 
 pub returns-then-is_reserved : goal.returns-then-is_reserved
-returns-then-is_reserved c =
+returns-then-is_reserved c = λ w.
     let a = c.args in
-    bad_queue a.counts.seed _ a.change a.exchange.now a.routing_key.now a.pattern.now a.queue.now (sym c.is_no_binding.ensures ∙ c.if-is_no_binding.false) (ap is_reserved (sym c.as_slice.ensures) ∙ sym c.is_reserved.ensures ∙ c.if-is_reserved.true)
+    bad_queue w.seed _ a.change a.exchange.now a.routing_key.now a.pattern.now a.queue.now (sym c.is_no_binding.ensures ∙ c.if-is_no_binding.false) (ap is_reserved (sym c.as_slice.ensures) ∙ sym c.is_reserved.ensures ∙ c.if-is_reserved.true)
 
 pub declaration_of-requires-clause-exchange : goal.declaration_of-requires-clause-exchange
 declaration_of-requires-clause-exchange c =
@@ -30,7 +29,7 @@ declaration_of-requires-clause-queue c =
     let a = c.args in (lawful_parts a.exchange.now a.routing_key.now a.pattern.now a.queue.now (sym c.is_no_binding.ensures ∙ c.if-is_no_binding.false) (ap is_reserved (sym c.as_slice.ensures) ∙ sym c.is_reserved.ensures ∙ c.if-is_reserved.false)).3
 
 pub returns : goal.returns
-returns c =
+returns c = λ w.
     let a = c.args in
-    declared a.counts a.change a.exchange.now a.routing_key.now a.pattern.now a.queue.now c.in_ok-left.left (sym c.is_no_binding.ensures ∙ c.if-is_no_binding.false) (ap is_reserved (sym c.as_slice.ensures) ∙ sym c.is_reserved.ensures ∙ c.if-is_reserved.false)
-    (c.in_ok-left.ensures a.counts.seed a.counts.passes ∙ ap (script_of plain_setting a.counts.seed a.counts.passes) c.in_ok-declaration.ensures)
+    declared w a.change a.exchange.now a.routing_key.now a.pattern.now a.queue.now _ (sym c.is_no_binding.ensures ∙ c.if-is_no_binding.false) (ap is_reserved (sym c.as_slice.ensures) ∙ sym c.is_reserved.ensures ∙ c.if-is_reserved.false)
+    (λ v. subst (λ p. IsBlockOf v p c.in_ok-block_of.field-0) c.in_ok-declaration.ensures (c.in_ok-block_of.ensures v))

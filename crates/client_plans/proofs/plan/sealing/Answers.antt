@@ -2,7 +2,7 @@ use Rattle.std.proofs.Common.{rules, ◌≡◌, suc, Some, option_map, sym, ap, 
 use Rattle.serde_json.specs.View.{view as data_of}
 use Rattle.client_plans.specs.Tasks.{envelope_text}
 use Rattle.schedule_model.specs.Drafts.{sealed_task}
-use Rattle.client_plans.proofs.Preparing.{bad_task, publishable, published}
+use Rattle.client_plans.proofs.Preparing.{bad_task, published}
 use Rattle.client_plans.proofs.plan.sealing.Goals as goal
 
 pub returns-in_default-2 : goal.returns-in_default-2
@@ -18,8 +18,5 @@ returns c = λ j spells.
     let more : c.in-Some.counter ≡ suc c.args.counts.drawn = search rules in
     let sealed_so : Some (envelope_text c.in-Some-2.envelope) ≡ sealed_task c.args.counts.seed (suc c.args.counts.drawn) a.exchange.now a.routing_key.now a.priority a.task.now j =
     ap (option_map envelope_text) (sym c.in-Some-2.is) ∙ c.in_ok-envelope.ensures.text j spells ∙ ap (λ n. sealed_task c.args.counts.seed n a.exchange.now a.routing_key.now a.priority a.task.now j) more in
-    published c.args.counts a.exchange.now a.routing_key.now a.priority a.task.now j _ (envelope_text c.in-Some-2.envelope) c.in_ok-left.left c.in-Some.counter
-    c.requires.way (sym spells) sealed_so c.in_ok-left.ensures more
-
-pub sent-requires : goal.sent-requires
-sent-requires c = let a = c.args.asked.now in publishable a.exchange.now a.routing_key.now (data_of c.in-Some-2.envelope) c.requires.way (search rules)
+    published c.args.counts a.exchange.now a.routing_key.now a.priority a.task.now j _ (data_of c.in-Some-2.envelope) c.in-Some.counter _
+    c.requires.way (sym spells) sealed_so (search rules) (search rules) more (search rules) c.in_ok-sent.ensures

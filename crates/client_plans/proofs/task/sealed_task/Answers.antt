@@ -1,11 +1,11 @@
-use Rattle.std.proofs.Common.{sym, subst}
+use Rattle.std.proofs.Common.{◌<◌, ◌^◌, sym, subst, ◌∙◌}
 use Rattle.std.specs.Prelude.{IsUtf8}
 use Rattle.serde_json.specs.View.{view as data_of}
 use Rattle.delivery_tags.proofs.TagTexts.{tag_ascii}
 use Rattle.std.proofs.lemmas.Option.{IfSome_then}
 use Rattle.std.proofs.lemmas.Result.{IfOk-weaker}
 use Rattle.client_plans.proofs.Drafted.{sealed_is, texts_are, unsealed}
-use Rattle.client_plans.proofs.Named.{same_names}
+use Rattle.client_plans.proofs.Named.{same_names, tag_fits}
 use Rattle.client_plans.proofs.task.sealed_task.Goals as goal
 
 pub returns-then-not-are_texts-clause-text : goal.returns-then-not-are_texts-clause-text
@@ -41,3 +41,9 @@ returns-clause-names c =
     IfOk-weaker c.sealed_draft.result _ _
     (λ made h. IfSome_then made h (λ e n. same_names c.in_ok-draft.draft.exchange a.exchange.now c.in_ok-draft.draft.routing_key a.routing_key.now (data_of e) c.in_ok-draft.ensures.drafted.exchange_is c.in_ok-draft.ensures.drafted.routing_key_is n))
     c.sealed_draft.ensures.names
+
+pub sealed_draft-requires-clause-tag : goal.sealed_draft-requires-clause-tag
+sealed_draft-requires-clause-tag c = subst (λ n. n < 2 ^ 128) (sym c.of-tag.ensures) (tag_fits c.args.seed c.args.counter c.ranges.seed.fits c.ranges.counter.fits)
+
+pub returns-clause-tag : goal.returns-clause-tag
+returns-clause-tag c = IfOk-weaker c.sealed_draft.result _ _ (λ made h. IfSome_then made h (λ e t. t ∙ c.of-tag.ensures)) c.sealed_draft.ensures.tag

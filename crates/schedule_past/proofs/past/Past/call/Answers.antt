@@ -1,17 +1,16 @@
-use Rattle.std.proofs.Common.{ap, ◌∙◌}
+use Rattle.std.proofs.Common.{IsSome, refl, subst, sym, ap, ◌∙◌}
 use Rattle.std.proofs.lemmas.Result.{on_ok_weaker}
-use Rattle.client_blocks.specs.Blocks.{script_left}
-use Rattle.client_blocks.specs.Lefts.{after_answer}
+use Rattle.client_core.specs.Works.{client_left}
+use Rattle.steps.specs.Goings.{script_after}
 use Rattle.schedule_model.specs.Desk.{with_call}
-use Rattle.schedule_past.proofs.Sayings.{more_next}
 use Rattle.schedule_past.specs.Desks.{desk_with}
 use Rattle.schedule_past.proofs.past.Past.call.Goals as goal
 
 pub hear-requires-clause-asked : goal.hear-requires-clause-asked
-hear-requires-clause-asked c = more_next (script_left c.args.left.now) c.args.self.now.moment c.args.words c.requires.next
+hear-requires-clause-asked c = subst IsSome (sym c.requires.next) refl
 
 pub returns-clause-desk : goal.returns-clause-desk
 returns-clause-desk c = on_ok_weaker c.hear.result (λ heard bs. heard bs ∙ ap (with_call (desk_with c.args.self.now bs) c.args.client c.args.words) c.in_ok-reply.ensures.reply) c.hear.ensures.desk
 
 pub returns-clause-left : goal.returns-clause-left
-returns-clause-left c = on_ok_weaker c.hear.result (λ heard. heard ∙ ap (λ r. after_answer (script_left c.args.left.now) r.1.answer) c.in_ok-reply.ensures.reply) c.hear.ensures.left
+returns-clause-left c = on_ok_weaker c.hear.result (λ heard. heard ∙ ap (λ r. script_after (client_left c.args.core.now) r.1) c.in_ok-reply.ensures.reply) c.hear.ensures.left
