@@ -15,12 +15,14 @@ use Rattle.schedule_model.specs.Schedules.{Bad, Went, led_unless}
 use Rattle.schedule_model.specs.declared.line.Line.TheVariants.{Client}
 use Rattle.schedule_world.proofs.Known.{still}
 use Rattle.schedule_world.proofs.Shelved.{books_of-insert}
-use Rattle.client_blocks.specs.Blocks.{script_left}
+use Rattle.steps.specs.Clients.{new_counts}
+use Rattle.steps.specs.declared.counts.ClientCounts.{ClientCounts}
+use Rattle.client_core.specs.Works.{client_left, core_client}
+use Rattle.client_core.specs.declared.client.ClientCore.{ClientCore}
 use Rattle.schedule_world.specs.Books.{books_of}
 use Rattle.schedule_past.specs.Desks.{desk_with}
 use Rattle.schedule_world.specs.Shelves.{AreKnown, Shelf}
 use Rattle.schedule_world.specs.declared.book.ClientBook.{ClientBook}
-use Rattle.client_blocks.specs.declared.left.BlockLeft.{BlockLeft}
 use Rattle.schedule_past.specs.declared.past.Past.{Past}
 
 -- the reason why no client is added
@@ -37,13 +39,15 @@ pub client_led : (d : ScheduleReader) (c s : ℕ) (g b : Bool) → g ≡ false �
 client_led d c s g b e f = ap (λ t. led_unless program_craft d (Client c s) (client_reason t b)) e ∙ ap (λ t. led_unless program_craft d (Client c s) (client_reason false t)) f
 
 -- a client more at a desk
-pub added : (p p' : Past) (m t : Shelf) (c s : ℕ) (l : BlockLeft) → script_left l ≡ Over → t ≡ insert m c (record { counts = record { seed = s; drawn = 0; passes = 0 }; left = l; is_stopped = false })
+pub added : (p p' : Past) (m t : Shelf) (c s : ℕ) (n : ClientCore) → core_client n ≡ new_counts s → client_left n ≡ Over → t ≡ insert m c (record { core = n; is_stopped = false })
     → ((bs : FinMap nat_cmp desk.ClientBook) → desk_with p' bs ≡ record (desk_with p bs) { clients = (history_of p.history).clients ++ (c, s) ∷ [] })
     → reader_with_client (desk_with p (books_of m)) c s ≡ desk_with p' (books_of t)
-added p p' m t c s l over e grown =
-    let k : ClientBook = record { counts = record { seed = s; drawn = 0; passes = 0 }; left = l; is_stopped = false } in
+added p p' m t c s n counts over e grown =
+    let k : ClientBook = record { core = n; is_stopped = false } in
+    let with_counts : ClientCounts → desk.ClientBook = λ w. record { seed = w.seed; drawn = w.drawn; passes = w.passes; left = client_left n; stopped = false } in
     let same : books_of t ≡ insert (books_of m) c (record { seed = s; drawn = 0; passes = 0; left = Over; stopped = false }) =
-    ap books_of e ∙ (books_of-insert m c k ∙ ap (λ x. insert (books_of m) c (record { seed = s; drawn = 0; passes = 0; left = x; stopped = false })) over) in
+    ap books_of e ∙ (books_of-insert m c k
+    ∙ (ap (λ w. insert (books_of m) c (with_counts w)) counts ∙ ap (λ x. insert (books_of m) c (record { seed = s; drawn = 0; passes = 0; left = x; stopped = false })) over)) in
     sym (grown (books_of t) ∙ ap (λ b. record (desk_with p b) { clients = (history_of p.history).clients ++ (c, s) ∷ [] }) same)
 
 -- who has a book is still in the table

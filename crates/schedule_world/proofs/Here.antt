@@ -11,7 +11,7 @@ use Rattle.place_model.specs.Shown.{has_stopped}
 use Rattle.place_model.specs.declared.heard.Heard.{Heard}
 use Rattle.place_model.specs.declared.history.Entry.{Entry}
 use Rattle.schedule_model.specs.Faults.{is_gone, is_script_off}
-use Rattle.client_blocks.specs.Blocks.{script_left}
+use Rattle.client_core.specs.Works.{client_left}
 use Rattle.schedule_world.specs.Books.{book_of}
 use Rattle.schedule_past.specs.Clients.{HasSameClients, HasSameGoneBut}
 use Rattle.schedule_past.specs.declared.past.Past.{Past}
@@ -60,6 +60,13 @@ pub set_here : (n t : Shelf) (es : List (Entry Heard)) (c : ℕ) (k : ClientBook
 set_here n t es c k (Ok u) here on ok err = same_here (insert n c k) t es es ok (λ q i. has_stopped q es) (more_here n es c k here on)
 set_here n t es c k (Err e) here on ok err = same_here n t es es err (λ q i. has_stopped q es) here
 
+-- a book that was taken out and put back in another state, if there was the memory
+pub again_here : (m t : Shelf) (es : List (Entry Heard)) (c : ℕ) (k : ClientBook) (r : Result (Unit {0}) AllocError) → AreHere m es → get m c ≡ Some k → k.is_stopped ≡ false → OnOk r ((j : ClientBook) × (t ≡ insert (remove m c) c j)) → OnErr r (t ≡ remove m c) → AreHere t es
+again_here m t es c k (Ok u) here found on ok err =
+    let there = book_here m es c k here found on in
+    same_here (insert (remove m c) c ok.0) t es es ok.1 (λ q i. has_stopped q es) (more_here (remove m c) es c ok.0 (less_here m es c here there) there)
+again_here m t es c k (Err e) here found on ok err = taken_here m t es c k here found on err
+
 -- a book that says so from now on, if there was the memory for it
 pub stopped_here : (m t : Shelf) (es : List (Entry Heard)) (c : ℕ) (k : ClientBook) (r : Result (Unit {0}) AllocError) → AreHere m es → get m c ≡ Some k → k.is_stopped ≡ false → OnOk r ((j : ClientBook) → get m c ≡ Some j → t ≡ insert (remove m c) c (record j { is_stopped = true })) → OnErr r (t ≡ remove m c) → AreHere t es
 stopped_here m t es c k (Ok u) here found on ok err =
@@ -81,7 +88,7 @@ gone_here n t p q c k says e others here d h =
 -- who isn't gone by its book isn't stopped
 pub unstopped : (o : Option ClientBook) → is_gone (option_map book_of o) ≡ false → says_stopped o ≡ false
 unstopped None e = refl
-unstopped (Some b) e = by b.is_stopped (is_script_off (script_left b.left)) e
+unstopped (Some b) e = by b.is_stopped (is_script_off (client_left b.core)) e
   where
     by : (x y : Bool) → (x || y) ≡ false → x ≡ false
     by true y f = f

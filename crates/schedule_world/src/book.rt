@@ -2,20 +2,19 @@
 ghost use Rattle.std.specs.FinMap as map;
 ghost use Rattle.std.specs.Option.{option_copied};
 ghost use Rattle.std.specs.Prelude.{◌≡◌, OnErr, OnOk, Some, true};
-ghost use Rattle.schedule_world.specs.Rests.{IsBusy, IsPresent, IsResting, is_book_gone};
+ghost use Rattle.schedule_world.specs.Rests.{HasBookBegun, HasCoreBegun, IsBusy, IsPresent, IsResting, MayBegin, is_book_gone};
 
-use client_blocks::BlockLeft;
-use client_plans::ClientCounts;
+use client_core::ClientCore;
 use line_text::Reason;
 use std::alloc::{AllocError, Global};
 use std::collections::BTreeMap;
 use std::marker::Model;
+use steps::{Block, ClientCounts, Steps};
 
-/// What is kept of a client: its counts, what is left of its block, and whether it is stopped.
+/// What is kept of a client: the client, which says its blocks, and whether it is stopped.
 #[derive(Drop)]
 pub(crate) struct ClientBook {
-    pub(crate) counts: ClientCounts,
-    pub(crate) left: BlockLeft,
+    pub(crate) core: ClientCore,
     pub(crate) is_stopped: bool,
 }
 
@@ -24,7 +23,22 @@ impl ClientBook {
     pub(crate) fn is_gone(&self) -> bool
         ensures { result ≡ is_book_gone self.now }
     {
-        self.is_stopped || self.left.is_off()
+        self.is_stopped || self.core.is_off()
+    }
+
+    /// The client begins a block, for which its line had no fault.
+    ///
+    /// # Errors
+    /// Want of memory.
+    fn begin(&mut self, alloc: Global, block: Block) -> Result<(), AllocError>
+        requires { MayBegin self.old block }
+        ensures begun { OnOk result (HasCoreBegun self.old.core self.new.core block) }
+        ensures stopped { self.new.is_stopped ≡ self.old.is_stopped }
+    {
+        match self.core.begin(alloc, block) {
+            Ok(()) => Ok(()),
+            Err(_) => Err(AllocError),
+        }
     }
 }
 
@@ -75,10 +89,10 @@ impl Books {
         if book.is_gone() {
             return Err(Reason::Stopped);
         }
-        if book.left.has_more() {
+        if book.core.has_more() {
             return Err(Reason::Busy);
         }
-        Ok(book.counts)
+        Ok(book.core.counts())
     }
 
     /// Takes the book of a client out that has a block to go on with.
@@ -94,7 +108,7 @@ impl Books {
         if book.is_gone() {
             return Err(Reason::Stopped);
         }
-        if !book.left.has_more() {
+        if !book.core.has_more() {
             return Err(Reason::Idle);
         }
         self.take(client).ok_or(Reason::UnknownClient)
@@ -112,6 +126,25 @@ impl Books {
             return Err(Reason::Stopped);
         }
         Ok(())
+    }
+
+    /// A client begins a block; without memory its book is gone.
+    pub(crate) fn begin(
+        &mut self,
+        alloc: Global,
+        client: u32,
+        block: Block,
+    ) -> Result<(), AllocError>
+        requires { (k : Kept) → map.get self.old client ≡ Some k → MayBegin k block }
+        ensures ok { OnOk result ((k : Kept) → map.get self.old client ≡ Some k
+            → HasBookBegun (map.remove self.old client) self.new client k block) }
+        ensures err { OnErr result (self.new ≡ map.remove self.old client) }
+    {
+        let Some(mut book) = self.take(client) else {
+            return Ok(());
+        };
+        book.begin(alloc, block)?;
+        self.set(client, book)
     }
 
     /// Notes that a client is stopped; without memory its book is gone.

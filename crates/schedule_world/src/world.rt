@@ -6,8 +6,8 @@ use crate::LineFault;
 use crate::book::{Books, ClientBook};
 use crate::fault::lacked_memory;
 use crate::run::ScheduleRun;
-use client_blocks::BlockLeft;
-use client_plans::{ClientCounts, prepared};
+use client_core::ClientCore;
+use client_plans::prepared;
 use letters::Letters;
 use line_text::{LINE_LIMIT, MOMENT_LIMIT, Reason, line_text, words};
 use place_model::History;
@@ -156,12 +156,7 @@ impl World {
         self.books.set(
             client,
             ClientBook {
-                counts: ClientCounts {
-                    seed,
-                    drawn: 0,
-                    passes: 0,
-                },
-                left: BlockLeft::over(),
+                core: ClientCore::new(seed),
                 is_stopped: false,
             },
         )?;
@@ -195,15 +190,8 @@ impl World {
         ensures { IsTold (led_by program_craft (desk_of self.old) (Some (Begin client asked.now))) (desk_of self.old) (desk_of self.new) result }
     {
         let counts = self.books.resting(client)?;
-        let begun = prepared(alloc, &mut self.letters, counts, asked)?;
-        self.books.set(
-            client,
-            ClientBook {
-                counts: begun.counts,
-                left: begun.left,
-                is_stopped: false,
-            },
-        )?;
+        let block = prepared(alloc, &mut self.letters, counts, asked)?;
+        self.books.begin(alloc, client, block)?;
         Ok(())
     }
 
@@ -212,7 +200,7 @@ impl World {
         ensures { IsTold (led_by program_craft (desk_of self.old) (Some (Step client))) (desk_of self.old) (desk_of self.new) result }
     {
         let mut book = self.books.take_busy(client)?;
-        let has_room = self.past.say_one(alloc, client, &mut book.left)?;
+        let has_room = self.past.say_one(alloc, client, &mut book.core)?;
         self.books.set(client, book)?;
         self.room_or_full(has_room)
     }
@@ -222,7 +210,7 @@ impl World {
         ensures { IsTold (led_by program_craft (desk_of self.old) (Some (Run client))) (desk_of self.old) (desk_of self.new) result }
     {
         let mut book = self.books.take_busy(client)?;
-        let has_room = self.past.say_all(alloc, client, &mut book.left)?;
+        let has_room = self.past.say_all(alloc, client, &mut book.core)?;
         self.books.set(client, book)?;
         self.room_or_full(has_room)
     }

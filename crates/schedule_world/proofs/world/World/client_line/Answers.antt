@@ -22,7 +22,7 @@ returns-then-has_client c =
 pub returns : goal.returns
 returns c =
     client_led (desk_of c.args.self.now) c.args.client c.args.seed _ _ (gone_is c.args.self.now.books c.args.client _ (sym c.is_stopped.ensures ∙ c.if-is_stopped.false)) (sym c.has_client.ensures ∙ c.if-has_client.false)
-    ∙ ap Went (added c.args.self.now.past c.add_client.new.self c.args.self.now.books c.set.new.self c.args.client c.args.seed c.over.result c.over.ensures c.in_ok-set.ensures.ok c.in_ok-add_client.ensures.ok)
+    ∙ ap Went (added c.args.self.now.past c.add_client.new.self c.args.self.now.books c.set.new.self c.args.client c.args.seed c.new.result c.new.ensures.client c.new.ensures.idle c.in_ok-set.ensures.ok c.in_ok-add_client.ensures.ok)
 
 pub invariant_of-self-2 : goal.invariant_of-self-2
 invariant_of-self-2 c =

@@ -37,7 +37,7 @@ invariant_of-self-2 c =
 pub returns : goal.returns
 returns c =
     told_room _ (desk_of c.args.self.now) (desk_with c.say_all.new.self (books_of c.set.new.self)) c.in_ok-has_room.has_room c.room_or_full.result
-    (run_led c.args.self.now.past c.say_all.new.self c.args.self.now.books c.set.new.self c.args.client c.in_ok-book.book c.say_all.new.left c.in_ok-has_room.has_room c.in_ok-book.ensures.taken.0 c.in_ok-book.ensures.taken.2 (c.in_ok-set.ensures.ok ∙ ap (λ t. insert t c.args.client (record { counts = c.in_ok-book.book.counts; left = c.say_all.new.left; is_stopped = c.in_ok-book.book.is_stopped })) c.in_ok-book.ensures.removed) (c.in_ok-has_room.ensures.said (books_of c.args.self.now.books)))
+    (run_led c.args.self.now.past c.say_all.new.self c.args.self.now.books c.set.new.self c.args.client c.in_ok-book.book c.say_all.new.core c.in_ok-has_room.has_room c.say_all.ensures.counts c.in_ok-book.ensures.taken.0 c.in_ok-book.ensures.taken.2 (c.in_ok-set.ensures.ok ∙ ap (λ t. insert t c.args.client (record { core = c.say_all.new.core; is_stopped = c.in_ok-book.book.is_stopped })) c.in_ok-book.ensures.removed) (c.in_ok-has_room.ensures.said (books_of c.args.self.now.books)))
     c.room_or_full.ensures
 
 pub say_all-requires-clause-running : goal.say_all-requires-clause-running
