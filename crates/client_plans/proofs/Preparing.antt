@@ -105,9 +105,10 @@ pop_reserved s n qs a b = ap (λ y. first_reason (two y (list_any is_reserved qs
 -- the block of names that passed
 pub popped : (w : ClientCounts) (qs ns : List Bytes) → list_any is_no_name qs ≡ false → list_any is_reserved qs ≡ false → ns ≡ qs → 1 ≤ length qs → length qs ≤ 1023
     → IsPrepared w (asked.Pop qs) (Ok (block.Pop ns))
-popped w qs ns a c e some few =
-    (ap (λ y. first_reason (two y (list_any is_reserved qs))) a ∙ ap (λ y. first_reason (two false y)) c,
-    (Pop qs, refl, (ap (λ l. Ok (Planned (Pop l))) e, (subst (λ l. 1 ≤ length l) (sym e) some, subst (λ l. length l ≤ 1023) (sym e) few))))
+popped w qs ns a c e some few = (
+  ap (λ y. first_reason (two y (list_any is_reserved qs))) a ∙ ap (λ y. first_reason (two false y)) c,
+  (Pop qs, refl, (ap (λ l. Ok (Planned (Pop l))) e, (subst (λ l. 1 ≤ length l) (sym e) some, subst (λ l. length l ≤ 1023) (sym e) few))),
+)
 
 -- ---- an acknowledgement
 
@@ -227,6 +228,11 @@ pub published : (w : ClientCounts) (x k : Bytes) (p : ℕ) (t j : Bytes) (args d
     → n ≡ suc w.drawn → n < 2 ^ 64 → IsAgain d b → IsPrepared w (asked.Publish x k p t j) (Ok b)
 published w x k p t j args d n b way e f names tag next low h =
     let free : way_name_fault (parts_in d).exchange (parts_in d).routing_key ≡ None =
-    ap (λ y. way_name_fault y (parts_in d).routing_key) names.exchange_is ∙ ap (way_name_fault x) names.routing_key_is ∙ unfaulted x k way in
-    (no_fault w.seed (suc w.drawn) x k p t j args (compact_text d) way e f, (Publish (compact_text d), ap publish_plan (sym f),
-    ((h w).0 ∙ ap (λ o. if_named o (Ok (publish_errand d))) free, (h w).1 (next_is w n next low ∙ ap (λ m. Some m) (sym tag)))))
+    ap (λ y. way_name_fault y (parts_in d).routing_key) names.exchange_is ∙ ap (way_name_fault x) names.routing_key_is ∙ unfaulted x k way in (
+      no_fault w.seed (suc w.drawn) x k p t j args (compact_text d) way e f,
+      (
+        Publish (compact_text d),
+        ap publish_plan (sym f),
+        ((h w).0 ∙ ap (λ o. if_named o (Ok (publish_errand d))) free, (h w).1 (next_is w n next low ∙ ap (λ m. Some m) (sym tag))),
+      ),
+    )

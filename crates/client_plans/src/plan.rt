@@ -59,31 +59,13 @@ pub fn prepared(
             routing_key,
             pattern,
             queue,
-        } => {
-            declaring(
-                alloc,
-                Change::Add,
-                exchange,
-                routing_key,
-                pattern,
-                queue,
-            )
-        }
+        } => { declaring(alloc, Change::Add, exchange, routing_key, pattern, queue) }
         Asked::Undeclare {
             exchange,
             routing_key,
             pattern,
             queue,
-        } => {
-            declaring(
-                alloc,
-                Change::Remove,
-                exchange,
-                routing_key,
-                pattern,
-                queue,
-            )
-        }
+        } => { declaring(alloc, Change::Remove, exchange, routing_key, pattern, queue) }
         Asked::Pop { queues } => popping(alloc, queues),
         Asked::Ack { seed: of, counter } => Ok(acknowledging(*of, *counter)),
         Asked::Restore { seed: of, counter } => Ok(returning(Side::Right, *of, *counter)),

@@ -1,5 +1,5 @@
 //! What happened so far: the present moment, the history with its running cost, and the store.
-ghost use Rattle.std.specs.Prelude.{◌≡◌, ◌<◌, ◌+◌, IfOk, IsSome, OnOk, Some, true};
+ghost use Rattle.std.specs.Prelude.{◌≡◌, ◌<◌, ◌+◌, IfOk, IsSome, OnOk, Some, false, true};
 ghost use Rattle.place_model.specs.Shown.{has_stopped, history_of};
 ghost use Rattle.store_model.specs.Limits.{moment_limit};
 ghost use Rattle.schedule_model.specs.Costs.{reply_size, total_cost, words_size};
@@ -281,19 +281,16 @@ fn take_reply(
     ensures counts { core_client core.new ≡ core_client core.old }
 {
     let heard = core.took(alloc, moment, reply);
-    if lacks_memory(&heard) {
-        return Err(AllocError);
-    }
-    Ok(())
+    had_memory(&heard)
 }
 
-/// Whether a client lacked the memory to take a reply.
-fn lacks_memory(heard: &Result<(), ReplyFault>) -> bool
-    ensures { result ≡ lacked heard.now }
+/// Whether a client had the memory to take a reply, listed or not.
+fn had_memory(heard: &Result<(), ReplyFault>) -> Result<(), AllocError>
+    ensures { OnOk result (lacked heard.now ≡ false) }
 {
     match heard {
-        Ok(()) | Err(ReplyFault::Refused(_)) => false,
-        Err(ReplyFault::Memory) => true,
+        Ok(()) | Err(ReplyFault::Refused(_)) => Ok(()),
+        Err(ReplyFault::Memory) => Err(AllocError),
     }
 }
 
