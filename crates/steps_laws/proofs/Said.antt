@@ -1,5 +1,6 @@
 -- Errands one after the other are blocks of a client.
 use Rattle.std.proofs.Common.{◌≡◌, ◌⊎◌, inl, inr, ℕ, refl, ap, sym, ◌∙◌, subst, Bool, true, false, List, [], ◌∷◌, ◌++◌, append_assoc}
+use Rattle.std.proofs.lemmas.List.{append-nil}
 use Rattle.std.specs.Prelude.{cond, map}
 use Rattle.wire_values.specs.Layer.{layer}
 use Rattle.wire_values.specs.declared.value.Value.{Value}
@@ -27,6 +28,7 @@ use Rattle.schedule_laws.proofs.Decided.{fronts_decided}
 use Rattle.steps.specs.Clients.{new_counts}
 use Rattle.steps.specs.declared.counts.ClientCounts.{ClientCounts}
 use Rattle.steps.specs.Errands.{Errand, Planned, Aside, IsErrandBlock, IsLawfulErrand, aside_script, client_after, errand_script, errand_use, on_no_error}
+use Rattle.steps.specs.Trips.{RoundTrip, trip_calls}
 use Rattle.steps_laws.specs.Manners.{AreSaid, ErrandSaid, said_calls}
 
 plain_lawful : IsLawful plain_setting
@@ -223,3 +225,9 @@ module _ (s : ℕ) (es : List ErrandSaid) (c : ClientCounts) (errand : Errand) (
 -- whole errands alone
 pub whole_mannered : (s : ℕ) (es : List ErrandSaid) (c : ClientCounts) → AreSaid (new_counts s) es c → IsMannered plain_setting s (said_calls es)
 whole_mannered s es c before = inl (subst (IsFrontOfBlocks plain_setting s) (sym (calls_are es)) (whole_front plain_setting s c.drawn c.passes (parts es) (said_blocks (new_counts s) es c before).blocks))
+
+-- whole errands and then round trips of another, which is lawful where there are any
+pub run_mannered : (s : ℕ) (es : List ErrandSaid) (c : ClientCounts) (errand : Errand) (trips : List RoundTrip) (left : Script) → AreSaid (new_counts s) es c
+    → ((trips ≡ [] → ⊥) → IsLawfulErrand c errand) → IsTrace (errand_script c errand) (trip_calls trips) left → IsMannered plain_setting s (said_calls es ++ trip_calls trips)
+run_mannered s es c errand [] left before lawful t = subst (IsMannered plain_setting s) (sym (append-nil (said_calls es))) (whole_mannered s es c before)
+run_mannered s es c errand (x ∷ trips) left before lawful t = all_mannered s es c errand (trip_calls (x ∷ trips)) left before (lawful (λ e. cc)) t
