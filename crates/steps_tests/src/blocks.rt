@@ -1,6 +1,11 @@
 //! The blocks of rows.
-ghost use Rattle.std.specs.Prelude.{IfOk};
+ghost use Rattle.std.specs.Prelude.{◌≡◌, IfOk, Some, length};
+ghost use Rattle.serde_json.specs.View.{view as data_of};
+ghost use Rattle.envelope.specs.Envelopes.{parts_in};
+ghost use Rattle.wire_grammar.specs.Fits.{IsWithinLimits};
 ghost use Rattle.steps.specs.Begins.{AreTexts, IsLawfulBlock};
+ghost use Rattle.steps.specs.Clients.{next_tag_of};
+ghost use Rattle.client_core.specs.Works.{core_client};
 
 use crate::rows::Order;
 use client_core::ClientCore;
@@ -17,7 +22,9 @@ use wire_spelling::command_fits;
 use wire_values::{Bytes, List, Words};
 
 /// Words parted by blanks, within the limits of a command.
-fn words_of(alloc: Global, line: &str) -> Result<Words, Fail> {
+fn words_of(alloc: Global, line: &str) -> Result<Words, Fail>
+    ensures { IfOk result IsWithinLimits }
+{
     let mut words = List::new();
     for word in line.split(' ') {
         words.push(alloc, Bytes::from_slice(alloc, word.as_bytes())?)?;
@@ -87,22 +94,33 @@ fn next_message(
     client: &ClientCore,
     exchange: &str,
     routing_key: &str,
-) -> Result<Envelope, Fail> {
-    match client.next_tag() {
-        Some(tag) => message(alloc, exchange, routing_key, tag),
-        None => Err(Fail::from("no tag")),
+) -> Result<Envelope, Fail>
+    ensures { IfOk result (λ e. next_tag_of (core_client client.now) ≡ Some (parts_in (data_of e)).tag) }
+{
+    let Some(tag) = client.next_tag() else {
+        return Err(Fail::from("no tag"));
+    };
+    let envelope = message(alloc, exchange, routing_key, tag)?;
+    if envelope.tag().0 == tag.0 {
+        Ok(envelope)
+    } else {
+        Err(Fail::from("another tag"))
     }
 }
 
 /// One queue.
-fn queues(alloc: Global, queue: &str) -> Result<List<QueueName>, Fail> {
+fn queues(alloc: Global, queue: &str) -> Result<List<QueueName>, Fail>
+    ensures { IfOk result (λ queues. length queues ≡ 1) }
+{
     let mut queues = List::new();
     queues.push(alloc, QueueName::new(alloc, queue.as_bytes())?)?;
     Ok(queues)
 }
 
 /// The block of a row, for this client.
-pub fn block_of(alloc: Global, client: &ClientCore, order: Order) -> Result<Block, Fail> {
+pub fn block_of(alloc: Global, client: &ClientCore, order: Order) -> Result<Block, Fail>
+    ensures { IfOk result (IsLawfulBlock (core_client client.now)) }
+{
     Ok(match order {
         Order::Declare(routing_key, pattern, queue) => Block::Declare(Box::new(
             alloc,

@@ -71,7 +71,7 @@ fn flagged(is_so: bool, yes: &'static str, no: &'static str) -> &'static str {
 }
 
 /// Appends how a block ended.
-pub fn told_onto(alloc: Global, out: &mut Vec<u8>, end: &BlockEnd) -> Result<(), AllocError> {
+fn told_onto(alloc: Global, out: &mut Vec<u8>, end: &BlockEnd) -> Result<(), AllocError> {
     match end {
         BlockEnd::Declare(end) => {
             out.extend_from_slice(flagged(
@@ -89,4 +89,11 @@ pub fn told_onto(alloc: Global, out: &mut Vec<u8>, end: &BlockEnd) -> Result<(),
         BlockEnd::Pass(end) => passed_onto(alloc, out, end),
         BlockEnd::Neutral(reply) => reply_onto(alloc, out, reply),
     }
+}
+
+/// How a block ended.
+pub fn told(alloc: Global, end: &BlockEnd) -> Result<Vec<u8>, AllocError> {
+    let mut out = Vec::new(alloc);
+    told_onto(alloc, &mut out, end)?;
+    Ok(out)
 }
