@@ -26,7 +26,7 @@ use Rattle.steps.specs.declared.begun.BeginFault.{BeginFault}
 use Rattle.steps.specs.declared.ended.BlockEnd.{BlockEnd}
 use Rattle.steps.specs.declared.begun.BeginFault.TheVariants as begin_
 use Rattle.block_runs.specs.Faults.{desk_fault, begin_fault, reply_fault}
-use Rattle.block_runs.specs.Runs.{IsOpenOrSpent, AreClocked, IsDeskFault, HasHeardNext, HasRest, HasRunBlock, IsBlockTo, IsRestTo, HasSaid, HasSaidNext, HadMore, WasAsked, trip_deed, trip_deeds}
+use Rattle.block_runs.specs.Runs.{AreClocked, IsDeskFault, HasHeardNext, HasRest, HasRunBlock, IsBlockTo, IsRestTo, HasSaid, HasSaidNext, HadMore, WasAsked, trip_deed, trip_deeds}
 use Rattle.block_runs.specs.declared.fault.BlockFault.{BlockFault}
 use Rattle.block_runs.specs.declared.fault.BlockFault.TheVariants as fault_
 
@@ -107,7 +107,7 @@ heard_next goes fault stopped left had ended at desk desk2 steps steps2 words re
 heard_next goes fault stopped left had ended at desk desk2 steps steps2 words reply (Err (fault_.Desk f)) asked is_open h = absurd h
 heard_next goes fault stopped left had ended at desk desk2 steps steps2 words reply (Err (fault_.Refused given)) asked is_open h =
     (words, subst (λ r. WasAsked goes desk desk2 (left steps) at words r) (sym h.0) asked, is_open, h.1, h.2)
-heard_next goes fault stopped left had ended at desk desk2 steps steps2 words reply (Err fault_.Memory) asked is_open h = (inl is_open, inr (words, reply, asked))
+heard_next goes fault stopped left had ended at desk desk2 steps steps2 words reply (Err fault_.Memory) asked is_open h = inl (is_open, inr (words, reply, asked))
 
 -- the rest of a block stops at a fault of its next command
 pub rest_stops : {D T : Type 0} (goes : D → List Deed → D → Type 0) (joins : (s t u : D) (l m : List Deed) → goes s l t → goes t m u → goes s (l ++ m) u) (gives : ℕ → Type 0)
@@ -121,9 +121,9 @@ rest_stops {D} {T} goes joins gives fault stopped left had ended desk mid desk2 
       asked : (words : Words) (reply : Reply) → WasAsked goes mid desk2 (left midst) at words reply → HasSaid goes gives desk desk2 (left steps) (trips ++ trip at words reply ∷ []) (script_after (left midst) reply)
       asked words reply a = said_more goes joins gives desk mid desk2 (left steps) (left midst) trips at words reply h a soon given
 
-      lacked : IsOpenOrSpent (fault desk2) (stopped desk2) → goes mid [] desk2 ⊎ ((words : Words) × (reply : Reply) × WasAsked goes mid desk2 (left midst) at words reply) → HasRest goes fault stopped left had ended gives desk desk2 steps steps2 (Err fault_.Memory)
-      lacked is_open (inl go) = record { trips = trips; rest = left midst; said = said_none goes joins gives desk mid desk2 (left steps) (left midst) trips h go; come = is_open; more = tt }
-      lacked is_open (inr a) = record { trips = trips ++ trip at a.0 a.1 ∷ []; rest = script_after (left midst) a.1; said = asked a.0 a.1 a.2; come = is_open; more = tt }
+      lacked : IsOpen (fault desk2) (stopped desk2) → goes mid [] desk2 ⊎ ((words : Words) × (reply : Reply) × WasAsked goes mid desk2 (left midst) at words reply) → HasRest goes fault stopped left had ended gives desk desk2 steps steps2 (Err fault_.Memory)
+      lacked is_open (inl go) = record { trips = trips; rest = left midst; said = said_none goes joins gives desk mid desk2 (left steps) (left midst) trips h go; come = inl is_open; more = tt }
+      lacked is_open (inr a) = record { trips = trips ++ trip at a.0 a.1 ∷ []; rest = script_after (left midst) a.1; said = asked a.0 a.1 a.2; come = inl is_open; more = tt }
 
       by : (f : BlockFault) → HasSaidNext goes fault stopped left had ended at mid desk2 midst steps2 (Err f) → HasRest goes fault stopped left had ended gives desk desk2 steps steps2 (Err f)
       by (fault_.Begin b) n = absurd n
@@ -135,7 +135,8 @@ rest_stops {D} {T} goes joins gives fault stopped left had ended desk mid desk2 
         come = (n.2, n.4, n.3, (trips, trip at n.0 r, refl, refl));
         more = tt;
       }
-      by fault_.Memory n = lacked n.0 n.1
+      by fault_.Memory (inl w) = lacked w.0 w.1
+      by fault_.Memory (inr n) = record { trips = trips; rest = left midst; said = said_none goes joins gives desk mid desk2 (left steps) (left midst) trips h n.2; come = inr (n.3, ap left n.4, (at, n.0, n.1)); more = tt }
 
 -- one more round trip of the rest of a block
 pub said_on : {D T : Type 0} (goes : D → List Deed → D → Type 0) (joins : (s t u : D) (l m : List Deed) → goes s l t → goes t m u → goes s (l ++ m) u) (gives : ℕ → Type 0) (left : T → Script)
@@ -180,7 +181,8 @@ run_stops {D} {T} goes gives fault stopped client left spent had ended says desk
       by (fault_.Begin g) n = n
       by (fault_.Desk d) n = (same ∙ b.2.client_is, n.0, n.1, n.2)
       by (fault_.Refused given) n = (same ∙ b.2.client_is, n.0, n.1, n.2, n.3)
-      by fault_.Memory n = n
+      by fault_.Memory (inl o) = inl o
+      by fault_.Memory (inr w) = inr (same ∙ b.2.client_is, w.0, w.1, w.2)
 
 -- a block that wasn't begun
 pub run_not_begun : {D T : Type 0} (goes : D → List Deed → D → Type 0) (stays : (s : D) → goes s [] s) (gives : ℕ → Type 0) (fault : D → Option DeskFault) (stopped : D → Bool) (client : T → ClientCounts) (left : T → Script) (spent : T → Bool) (had : T → ClientCounts → Errand → List RoundTrip → Type 0)
@@ -219,7 +221,7 @@ desk_next goes fault stopped left had ended at desk desk2 steps words f result i
       by (desk_.Full x y) e = (words, next, go, e, refl)
       by desk_.Closed e = (words, next, go, e, refl)
       by desk_.Ended e = (words, next, go, e, refl)
-      by desk_.Memory e = (inr e, inl go)
+      by desk_.Memory e = inr (words, next, go, e, refl)
 
 -- an open desk's fault isn't that it wasn't open
 timely_open : (fault : Option DeskFault) (stopped : Bool) (f : DeskFault) → IsOpen fault stopped → IsTimely fault stopped f → IsNotEnded f

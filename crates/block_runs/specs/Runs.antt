@@ -7,7 +7,7 @@ use Rattle.block_laws.specs.Traces.{IsTrace}
 use Rattle.desks.specs.Deeds.{Deed, DidAsk}
 use Rattle.desks.specs.Faults.{IsFaultOf, IsNotEnded, IsOpen}
 use Rattle.desks.specs.declared.desk.DeskFault.{DeskFault}
-use Rattle.desks.specs.declared.desk.DeskFault.TheVariants as desk
+use Rattle.desks.specs.declared.desk.DeskFault.TheVariants as at_desk
 use Rattle.sessions.specs.Talks.{IsClocked}
 use Rattle.steps.specs.declared.counts.ClientCounts.{ClientCounts}
 use Rattle.steps.specs.Ends.{TellsOfErrand}
@@ -47,17 +47,13 @@ IsCut rest = (at : ℕ) × (words : Words) × (next_words rest at ≡ Some words
 
 -- a desk's fault isn't want of memory
 abbrev pub IsNoLack : DeskFault → Type 0
-IsNoLack desk.Link = Unit {0}
-IsNoLack (desk.Wire kind place) = Unit {0}
-IsNoLack desk.Flood = Unit {0}
-IsNoLack (desk.Full entries bytes) = Unit {0}
-IsNoLack desk.Closed = Unit {0}
-IsNoLack desk.Ended = Unit {0}
-IsNoLack desk.Memory = ⊥
-
--- the desk is open, or memory was wanting at it
-abbrev pub IsOpenOrSpent : Option DeskFault → Bool → Type 0
-IsOpenOrSpent fault stopped = IsOpen fault stopped ⊎ (fault ≡ Some desk.Memory)
+IsNoLack at_desk.Link = Unit {0}
+IsNoLack (at_desk.Wire kind place) = Unit {0}
+IsNoLack at_desk.Flood = Unit {0}
+IsNoLack (at_desk.Full entries bytes) = Unit {0}
+IsNoLack at_desk.Closed = Unit {0}
+IsNoLack at_desk.Ended = Unit {0}
+IsNoLack at_desk.Memory = ⊥
 
 -- a fault that a desk gave in a block came as each of its faults does, by what its link's counts were before the block and after it, and it is neither that the desk wasn't open nor want of memory
 abbrev pub IsDeskFault : Bool → Bool → ℕ → ℕ → ℕ → ℕ → BlockFault → Type 0
@@ -91,7 +87,8 @@ HasSaidNext goes fault stopped left had ended at desk desk2 steps steps2 (Ok fal
 HasSaidNext goes fault stopped left had ended at desk desk2 steps steps2 (Err (Begin f)) = ⊥
 HasSaidNext goes fault stopped left had ended at desk desk2 steps steps2 (Err (Desk f)) = (words : Words) × (next_words (left steps) at ≡ Some words) × goes desk [] desk2 × (fault desk2 ≡ Some f) × (steps2 ≡ steps)
 HasSaidNext goes fault stopped left had ended at desk desk2 steps steps2 (Err (Refused given)) = (words : Words) × WasAsked goes desk desk2 (left steps) at words given × IsOpen (fault desk2) (stopped desk2) × (script_after (left steps) given ≡ Off) × (left steps2 ≡ Off)
-HasSaidNext goes fault stopped left had ended at desk desk2 steps steps2 (Err Memory) = IsOpenOrSpent (fault desk2) (stopped desk2) × (goes desk [] desk2 ⊎ ((words : Words) × (reply : Reply) × WasAsked goes desk desk2 (left steps) at words reply))
+HasSaidNext goes fault stopped left had ended at desk desk2 steps steps2 (Err Memory) = (IsOpen (fault desk2) (stopped desk2) × (goes desk [] desk2 ⊎ ((words : Words) × (reply : Reply) × WasAsked goes desk desk2 (left steps) at words reply)))
+    ⊎ ((words : Words) × (next_words (left steps) at ≡ Some words) × goes desk [] desk2 × (fault desk2 ≡ Some at_desk.Memory) × (steps2 ≡ steps))
 
 -- the reply to the next command was taken, or refused
 abbrev pub HasHeardNext : {T : Type 0} → (T → Script) → (T → ClientCounts → Errand → List RoundTrip → Type 0) → (T → Option BlockEnd) → ℕ → T → T → Reply → Result Bool BlockFault → Type 0
@@ -110,7 +107,7 @@ IsRestTo fault stopped left ended steps2 trips rest (Ok u) = IsOpen fault stoppe
 IsRestTo fault stopped left ended steps2 trips rest (Err (Begin f)) = ⊥
 IsRestTo fault stopped left ended steps2 trips rest (Err (Desk f)) = (fault ≡ Some f) × (left steps2 ≡ rest) × IsCut rest
 IsRestTo fault stopped left ended steps2 trips rest (Err (Refused given)) = IsOpen fault stopped × (left steps2 ≡ Off) × (rest ≡ Off) × EndsWith trips given
-IsRestTo fault stopped left ended steps2 trips rest (Err Memory) = IsOpenOrSpent fault stopped
+IsRestTo fault stopped left ended steps2 trips rest (Err Memory) = IsOpen fault stopped ⊎ ((fault ≡ Some at_desk.Memory) × (left steps2 ≡ rest) × IsCut rest)
 
 -- what was left was said, whole or in front
 pub record HasRest {D T : Type 0} (goes : D → List Deed → D → Type 0) (fault : D → Option DeskFault) (stopped : D → Bool) (left : T → Script) (had : T → ClientCounts → Errand → List RoundTrip → Type 0) (ended : T → Option BlockEnd) (gives : ℕ → Type 0) (desk desk2 : D) (steps steps2 : T) (result : Result ⊤ BlockFault) : Type 0 where
@@ -128,7 +125,7 @@ IsBlockTo fault stopped client left steps2 c errand trips rest (Ok end) = IsLawf
 IsBlockTo fault stopped client left steps2 c errand trips rest (Err (Begin f)) = ⊥
 IsBlockTo fault stopped client left steps2 c errand trips rest (Err (Desk f)) = (client steps2 ≡ client_after c errand) × (fault ≡ Some f) × (left steps2 ≡ rest) × IsCut rest
 IsBlockTo fault stopped client left steps2 c errand trips rest (Err (Refused given)) = (client steps2 ≡ client_after c errand) × IsOpen fault stopped × (left steps2 ≡ Off) × (rest ≡ Off) × EndsWith trips given
-IsBlockTo fault stopped client left steps2 c errand trips rest (Err Memory) = IsOpenOrSpent fault stopped
+IsBlockTo fault stopped client left steps2 c errand trips rest (Err Memory) = IsOpen fault stopped ⊎ ((client steps2 ≡ client_after c errand) × (fault ≡ Some at_desk.Memory) × (left steps2 ≡ rest) × IsCut rest)
 
 -- an errand was said at the desk, whole where it ended, else in front; it is lawful, where anything was asked
 pub record HasRunErrand {D T : Type 0} (goes : D → List Deed → D → Type 0) (fault : D → Option DeskFault) (stopped : D → Bool) (client : T → ClientCounts) (left : T → Script) (gives : ℕ → Type 0) (desk desk2 : D) (steps steps2 : T) (errand : Errand) (result : Result BlockEnd BlockFault) : Type 0 where
